@@ -1,0 +1,11 @@
+pub mod Names
+pub mod Lists
+pub mod Bytes
+pub mod Value
+pub mod File
+pub mod Refusals
+pub mod Pot
+pub mod Round
+pub mod Result
+pub mod Worked
+pub mod Listing

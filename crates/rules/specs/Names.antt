@@ -1,0 +1,183 @@
+-- Every number that document 01 gives a meaning, named once. Assumes nothing.
+use Prim.Native.Nat.{ℕ, _+_, _*_}
+
+-- ---- "When the file is turned away": the refusals
+
+-- "the file ends before the end of this count or record"
+abbrev pub endsEarly : ℕ
+endsEarly = 1
+
+-- "count outside its range"
+abbrev pub countOutside : ℕ
+countOutside = 2
+
+-- a year, a pot, a technology, an application, a bid that breaks its rule
+abbrev pub yearBroken : ℕ
+yearBroken = 3
+
+abbrev pub potBroken : ℕ
+potBroken = 4
+
+abbrev pub techBroken : ℕ
+techBroken = 5
+
+abbrev pub appBroken : ℕ
+appBroken = 6
+
+abbrev pub bidBroken : ℕ
+bidBroken = 7
+
+-- "price of an earlier bid of the same application"
+abbrev pub priceTwice : ℕ
+priceTwice = 8
+
+-- "eleventh bid of an application, or its fourth in one year"
+abbrev pub bidsTooMany : ℕ
+bidsTooMany = 9
+
+-- "bytes after the last record"
+abbrev pub bytesAfter : ℕ
+bytesAfter = 10
+
+-- "the lowest bid of an application in a year is not a multiple of 10"
+abbrev pub lowestUneven : ℕ
+lowestUneven = 11
+
+-- "the lent result is too short"
+abbrev pub resultShort : ℕ
+resultShort = 12
+
+-- ---- "Units and the round file": counts, and the widths in bytes of a count and of the records
+
+abbrev pub mostYears : ℕ
+mostYears = 8
+
+abbrev pub mostPots : ℕ
+mostPots = 4
+
+abbrev pub mostTechs : ℕ
+mostTechs = 32
+
+abbrev pub mostApps : ℕ
+mostApps = 64
+
+abbrev pub mostBids : ℕ
+mostBids = 256
+
+-- "each after its 2-byte count"
+abbrev pub countWidth : ℕ
+countWidth = 2
+
+abbrev pub yearWidth : ℕ
+yearWidth = 6
+
+abbrev pub potWidth : (years : ℕ) → ℕ
+potWidth y = 8 * y
+
+abbrev pub techWidth : (years : ℕ) → ℕ
+techWidth y = 4 + 10 * y
+
+abbrev pub appWidth : ℕ
+appWidth = 20
+
+abbrev pub bidWidth : ℕ
+bidWidth = 14
+
+-- ---- the ranges of the fields
+
+-- "kind 2 (1 delivery, 0 valuation only)"
+abbrev pub valuationOnly : ℕ
+valuationOnly = 0
+
+abbrev pub delivery : ℕ
+delivery = 1
+
+-- "a fifth delivery year"
+abbrev pub mostDeliveries : ℕ
+mostDeliveries = 4
+
+-- "days not 365 or 366"
+abbrev pub shortYear : ℕ
+shortYear = 365
+
+abbrev pub longYear : ℕ
+longYear = 366
+
+-- "factors ten-thousandths": a factor of one
+abbrev pub whole : ℕ
+whole = 10000
+
+abbrev pub highestBudget : ℕ
+highestBudget = 1000000000000
+
+-- of an administrative and of a reference price
+abbrev pub highestPrice : ℕ
+highestPrice = 500000
+
+-- "a multiple of 10", "from 10"
+abbrev pub priceStep : ℕ
+priceStep = 10
+
+abbrev pub largestCapacity : ℕ
+largestCapacity = 300000
+
+-- the most bids of an application, and in one year
+abbrev pub bidsEach : ℕ
+bidsEach = 10
+
+abbrev pub bidsAYear : ℕ
+bidsAYear = 3
+
+-- ---- "First test, then the auction"
+
+-- the outcomes: "all win at those prices (outcome 0)", "Otherwise outcome 1", "outcome 2 (H)"
+abbrev pub administrative : ℕ
+administrative = 0
+
+abbrev pub auctioned : ℕ
+auctioned = 1
+
+abbrev pub tooWide : ℕ
+tooWide = 2
+
+-- "If more than 10 remain"
+abbrev pub widestTie : ℕ
+widestTie = 10
+
+-- ---- "The result and its listing"
+
+-- "4,294,967,295 for none", "65,534 automatic, 65,535 none"
+abbrev pub noPrice : ℕ
+noPrice = 4294967295
+
+abbrev pub automaticBid : ℕ
+automaticBid = 65534
+
+abbrev pub noBid : ℕ
+noBid = 65535
+
+-- "Reasons: 1 won; 2 turned down alone; 3 turned down in a tie; 4 not looked at, its application won; 5 not looked at, otherwise; 6 outcome 0; 7 outcome 2";
+-- "0 where it had sealed bids"
+abbrev pub noReason : ℕ
+noReason = 0
+
+abbrev pub becauseWon : ℕ
+becauseWon = 1
+
+abbrev pub downAlone : ℕ
+downAlone = 2
+
+abbrev pub downTied : ℕ
+downTied = 3
+
+abbrev pub unlookedWon : ℕ
+unlookedWon = 4
+
+abbrev pub unlookedElse : ℕ
+unlookedElse = 5
+
+abbrev pub becauseAdministrative : ℕ
+becauseAdministrative = 6
+
+abbrev pub becauseTooWide : ℕ
+becauseTooWide = 7

@@ -1,0 +1,267 @@
+-- "First test, then the auction", of one pot. Assumes nothing.
+-- The state of an auction is its trace: what each step did, the newest first. All else is read off the trace, so that
+-- what had won "by the end of the step that turned it down" is `winners` of the trace from that step on.
+use Prim.Native.Nat.{ℕ, zero, suc, _+_, _-_, _*_, _/_, _%_, _^_, min}
+use mathlib.Core.Bool.{Bool, true, false, not, _&&_, _||_}
+use mathlib.Core.List.{List, [], _∷_, _++_, map}
+use lib.Dec.{eqb, leb, ltb}
+use lib.ListN.{length}
+use Rattle.rules.specs.Names.{administrative, auctioned, tooWide, widestTie, noPrice, noReason, becauseWon, downAlone, downTied, unlookedWon, unlookedElse, becauseAdministrative, becauseTooWide}
+use Rattle.rules.specs.Value.{ceilDiv}
+use Rattle.rules.specs.Lists.{pick, memb, sift, sum}
+
+-- "Pots are cleared apart": what the clearing of one pot reads. `bids` are the numbers of the bids of its auction, `autos` those of the automatic bids of all
+-- its applications; years are numbered below `years`; `cost b p y` is the exact cost in parts of bid b in year y where the clearing price of its start
+-- year is p, with `scale` parts to the pound; `cap` is the administrative price of its technology in its start year.
+pub record Pot : Type 0 where
+  pub bids : List ℕ
+  pub autos : List ℕ
+  pub years : ℕ
+  pub scale : ℕ
+  pub app : ℕ → ℕ
+  pub yr : ℕ → ℕ
+  pub price : ℕ → ℕ
+  pub cost : ℕ → ℕ → ℕ → ℕ
+  pub budget : ℕ → ℕ
+  pub draw : ℕ → ℕ
+  pub cap : ℕ → ℕ
+
+-- What a step did: the bids that it let win, those that it turned down and the reason that they are given, the years that it closed, and the year that it
+-- left open though it turned a bid down there, since the next look is at the same application's next bid (2); whether more bids remained than are searched (3)
+pub record Event : Type 0 where
+  pub wins : List ℕ
+  pub downs : List ℕ
+  pub why : ℕ
+  pub closes : List ℕ
+  pub hangs : List ℕ
+  pub wide : Bool
+
+abbrev pub Trace : Type 0
+Trace = List Event
+
+unfoldable pub winners : Trace → List ℕ
+winners [] = []
+winners (e ∷ s) = e .wins ++ winners s
+
+-- the bids turned down
+unfoldable pub downs : Trace → List ℕ
+downs [] = []
+downs (e ∷ s) = e .downs ++ downs s
+
+-- the bids looked at
+unfoldable pub seen : Trace → List ℕ
+seen [] = []
+seen (e ∷ s) = (e .wins ++ e .downs) ++ seen s
+
+-- the years that have closed
+unfoldable pub closed : Trace → List ℕ
+closed [] = []
+closed (e ∷ s) = e .closes ++ closed s
+
+-- the year that the last step left open for a further look
+unfoldable pub hanging : Trace → List ℕ
+hanging [] = []
+hanging (e ∷ s) = e .hangs
+
+-- did the last step meet a tie too wide?
+unfoldable pub wideEnd : Trace → Bool
+wideEnd [] = false
+wideEnd (e ∷ s) = e .wide
+
+-- "The state of a pot holds the marks of every bid": a bid's reason, 0 where it has not been looked at
+unfoldable pub mark : Trace → ℕ → ℕ
+mark [] b = noReason
+mark (e ∷ s) b = pick (memb b (e .wins)) becauseWon (pick (memb b (e .downs)) (e .why) (mark s b))
+
+-- "one binary place for each remaining bid": is place i in the combination number m?
+abbrev pub has : ℕ → ℕ → Bool
+has m i = eqb (m / 2 ^ i % 2) 1
+
+-- of the numbers below n that pass a test, those with the greatest figure, and of these the largest
+unfoldable pub best : (ℕ → Bool) → (ℕ → ℕ) → ℕ → ℕ
+best ok figure zero = 0
+best ok figure (suc n) = let r = best ok figure n in pick (ok n && leb (figure r) (figure n)) n r
+
+module _ (P : Pot) where
+  -- "The value is the exact cost rounded up once to a whole pound"
+  unfoldable pub value : ℕ → ℕ → ℕ → ℕ
+  value b p y = ceilDiv (P .cost b p y) (P .scale)
+
+  -- "sets the clearing price of their years to their price": the clearing price of year d after the winners listed, the newest first, z before them
+  unfoldable pub priceFrom : (z : ℕ) → List ℕ → ℕ → ℕ
+  priceFrom z [] d = z
+  priceFrom z (w ∷ ws) d = pick (eqb (P .yr w) d) (P .price w) (priceFrom z ws d)
+
+  abbrev pub clearing : List ℕ → ℕ → ℕ
+  clearing ws d = priceFrom 0 ws d
+
+  -- "revalues every winner": the sum over those of some bids that pass a test of what f gives in year y, each at the price of its start year
+  unfoldable pub tally : (ℕ → ℕ → ℕ → ℕ) → (ℕ → Bool) → (ℕ → ℕ) → ℕ → List ℕ → ℕ
+  tally f on at y [] = 0
+  tally f on at y (b ∷ bs) = tally f on at y bs + pick (on b) (f b (at (P .yr b)) y) 0
+
+  -- over the pot's bids that are among ws, at the clearing prices of ws
+  abbrev pub summed : (ℕ → ℕ → ℕ → ℕ) → List ℕ → ℕ → ℕ
+  summed f ws y = tally f (λ b. memb b ws) (clearing ws) y (P .bids)
+
+  -- a year's total, the exact cost of the same winners, and their number
+  abbrev pub total : List ℕ → ℕ → ℕ
+  total ws y = summed value ws y
+
+  abbrev pub exact : List ℕ → ℕ → ℕ
+  exact ws y = summed (P .cost) ws y
+
+  abbrev pub counted : List ℕ → ℕ
+  counted ws = length (sift (λ b. memb b ws) (P .bids))
+
+  -- "fits if no year's total exceeds its budget; equal fits": of the first n years
+  unfoldable pub within : (ℕ → ℕ) → ℕ → Bool
+  within tot zero = true
+  within tot (suc n) = leb (tot n) (P .budget n) && within tot n
+
+  abbrev pub fits : List ℕ → Bool
+  fits ws = within (total ws) (P .years)
+
+  -- "Live bids are those not yet looked at, of an application that has not won, in an open year"
+  unfoldable pub live : Trace → ℕ → Bool
+  live s b =
+      not (memb b (seen s))
+      && (not (memb (P .app b) (map (P .app) (winners s))) && not (memb (P .yr b) (closed s)))
+
+  -- the lowest price of a list of bids, of which x is the first
+  unfoldable pub least : ℕ → List ℕ → ℕ
+  least x [] = P .price x
+  least x (y ∷ l) = min (P .price x) (least y l)
+
+  -- those of a list that carry its lowest price
+  unfoldable pub lowest : List ℕ → List ℕ
+  lowest [] = []
+  lowest (x ∷ l) = sift (λ b. eqb (P .price b) (least x l)) (x ∷ l)
+
+  -- "Take all live bids at the lowest live price"
+  unfoldable pub taken : Trace → List ℕ
+  taken s = lowest (sift (live s) (P .bids))
+
+  -- "all win"; and where the look was a further one of 2, "it wins and the year closes"
+  abbrev pub won : Trace → List ℕ → Event
+  won s l = record { wins = l; downs = []; why = downAlone; closes = hanging s; hangs = []; wide = false }
+
+  -- b is turned down alone
+  abbrev pub down : ℕ → List ℕ → List ℕ → Event
+  down b close hang = record { wins = []; downs = b ∷ []; why = downAlone; closes = close; hangs = hang; wide = false }
+
+  -- "the sole next lowest live bid of the whole pot is of the same application and year"
+  unfoldable pub follows : ℕ → List ℕ → Bool
+  follows b [] = false
+  follows b (c ∷ []) = eqb (P .app c) (P .app b) && eqb (P .yr c) (P .yr b)
+  follows b (c ∷ d ∷ l) = false
+
+  -- "drop those that do not fit alone"
+  unfoldable pub remaining : List ℕ → List ℕ → List ℕ
+  remaining ws l = sift (λ c. fits (c ∷ ws)) l
+
+  -- "the lowest draw highest": the binary place of a remaining bid is how many of them have a higher draw
+  unfoldable pub rank : List ℕ → ℕ → ℕ
+  rank r b = length (sift (λ c. ltb (P .draw b) (P .draw c)) r)
+
+  -- "Each combination has a number": the bids of combination m
+  unfoldable pub combination : List ℕ → ℕ → List ℕ
+  combination r m = sift (λ b. has m (rank r b)) r
+
+  -- "choose the fitting combination whose total in the last year of the file is greatest; if none remain, none is chosen. Among equals, the one holding the
+  -- lowest-draw bid on which they differ": the one with the largest number
+  unfoldable pub chosen : List ℕ → List ℕ → List ℕ
+  chosen ws r = combination r (best (λ m. fits (combination r m ++ ws)) (λ m. total (combination r m ++ ws) (P .years - 1)) (2 ^ length r))
+
+  unfoldable pub choose : List ℕ → List ℕ → List ℕ
+  choose ws l = chosen ws (remaining ws l)
+
+  abbrev pub others : List ℕ → List ℕ → List ℕ
+  others l ch = sift (λ b. not (memb b ch)) l
+
+  -- "All others taken are turned down and their years close"
+  abbrev pub shared : Trace → List ℕ → Event
+  shared s l =
+      let ch = choose (winners s) l in
+      let out = others l ch in
+      record { wins = ch; downs = out; why = downTied; closes = map (P .yr) out; hangs = []; wide = false }
+
+  -- "If more than 10 remain, outcome 2": the step that ends the pot
+  abbrev pub endedWide : Event
+  endedWide = record { wins = []; downs = []; why = downTied; closes = []; hangs = []; wide = true }
+
+  -- 3, of several bids
+  unfoldable pub tied : Trace → List ℕ → Event
+  tied s l = pick (ltb widestTie (length (remaining (winners s) l))) endedWide (shared s l)
+
+  -- 2: "If one bid alone was taken and does not fit, it is turned down. While the sole next lowest live bid of the whole pot is of the same application and
+  -- year, look at it .. Otherwise the year closes." Whether there is a further look is decided when the bid is turned down, so that each look is one step
+  unfoldable pub alone : Trace → ℕ → Event
+  alone s b = pick (follows b (taken (down b [] [] ∷ s))) (down b [] (P .yr b ∷ [])) (down b (P .yr b ∷ []) [])
+
+  -- bids that were taken and do not fit: one alone, or several
+  unfoldable pub lost : Trace → List ℕ → Event
+  lost s [] = won s []
+  lost s (b ∷ []) = alone s b
+  lost s (b ∷ c ∷ l) = tied s (b ∷ c ∷ l)
+
+  -- "One look is one step." 1: "If together they fit, all win"
+  unfoldable pub look : Trace → List ℕ → Event
+  look s l = pick (fits (l ++ winners s)) (won s l) (lost s l)
+
+  -- the trace where nothing was taken, and else the one further on
+  abbrev pub onward : List ℕ → Trace → Trace → Trace
+  onward [] s t = s
+  onward (b ∷ l) s t = t
+
+  -- "The pot ends when no bid is live, after no more steps than it has bids", or at a tie too wide
+  unfoldable pub run : ℕ → Trace → Trace
+  run zero s = s
+  run (suc n) s = let e = look s (taken s) in onward (taken s) s (pick (e .wide) (e ∷ s) (run n (e ∷ s)))
+
+  unfoldable pub auction : Trace
+  auction = run (length (P .bids)) []
+
+  -- ---- the first test, and what is told of the pot
+
+  -- "all a pot's applications, at their administrative prices": an automatic bid carries that price
+  unfoldable pub adminTotal : ℕ → ℕ
+  adminTotal y = sum (λ b. value b (P .price b) y) (P .autos)
+
+  unfoldable pub adminFits : Bool
+  adminFits = within adminTotal (P .years)
+
+  -- one of three by the outcome: "fit its budget in every year, all win at those prices (outcome 0) .. Otherwise outcome 1", and 2 after a tie too wide
+  abbrev pub by : {A : Type 0} → A → A → A → A
+  by a b c = pick adminFits a (pick (wideEnd auction) c b)
+
+  unfoldable pub outcome : ℕ
+  outcome = by administrative auctioned tooWide
+
+  -- "In outcome 0 every clearing price is none"; in outcome 2 "no price"; and none in a year that no winner starts in
+  unfoldable pub priceIn : ℕ → ℕ
+  priceIn d = by noPrice (priceFrom noPrice (winners auction) d) noPrice
+
+  -- "In outcome 0 .. the totals are those at administrative prices"; in outcome 2 "totals 0"
+  unfoldable pub totalIn : ℕ → ℕ
+  totalIn y = by (adminTotal y) (total (winners auction) y) 0
+
+  -- "A winner is paid its year's clearing price capped at its administrative price"
+  unfoldable pub paid : ℕ → ℕ
+  paid w = min (clearing (winners auction) (P .yr w)) (P .cap w)
+
+  -- "4 not looked at, its application won; 5 not looked at, otherwise"
+  unfoldable pub unlookedReason : Trace → ℕ → ℕ
+  unlookedReason s b = pick (memb (P .app b) (map (P .app) (winners s))) unlookedWon unlookedElse
+
+  -- the mark of a bid that was looked at; and of one that was not
+  unfoldable pub auctionReason : Trace → ℕ → ℕ
+  auctionReason s b = pick (memb b (seen s)) (mark s b) (unlookedReason s b)
+
+  -- "6 outcome 0; 7 outcome 2"
+  unfoldable pub reason : ℕ → ℕ
+  reason b = by becauseAdministrative (auctionReason auction b) becauseTooWide
+
+  -- the winning bids of application a: one at the most
+  unfoldable pub winnersOf : ℕ → List ℕ
+  winnersOf a = sift (λ w. eqb (P .app w) a && memb w (winners auction)) (P .bids)

@@ -1,0 +1,317 @@
+"""Document 01 read a second time, in Python: tables, loops and a state that changes, and nothing shared with the definitions or the code.
+
+read(file)            the tables of an accepted file, or Refused(number, offset)
+clear(file, lent)     ('cleared', length) or ('refused', number, offset), and what then stands in the lent bytes
+listing(file)         what the printing program prints
+"""
+import struct
+from collections import namedtuple
+
+Year = namedtuple('Year', 'days kind tlm')
+Technology = namedtuple('Technology', 'pot rqm admin reference load')
+Application = namedtuple('Application', 'technology year days draw capacity')
+Bid = namedtuple('Bid', 'application year days capacity price')
+Round = namedtuple('Round', 'years deliveries pots technologies applications bids')
+# what is told of a pot, of an application and of the sealed bids
+Pot = namedtuple('Pot', 'outcome prices totals')
+Told = namedtuple('Told', 'won bid reason paid')
+
+NO_PRICE, AUTOMATIC, NO_BID = 4294967295, 65534, 65535
+POUND = 10 ** 17
+
+
+class Refused(Exception):
+    pass
+
+
+class Place:
+    """A file and the place that the reading has come to in it."""
+
+    def __init__(self, file):
+        self.file, self.at = file, 0
+
+    def count(self, low, high):
+        if self.at + 2 > len(self.file):
+            raise Refused(1, self.at)
+        n = int.from_bytes(self.file[self.at:self.at + 2], 'little')
+        if not low <= n <= high:
+            raise Refused(2, self.at)
+        self.at += 2
+        return n
+
+    def record(self, form):
+        """The fields of the next record, and where it stands."""
+        at, width = self.at, struct.calcsize('<' + form)
+        if at + width > len(self.file):
+            raise Refused(1, at)
+        self.at += width
+        return struct.unpack('<' + form, self.file[at:at + width]), at
+
+
+def read_years(place):
+    years, valuation = [], False
+    for i in range(place.count(1, 8)):
+        (days, kind, tlm), at = place.record('HHH')
+        wrong = days not in (365, 366) or kind > 1 or tlm > 10000
+        wrong |= i == 0 and kind != 1 or kind == 1 and (valuation or i == 4)
+        if wrong:
+            raise Refused(3, at)
+        valuation |= kind == 0
+        years.append(Year(days, kind, tlm))
+    return years
+
+
+def read_pots(place, y):
+    pots = []
+    for _ in range(place.count(1, 4)):
+        budgets, at = place.record('Q' * y)
+        if any(b > 10 ** 12 for b in budgets):
+            raise Refused(4, at)
+        pots.append(budgets)
+    return pots
+
+
+def read_technologies(place, y, d, pots):
+    technologies = []
+    for _ in range(place.count(1, 32)):
+        fields, at = place.record('HH' + 'IIH' * y)
+        t = Technology(fields[0], fields[1], fields[2::3], fields[3::3], fields[4::3])
+        wrong = t.pot >= pots or t.rqm > 10000 or max(t.load) > 10000 or max(t.reference) > 500000
+        wrong |= any(a % 10 or not 10 <= a <= 500000 for a in t.admin[:d]) or any(t.admin[d:])
+        if wrong:
+            raise Refused(5, at)
+        technologies.append(t)
+    return technologies
+
+
+def starts_rightly(x, years, d):
+    return x.year < d and 1 <= x.days <= years[x.year].days and x.capacity > 0
+
+
+def read_applications(place, years, d, technologies):
+    applications = []
+    for _ in range(place.count(0, 64)):
+        fields, at = place.record('HHHHIQ')
+        a = Application(*fields[:5])
+        if (a.technology >= technologies or not starts_rightly(a, years, d) or a.capacity > 300000
+                or a.draw in [x.draw for x in applications]):
+            raise Refused(6, at)
+        applications.append(a)
+    return applications
+
+
+def read_bids(place, years, d, technologies, applications):
+    bids, places = [], []
+    for _ in range(place.count(0, 256)):
+        fields, at = place.record('HHHII')
+        b = Bid(*fields)
+        if b.application >= len(applications) or not starts_rightly(b, years, d):
+            raise Refused(7, at)
+        a = applications[b.application]
+        earlier = b.year < a.year or b.year == a.year and b.days > a.days
+        if b.capacity > a.capacity or earlier or b.price > technologies[a.technology].admin[b.year]:
+            raise Refused(7, at)
+        own = [x for x in bids if x.application == b.application]
+        if b.price in [x.price for x in own]:
+            raise Refused(8, at)
+        if len(own) >= 10 or sum(x.year == b.year for x in own) >= 3:
+            raise Refused(9, at)
+        bids.append(b)
+        places.append(at)
+    return bids, places
+
+
+def read(file):
+    place = Place(file)
+    years = read_years(place)
+    d = sum(y.kind for y in years)
+    pots = read_pots(place, len(years))
+    technologies = read_technologies(place, len(years), d, len(pots))
+    applications = read_applications(place, years, d, len(technologies))
+    bids, places = read_bids(place, years, d, technologies, applications)
+    if place.at < len(file):
+        raise Refused(10, place.at)
+    for b, at in zip(bids, places):
+        if b.price % 10 and b.price == min(x.price for x in bids if (x.application, x.year) == (b.application, b.year)):
+            raise Refused(11, at)
+    return Round(years, d, pots, technologies, applications, bids)
+
+
+class Auction:
+    """The clearing of one pot. Bids are (name, Bid): the name of a sealed bid is its number, of an automatic one 'a' and its application's."""
+
+    def __init__(self, r, pot):
+        self.r, self.budgets, self.last = r, r.pots[pot], len(r.years) - 1
+        self.own = [a for a in range(len(r.applications)) if r.technologies[r.applications[a].technology].pot == pot]
+        self.sealed = [(k, b) for k, b in enumerate(r.bids) if b.application in self.own]
+        self.silent = [a for a in self.own if all(b.application != a for _, b in self.sealed)]
+        self.marks, self.winners, self.closed, self.price = {}, [], set(), {}
+
+    def technology(self, b):
+        return self.r.technologies[self.r.applications[b.application].technology]
+
+    def value(self, b, price, y):
+        t, year = self.technology(b), self.r.years[y]
+        hours = 0 if y < b.year else 24 * (b.days if y == b.year else year.days)
+        margin = max(0, min(price, t.admin[b.year]) - t.reference[y])
+        return -(-margin * t.load[y] * hours * b.capacity * (10000 - year.tlm) * t.rqm // POUND)
+
+    def totals(self, winners, price):
+        return [sum(self.value(b, price(b), y) for _, b in winners) for y in range(len(self.r.years))]
+
+    def fits(self, totals):
+        return all(t <= b for t, b in zip(totals, self.budgets))
+
+    def trial(self, new):
+        """The totals with these bids added, their years at their price."""
+        price = dict(self.price)
+        for _, b in new:
+            price[b.year] = b.price
+        return self.totals(self.winners + new, lambda b: price[b.year])
+
+    def automatic(self, a):
+        x = self.r.applications[a]
+        return Bid(a, x.year, x.days, x.capacity, self.r.technologies[x.technology].admin[x.year])
+
+    def lowest(self):
+        """The live bids at the lowest live price."""
+        won = {b.application for _, b in self.winners}
+        live = [x for x in self.all if x[0] not in self.marks and x[1].application not in won and x[1].year not in self.closed]
+        return [x for x in live if x[1].price == min(b.price for _, b in live)]
+
+    def win(self, new):
+        for name, b in new:
+            self.marks[name], self.price[b.year] = 1, b.price
+        self.winners = self.winners + new
+
+    def alone(self, name, b):
+        """2: a bid that was taken alone and does not fit, and the further looks."""
+        self.marks[name] = 2
+        while True:
+            further = self.lowest()
+            if len(further) != 1 or (further[0][1].application, further[0][1].year) != (b.application, b.year):
+                break
+            if self.fits(self.trial(further)):
+                self.win(further)
+                break
+            self.marks[further[0][0]] = 2
+        self.closed.add(b.year)
+
+    def tie(self, taken):
+        """3: False where the tie is too wide."""
+        remaining = [x for x in taken if self.fits(self.trial([x]))]
+        remaining.sort(key=lambda x: self.r.applications[x[1].application].draw)
+        if len(remaining) > 10:
+            return False
+        best = None
+        for number in range(2 ** len(remaining)):
+            some = [x for i, x in enumerate(remaining) if number >> (len(remaining) - 1 - i) & 1]
+            totals = self.trial(some)
+            if self.fits(totals) and (best is None or totals[self.last] >= best[0]):
+                best = (totals[self.last], some)
+        self.win(best[1])
+        for name, b in taken:
+            if name not in self.marks:
+                self.marks[name] = 3
+                self.closed.add(b.year)
+        return True
+
+    def run(self):
+        self.all = self.sealed + [(('a', a), self.automatic(a)) for a in self.silent]
+        while True:
+            taken = self.lowest()
+            if not taken:
+                return True
+            if self.fits(self.trial(taken)):
+                self.win(taken)
+            elif len(taken) == 1:
+                self.alone(*taken[0])
+            elif not self.tie(taken):
+                return False
+
+    def same(self, outcome, totals, reason, told):
+        """A pot of outcome 0 or 2: one reason for all its bids."""
+        pot = Pot(outcome, [NO_PRICE] * self.r.deliveries, totals)
+        return pot, {a: told(a, reason if a in self.silent else 0) for a in self.own}, {k: reason for k, _ in self.sealed}
+
+    def cleared(self):
+        """What is told of the pot, of its applications and of its sealed bids."""
+        autos = [(a, self.automatic(a)) for a in self.own]
+        totals = self.totals(autos, lambda b: b.price)
+        if self.fits(totals):
+            return self.same(0, totals, 6, lambda a, why: Told(1, NO_BID, why, self.automatic(a).price))
+        if not self.run():
+            return self.same(2, [0] * len(self.r.years), 7, lambda a, why: Told(0, NO_BID, why, 0))
+        won = {b.application: (name, b) for name, b in self.winners}
+
+        def why(name, b):
+            return self.marks.get(name, 4 if b.application in won else 5)
+
+        applications = {}
+        for a in self.own:
+            auto = why(('a', a), self.automatic(a)) if a in self.silent else 0
+            if a in won:
+                name, b = won[a]
+                paid = min(self.price[b.year], self.technology(b).admin[b.year])
+                applications[a] = Told(1, name if isinstance(name, int) else AUTOMATIC, auto, paid)
+            else:
+                applications[a] = Told(0, NO_BID, auto, 0)
+        prices = [self.price.get(d, NO_PRICE) for d in range(self.r.deliveries)]
+        pot = Pot(1, prices, self.totals(self.winners, lambda b: self.price[b.year]))
+        return pot, applications, {k: why(k, b) for k, b in self.sealed}
+
+
+def told(r):
+    """The pots, applications and reasons of a round."""
+    pots, applications, reasons = [], {}, {}
+    for p in range(len(r.pots)):
+        pot, a, b = Auction(r, p).cleared()
+        pots.append(pot)
+        applications.update(a)
+        reasons.update(b)
+    return pots, [applications[a] for a in range(len(r.applications))], [reasons[k] for k in range(len(r.bids))]
+
+
+def result(r):
+    pots, applications, reasons = told(r)
+    out = struct.pack('<H', len(pots))
+    for p in pots:
+        out += struct.pack('<H', p.outcome) + b''.join(struct.pack('<I', x) for x in p.prices) + b''.join(struct.pack('<Q', x) for x in p.totals)
+    out += struct.pack('<H', len(applications)) + b''.join(struct.pack('<HHHI', *a) for a in applications)
+    return out + struct.pack('<H', len(reasons)) + b''.join(struct.pack('<H', x) for x in reasons)
+
+
+def needed(r):
+    y, d = len(r.years), r.deliveries
+    return 6 + len(r.pots) * (2 + 4 * d + 8 * y) + 10 * len(r.applications) + 2 * len(r.bids)
+
+
+def clear(file, lent):
+    try:
+        r = read(file)
+    except Refused as e:
+        return ('refused',) + e.args, lent
+    if len(lent) < needed(r):
+        return ('refused', 12, 0), lent
+    out = result(r)
+    assert len(out) == needed(r)
+    return ('cleared', len(out)), out + lent[len(out):]
+
+
+def listing(file):
+    try:
+        r = read(file)
+    except Refused as e:
+        return 'refused %d at %d\n' % e.args
+    pots, applications, reasons = told(r)
+    lines = []
+    for p, pot in enumerate(pots):
+        lines.append('pot %d %s' % (p, ('administrative', 'auction', 'tie')[pot.outcome]))
+        for y, total in enumerate(pot.totals):
+            price = pot.prices[y] if y < len(pot.prices) else NO_PRICE
+            lines.append('year %d price %s total %d' % (y, '-' if price == NO_PRICE else price, total))
+    for a, t in enumerate(applications):
+        bid = {NO_BID: '-', AUTOMATIC: 'auto'}.get(t.bid, t.bid)
+        lines.append('application %d ' % a + ('won %d bid %s' % (t.paid, bid) if t.won else 'lost'))
+    lines += ['bid %d reason %d' % x for x in enumerate(reasons)]
+    return ''.join(line + '\n' for line in lines)
