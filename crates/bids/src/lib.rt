@@ -1,0 +1,66 @@
+// The bids' records: refusals 1, 7, 8 and 9 of each in file order; and 11, once the file has ended well.
+// "application 2, year 2, first-year days 2, capacity 4, price 4".
+ghost use mathlib.Core.Path.{_≡_};
+ghost use Prim.Native.Nat.{_+_, _*_, _≤_, _<_, _^_};
+ghost use lib.ListN.{length};
+ghost use Rattle.rules.specs.Names.{bidWidth};
+ghost use Rattle.rules.specs.Refusals.{recordFault, orFault, bidFault};
+ghost use Rattle.bids.specs.Bids.{tablesOf, Looked, bidsOf};
+
+mod earlier;
+pub mod lowest;
+mod seven;
+
+use rules::Reading;
+use rules::Sections;
+
+// The first of two faults, 0 being none.
+fn first(a: u64, b: u64) -> u64
+    ensures { λ r. ⌜ r ≡ orFault a b ⌝ }
+{
+    if a != 0 { a } else { b }
+}
+
+// What is wrong with bid i: 0 if nothing is. "For bids 7, then 8, then 9".
+fn bid_fault(years: &[u8], techs: &[u8], apps: &[u8], recs: &[u8], done: Sections, i: usize) -> u64
+    requires { ⌜ Looked (tablesOf (now years) (now techs) (now apps) (now recs) done) ⌝ }
+    requires { ⌜ i * bidWidth ≤ length (now recs) ⌝ }
+    ensures { λ r. ⌜ r ≡ recordFault (now (recs .entry)) bidWidth (bidFault (tablesOf (now (years .entry)) (now (techs .entry)) (now (apps .entry)) (now (recs .entry)) done)) i ⌝ }
+{
+    let at = i * names::BID_WIDTH;
+    if recs.len() - at < names::BID_WIDTH {
+        return names::ENDS_EARLY;
+    }
+    let s = seven::seven(years, techs, apps, recs, done, i);
+    let e = earlier::eight(recs, i);
+    let n = earlier::nine(recs, i);
+    first(s, first(e, n))
+}
+
+// The bids' records, in the part of the file that they occupy and that starts at `base`. If nothing is wrong, `done` is the answer.
+pub fn bids(
+    years: &[u8],
+    techs: &[u8],
+    apps: &[u8],
+    recs: &[u8],
+    base: usize,
+    done: Sections,
+) -> Reading
+    requires { ⌜ Looked (tablesOf (now years) (now techs) (now apps) (now recs) done) ⌝ }
+    requires { ⌜ base + length (now recs) < 2 ^ 63 ⌝ }
+    ensures { λ r. ⌜ r ≡ bidsOf (now (years .entry)) (now (techs .entry)) (now (apps .entry)) (now (recs .entry)) base done ⌝ }
+{
+    let n = done.bids;
+    let mut i: usize = 0;
+    while i < n {
+        let f = bid_fault(years, techs, apps, recs, done, i);
+        if f != 0 {
+            return Reading::Refused {
+                number: f,
+                at: base + i * names::BID_WIDTH,
+            };
+        }
+        i += 1;
+    }
+    Reading::Accepted { sections: done }
+}

@@ -1,0 +1,358 @@
+-- How a section's own answer goes into the reading of the file, and what is known of the sections read so far. Assumes nothing.
+use Prim.Native.Nat.{ℕ, _+_, _-_, _*_, _≤_, _<_}
+use mathlib.Core.Path.{_≡_, refl, sym, ap, _∙_}
+use mathlib.Core.List.{List}
+use native.Mathlib.Omega.{arith}
+use native.Mathlib.Nat.{mul-le-mul}
+use lib.ListN.{length}
+use Rattle.rules.specs.Names.{bytesAfter, mostYears, mostPots, mostTechs, mostApps, mostBids, countWidth, yearWidth, potWidth, techWidth, appWidth, bidWidth}
+use Rattle.rules.specs.Bytes.{le, part}
+use Rattle.rules.specs.File.{roundOf, sections, sectionsOf, appAt, potsAt, techsAt, appsAt, bidsAt, endAt}
+use Rattle.rules.specs.Refusals.{scan, countFault, section, sevenOf, eightOf, nineOf, bidFault, elevenOf, judged, reading}
+use Rattle.rules.specs.declared.Sections.{Sections}
+use Rattle.rules.specs.declared.Reading.{Reading}
+use Rattle.rules.specs.declared.Reading.the-variants.{Accepted, Refused}
+use Rattle.laws.specs.Walk.{given-yes, refuses}
+use Rattle.laws.specs.Reading.{holds, YearRight, year-right, app-right, deliveries-most, counts}
+use Rattle.laws.specs.Fault.{Table, years, pots, techs, apps, bids, tables, says, countIs, recordIs, judges, judgesAll, Right, AllRight, none, also, after, goes, stops, faulty, or-passes, sections-pass, count-right, record-right, ends-within}
+use Rattle.fields.proofs.Le.{part-length}
+use Rattle.records.specs.Records.{yearsOf, potsOf, techsOf, appsOf}
+use Rattle.bids.specs.Bids.{tablesOf, Looked, bidsOf, lowestOf}
+use Rattle.file.specs.Reads.{withPots, withTechs, withApps, withBids, toYears, toPots, toTechs, toApps, afterYears, afterPots, afterTechs, afterApps, readYears, readPots, readTechs, readApps, readBids}
+
+-- ---- a section by its count and its records
+
+-- the count at `at` was judged and has no fault
+pub counted : (s : List ℕ) (at low high : ℕ) {f : ℕ} → f ≡ countFault s at low high → f ≡ 0 → (at + countWidth ≤ length s) × ((low ≤ le countWidth s at) × (le countWidth s at ≤ high))
+unfolding countFault
+counted s at low high e z =
+    let a = holds _ _ _ (sym e ∙ z) (λ q. omega arith) in
+    let b = holds _ _ _ (a .1) (λ q. omega arith) in
+    (a .0, b .0)
+
+-- n records, no more than a and none wider than b
+pub few-bytes : (a b n w : ℕ) → n ≤ a → w ≤ b → n * w ≤ a * b
+few-bytes a b n w h l = mul-le-mul h l
+
+-- a part that lies within the file is as long as it says
+pub whole : (s : List ℕ) (a e : ℕ) {l : List ℕ} → l ≡ part s a e → a ≤ e → e ≤ length s → length l ≡ e - a
+whole s a e q h k = ap length q ∙ part-length s a e h k
+
+-- A section T after those that are right. The sections so far are g, and are to be h; `at` and `width` say where T's count stands, and how wide its records are
+module _ (s : List ℕ) {Ts : List Table} (a : AllRight s Ts) (T : Table) (q : Reading) (at width : Sections → ℕ) {g h : Sections} (i : g ≡ h) (here : at h ≡ T .at)
+    {f : ℕ} (e : f ≡ countFault s (at g) (T .low) (T .high)) where
+  fault-is : f ≡ countIs s T
+  fault-is = e ∙ ap (λ (x : Sections). countFault s (at x) (T .low) (T .high)) i ∙ ap (λ (x : ℕ). countFault s x (T .low) (T .high)) here
+
+  -- its count is refused
+  pub next-refused : (f ≡ 0 → ⊥) → Refused f (at g) ≡ judgesAll s Ts (judges s T q)
+  unfolding section
+  next-refused z =
+      (λ j. Refused (fault-is j) ((ap at i ∙ here) j))
+      ∙ sym (refuses (countIs s T) (T .at) _ (λ n. z (fault-is ∙ n)))
+      ∙ sym (sections-pass s (judges s T q) a)
+
+  -- its count is accepted, and F is what its n records answer, in the part of the file that they occupy
+  pub next-read : (F : Sections → ℕ → List ℕ → Reading)
+      → F h (le countWidth s (at h)) (part s (at h + countWidth) (at h + countWidth + le countWidth s (at h) * width h)) ≡ scan (recordIs s T) (T .width) (T .at + countWidth) 0 (says s T) q
+      → f ≡ 0 → {n : ℕ} {l : List ℕ} {r : Reading} → n ≡ le countWidth s (at g) → l ≡ part s (at g + countWidth) (at g + countWidth + n * width g) → r ≡ F g n l
+      → r ≡ judgesAll s Ts (judges s T q)
+  unfolding section
+  next-read F same z {n} p l r =
+      let p′ = p ∙ ap (λ (x : Sections). le countWidth s (at x)) i in
+      let c = l ∙ (λ j. part s (at (i j) + countWidth) (at (i j) + countWidth + p′ j * width (i j))) in
+      let no : countIs s T ≡ 0 = sym fault-is ∙ z in
+      r ∙ (λ j. F (i j) (p′ j) (c j)) ∙ same ∙ sym (or-passes _ (T .at) _ no) ∙ sym (sections-pass s (judges s T q) a)
+
+-- ---- what is known of the first sections, where they are right
+
+-- of a section whose records are the part of the file that its count says: its count is not above the highest, and the records end within the file
+known : (s : List ℕ) (T : Table) → Right s T → T .recs ≡ part s (T .at + countWidth) (T .at + countWidth + says s T * T .width)
+    → (says s T ≤ T .high) × (T .at + countWidth + says s T * T .width ≤ length s)
+known s T r e = (count-right s T r .1 .1, ends-within s T r e)
+
+module _ (s : List ℕ) where
+  years-known : Right s (years (roundOf s)) → (roundOf s .y ≤ mostYears) × (potsAt (roundOf s .y) ≤ length s)
+  unfolding roundOf sections
+  years-known r = known s (years (roundOf s)) r refl
+
+  deliveries-known : Right s (years (roundOf s)) → roundOf s .d ≤ roundOf s .y
+  deliveries-known r =
+      let R = roundOf s in
+      let C = counts s in
+      let right : (i : ℕ) → i < R .y → YearRight (R .years) i = λ i l. year-right (R .years) i (record-right s (years R) r i (omega (arith, C .y)) .1) in
+      omega (arith, C .d, deliveries-most (R .years) (R .y) right)
+
+  pots-known : Right s (pots (roundOf s)) → (roundOf s .p ≤ mostPots) × (techsAt (roundOf s .y) (roundOf s .p) ≤ length s)
+  unfolding roundOf sections
+  pots-known r = known s (pots (roundOf s)) r refl
+
+  techs-known : Right s (techs (roundOf s)) → (roundOf s .t ≤ mostTechs) × (appsAt (roundOf s .y) (roundOf s .p) (roundOf s .t) ≤ length s)
+  unfolding roundOf sections
+  techs-known r = known s (techs (roundOf s)) r refl
+
+  apps-known : Right s (apps (roundOf s)) → (roundOf s .n ≤ mostApps) × (bidsAt (roundOf s .y) (roundOf s .p) (roundOf s .t) (roundOf s .n) ≤ length s)
+  unfolding roundOf sections
+  apps-known r = known s (apps (roundOf s)) r refl
+
+  bids-known : Right s (bids (roundOf s)) → (roundOf s .b ≤ mostBids) × (endAt (roundOf s .y) (roundOf s .p) (roundOf s .t) (roundOf s .n) (roundOf s .b) ≤ length s)
+  unfolding roundOf sections
+  bids-known r = known s (bids (roundOf s)) r refl
+
+-- ---- the years
+
+module _ (s : List ℕ) {f : ℕ} (e : f ≡ countFault s 0 1 mostYears) where
+  pub years-refused : (f ≡ 0 → ⊥) → Refused f 0 ≡ readYears s
+  unfolding readYears
+  years-refused z = next-refused s none (years (roundOf s)) (Accepted (afterYears s)) (λ x. 0) (λ x. yearWidth) {g = afterYears s} refl refl e z
+
+  pub years-read : f ≡ 0 → {n : ℕ} {l : List ℕ} {r : Reading} → n ≡ le countWidth s 0 → l ≡ part s countWidth (countWidth + n * yearWidth)
+      → r ≡ yearsOf l n countWidth → r ≡ readYears s
+  unfolding readYears yearsOf roundOf sections
+  years-read z p q r =
+      next-read s none (years (roundOf s)) (Accepted (afterYears s)) (λ x. 0) (λ x. yearWidth) {g = afterYears s} refl refl e (λ x n l. yearsOf l n countWidth) refl z p q r
+
+-- ---- the pots, after the years
+
+-- what is known of the sections so far
+pub record Facts1 (s : List ℕ) (g : Sections) : Type 0 where
+  pub most : g .years ≤ mostYears
+  pub within : g .second ≤ length s
+
+module _ (s : List ℕ) {g : Sections} (h : readYears s ≡ Accepted g) where
+  pub facts1 : Facts1 s g
+  unfolding readYears
+  facts1 = let a = goes s (toYears (roundOf s)) (afterYears s) h in rw (a .1) (known-of (a .0))
+    where
+      known-of : AllRight s (toYears (roundOf s)) → Facts1 s (afterYears s)
+      known-of (also y none) = let k = years-known s y in record { most = k .0; within = k .1 }
+
+  module _ {f : ℕ} (e : f ≡ countFault s (g .second) 1 mostPots) where
+    pub pots-refused : (f ≡ 0 → ⊥) → Refused f (g .second) ≡ readPots s
+    unfolding readYears readPots
+    pots-refused z =
+        let a = goes s (toYears (roundOf s)) (afterYears s) h in
+        next-refused s (a .0) (pots (roundOf s)) (Accepted (afterPots s)) (λ x. x .second) (λ x. potWidth (x .years)) (a .1) refl e z
+
+    pub pots-read : f ≡ 0 → {n : ℕ} {l : List ℕ} {r : Reading} → n ≡ le countWidth s (g .second)
+        → l ≡ part s (g .second + countWidth) (g .second + countWidth + n * potWidth (g .years))
+        → r ≡ potsOf l (g .second + countWidth) (withPots g n) → r ≡ readPots s
+    unfolding readYears readPots potsOf roundOf sections
+    pots-read z p q r =
+        let a = goes s (toYears (roundOf s)) (afterYears s) h in
+        next-read s (a .0) (pots (roundOf s)) (Accepted (afterPots s)) (λ x. x .second) (λ x. potWidth (x .years)) (a .1) refl e
+        (λ x n l. potsOf l (x .second + countWidth) (withPots x n)) refl z p q r
+
+-- ---- the technologies, after the pots
+
+-- what is known of the sections so far
+pub record Facts2 (s : List ℕ) (g : Sections) : Type 0 where
+  pub most : g .years ≤ mostYears
+  pub within : g .third ≤ length s
+
+module _ (s : List ℕ) {g : Sections} (h : readPots s ≡ Accepted g) where
+  pub facts2 : Facts2 s g
+  unfolding readPots
+  facts2 = let a = goes s (toPots (roundOf s)) (afterPots s) h in rw (a .1) (known-of (a .0))
+    where
+      known-of : AllRight s (toPots (roundOf s)) → Facts2 s (afterPots s)
+      known-of (also y (also p none)) = record { most = years-known s y .0; within = pots-known s p .1 }
+
+  module _ {f : ℕ} (e : f ≡ countFault s (g .third) 1 mostTechs) where
+    pub techs-refused : (f ≡ 0 → ⊥) → Refused f (g .third) ≡ readTechs s
+    unfolding readPots readTechs
+    techs-refused z =
+        let a = goes s (toPots (roundOf s)) (afterPots s) h in
+        next-refused s (a .0) (techs (roundOf s)) (Accepted (afterTechs s)) (λ x. x .third) (λ x. techWidth (x .years)) (a .1) refl e z
+
+    pub techs-read : f ≡ 0 → {n : ℕ} {l : List ℕ} {r : Reading} → n ≡ le countWidth s (g .third)
+        → l ≡ part s (g .third + countWidth) (g .third + countWidth + n * techWidth (g .years))
+        → r ≡ techsOf l (g .third + countWidth) (withTechs g n) → r ≡ readTechs s
+    unfolding readPots readTechs techsOf roundOf sections
+    techs-read z p q r =
+        let a = goes s (toPots (roundOf s)) (afterPots s) h in
+        next-read s (a .0) (techs (roundOf s)) (Accepted (afterTechs s)) (λ x. x .third) (λ x. techWidth (x .years)) (a .1) refl e
+        (λ x n l. techsOf l (x .third + countWidth) (withTechs x n)) refl z p q r
+
+-- ---- the applications, after the technologies
+
+-- what is known of the sections so far
+pub record Facts3 (s : List ℕ) (g : Sections) : Type 0 where
+  pub days : g .deliveries * yearWidth ≤ length (part s countWidth (g .second))
+  pub starts : countWidth ≤ g .second
+  pub ended : g .second ≤ length s
+  pub within : g .fourth ≤ length s
+
+-- the years' part is as long as the years
+years-long : (s : List ℕ) → Right s (years (roundOf s)) → roundOf s .y * yearWidth ≤ length (part s countWidth (potsAt (roundOf s .y)))
+years-long s r = omega (arith, part-length s countWidth (potsAt (roundOf s .y)) (omega arith) (years-known s r .1))
+
+module _ (s : List ℕ) {g : Sections} (h : readTechs s ≡ Accepted g) where
+  pub facts3 : Facts3 s g
+  unfolding readTechs
+  facts3 = let a = goes s (toTechs (roundOf s)) (afterTechs s) h in rw (a .1) (known-of (a .0))
+    where
+      known-of : AllRight s (toTechs (roundOf s)) → Facts3 s (afterTechs s)
+      known-of (also y (also p (also t none))) = record {
+        days = omega (arith, years-long s y, deliveries-known s y);
+        starts = omega arith;
+        ended = years-known s y .1;
+        within = techs-known s t .1;
+      }
+
+  module _ {f : ℕ} (e : f ≡ countFault s (g .fourth) 0 mostApps) where
+    pub apps-refused : (f ≡ 0 → ⊥) → Refused f (g .fourth) ≡ readApps s
+    unfolding readTechs readApps
+    apps-refused z =
+        let a = goes s (toTechs (roundOf s)) (afterTechs s) h in
+        next-refused s (a .0) (apps (roundOf s)) (Accepted (afterApps s)) (λ x. x .fourth) (λ x. appWidth) (a .1) refl e z
+
+    pub apps-read : f ≡ 0 → {n : ℕ} {years l : List ℕ} {r : Reading} → n ≡ le countWidth s (g .fourth)
+        → years ≡ part s countWidth (g .second)
+        → l ≡ part s (g .fourth + countWidth) (g .fourth + countWidth + n * appWidth)
+        → r ≡ appsOf years l (g .fourth + countWidth) (withApps g n) → r ≡ readApps s
+    unfolding readTechs readApps appsOf roundOf sections
+    apps-read z {n} {l = l} p y q r =
+        let a = goes s (toTechs (roundOf s)) (afterTechs s) h in
+        next-read s (a .0) (apps (roundOf s)) (Accepted (afterApps s)) (λ x. x .fourth) (λ x. appWidth) (a .1) refl e
+        (λ x n l. appsOf (part s countWidth (x .second)) l (x .fourth + countWidth) (withApps x n)) refl z p q
+        (r ∙ ap (λ (x : List ℕ). appsOf x l (g .fourth + countWidth) (withApps g n)) y)
+
+-- ---- the bids, after the applications
+
+-- what is known of the sections so far
+pub record Facts4 (s : List ℕ) (g : Sections) : Type 0 where
+  pub starts : countWidth ≤ g .second
+  pub ended : g .second ≤ length s
+  pub techs-start : g .third + countWidth ≤ g .fourth
+  pub techs-end : g .fourth ≤ length s
+  pub apps-start : g .fourth + countWidth ≤ g .fifth
+  pub within : g .fifth ≤ length s
+  pub looked : (recs : List ℕ) (n : ℕ)
+      → Looked (tablesOf (part s countWidth (g .second)) (part s (g .third + countWidth) (g .fourth)) (part s (g .fourth + countWidth) (g .fifth)) recs (withBids g n))
+
+module _ (s : List ℕ) where
+  techs-long : Right s (techs (roundOf s))
+      → roundOf s .t * techWidth (roundOf s .y)
+      ≤ length (part s (techsAt (roundOf s .y) (roundOf s .p) + countWidth) (appsAt (roundOf s .y) (roundOf s .p) (roundOf s .t)))
+  techs-long r =
+      let R = roundOf s in
+      omega (arith, part-length s (techsAt (R .y) (R .p) + countWidth) (appsAt (R .y) (R .p) (R .t)) (omega arith) (techs-known s r .1))
+
+  apps-long : Right s (apps (roundOf s))
+      → roundOf s .n * appWidth
+      ≤ length (part s (appsAt (roundOf s .y) (roundOf s .p) (roundOf s .t) + countWidth) (bidsAt (roundOf s .y) (roundOf s .p) (roundOf s .t) (roundOf s .n)))
+  apps-long r =
+      let R = roundOf s in
+      omega (arith, part-length s (appsAt (R .y) (R .p) (R .t) + countWidth) (bidsAt (R .y) (R .p) (R .t) (R .n)) (omega arith) (apps-known s r .1))
+
+  apps-tech : Right s (apps (roundOf s)) → (a : ℕ) → a < roundOf s .n
+      → appAt (part s (appsAt (roundOf s .y) (roundOf s .p) (roundOf s .t) + countWidth) (bidsAt (roundOf s .y) (roundOf s .p) (roundOf s .t) (roundOf s .n))) a .tech < roundOf s .t
+  unfolding roundOf sections
+  apps-tech r a l = app-right _ _ _ _ a (record-right s (apps (roundOf s)) r a l .1) .tech
+
+module _ (s : List ℕ) {g : Sections} (h : readApps s ≡ Accepted g) where
+  pub facts4 : Facts4 s g
+  unfolding readApps
+  facts4 = let a = goes s (toApps (roundOf s)) (afterApps s) h in rw (a .1) (known-of (a .0))
+    where
+      known-of : AllRight s (toApps (roundOf s)) → Facts4 s (afterApps s)
+      known-of (also y (also p (also t (also n none)))) = record {
+        starts = omega arith;
+        ended = years-known s y .1;
+        techs-start = omega arith;
+        techs-end = techs-known s t .1;
+        apps-start = omega arith;
+        within = apps-known s n .1;
+        looked = λ recs m. record {
+          few = deliveries-known s y;
+          most = years-known s y .0;
+          years-whole = years-long s y;
+          techs-whole = techs-long s t;
+          apps-whole = apps-long s n;
+          tech = apps-tech s n;
+        };
+      }
+
+  -- the bids are held to the parts that were handed on
+  pub looks : {years techs apps : List ℕ} (recs : List ℕ) (n : ℕ)
+      → years ≡ part s countWidth (g .second) → techs ≡ part s (g .third + countWidth) (g .fourth) → apps ≡ part s (g .fourth + countWidth) (g .fifth)
+      → Looked (tablesOf years techs apps recs (withBids g n))
+  looks recs n y t m = rw (y, t, m) (facts4 .looked recs n)
+
+  module _ {f : ℕ} (e : f ≡ countFault s (g .fifth) 0 mostBids) where
+    pub bids-refused : (f ≡ 0 → ⊥) → Refused f (g .fifth) ≡ readBids s
+    unfolding readApps readBids
+    bids-refused z =
+        let a = goes s (toApps (roundOf s)) (afterApps s) h in
+        next-refused s (a .0) (bids (roundOf s)) (Accepted (sectionsOf (roundOf s))) (λ x. x .fifth) (λ x. bidWidth) (a .1) refl e z
+
+    pub bids-read : f ≡ 0 → {n : ℕ} {years techs apps l : List ℕ} {r : Reading} → n ≡ le countWidth s (g .fifth)
+        → years ≡ part s countWidth (g .second) → techs ≡ part s (g .third + countWidth) (g .fourth) → apps ≡ part s (g .fourth + countWidth) (g .fifth)
+        → l ≡ part s (g .fifth + countWidth) (g .fifth + countWidth + n * bidWidth)
+        → r ≡ bidsOf years techs apps l (g .fifth + countWidth) (withBids g n) → r ≡ readBids s
+    unfolding readApps readBids bidsOf bidFault sevenOf eightOf nineOf sectionsOf roundOf sections
+    bids-read z {n} {l = l} p y t m q r =
+        let a = goes s (toApps (roundOf s)) (afterApps s) h in
+        next-read s (a .0) (bids (roundOf s)) (Accepted (sectionsOf (roundOf s))) (λ x. x .fifth) (λ x. bidWidth) (a .1) refl e
+        (λ x n l. bidsOf (part s countWidth (x .second)) (part s (x .third + countWidth) (x .fourth)) (part s (x .fourth + countWidth) (x .fifth)) l (x .fifth + countWidth) (withBids x n)) refl z p q
+        (r ∙ (λ j. bidsOf (y j) (t j) (m j) l (g .fifth + countWidth) (withBids g n)))
+
+-- ---- after the last section
+
+pub record Facts5 (s : List ℕ) (g : Sections) : Type 0 where
+  pub few : g .bids ≤ mostBids
+  pub within : g .fifth + countWidth + g .bids * bidWidth ≤ length s
+
+module _ (s : List ℕ) {g : Sections} (h : readBids s ≡ Accepted g) where
+  pub facts5 : Facts5 s g
+  unfolding readBids sectionsOf
+  facts5 = let a = goes s (tables (roundOf s)) (sectionsOf (roundOf s)) h in rw (a .1) (known-of (a .0))
+    where
+      known-of : AllRight s (tables (roundOf s)) → Facts5 s (sectionsOf (roundOf s))
+      known-of (also y (also p (also t (also n (also b none))))) = let k = bids-known s b in record { few = k .0; within = k .1 }
+
+  -- 10: there are bytes after the last record
+  pub bytes-after : g .fifth + countWidth + g .bids * bidWidth < length s → Refused bytesAfter (g .fifth + countWidth + g .bids * bidWidth) ≡ reading s
+  unfolding readBids sectionsOf
+  bytes-after l =
+      let a = goes s (tables (roundOf s)) (sectionsOf (roundOf s)) h in
+      let e = ap (λ (x : Sections). x .fifth + countWidth + x .bids * bidWidth) (a .1) in
+      sym (faulty s (after (a .0) (omega arith) refl e))
+
+  -- 11: there are none, and the lowest bids are asked
+  pub lowest-read : {l : List ℕ} {r : Reading} → length s ≤ g .fifth + countWidth + g .bids * bidWidth → l ≡ part s (g .fifth + countWidth) (g .fifth + countWidth + g .bids * bidWidth)
+      → r ≡ lowestOf l (g .fifth + countWidth) g → r ≡ reading s
+  unfolding readBids reading judged lowestOf elevenOf roundOf sections sectionsOf
+  lowest-read l q r =
+      let a = goes s (tables (roundOf s)) (sectionsOf (roundOf s)) h in
+      let i = a .1 in
+      let e = ap (λ (x : Sections). x .fifth + countWidth + x .bids * bidWidth) i in
+      r
+      ∙ ap (λ (x : List ℕ). lowestOf x (g .fifth + countWidth) g) q
+      ∙ (λ j. lowestOf (part s (i j .fifth + countWidth) (i j .fifth + countWidth + i j .bids * bidWidth)) (i j .fifth + countWidth) (i j))
+      ∙ sym (or-passes _ _ _ (given-yes _ _ _ (omega arith)))
+      ∙ sym (sections-pass s _ (a .0))
+
+-- ---- a refusal in a section is the file's
+
+module _ (s : List ℕ) {r : Reading} {m x : ℕ} (e : r ≡ Refused m x) where
+  pub years-stop : r ≡ readYears s → r ≡ reading s
+  unfolding readYears reading judged
+  years-stop p = e ∙ sym (stops s (toYears (roundOf s)) (afterYears s) _ (sym p ∙ e))
+
+  pub pots-stop : r ≡ readPots s → r ≡ reading s
+  unfolding readPots reading judged
+  pots-stop p = e ∙ sym (stops s (toPots (roundOf s)) (afterPots s) _ (sym p ∙ e))
+
+  pub techs-stop : r ≡ readTechs s → r ≡ reading s
+  unfolding readTechs reading judged
+  techs-stop p = e ∙ sym (stops s (toTechs (roundOf s)) (afterTechs s) _ (sym p ∙ e))
+
+  pub apps-stop : r ≡ readApps s → r ≡ reading s
+  unfolding readApps reading judged
+  apps-stop p = e ∙ sym (stops s (toApps (roundOf s)) (afterApps s) _ (sym p ∙ e))
+
+  pub bids-stop : r ≡ readBids s → r ≡ reading s
+  unfolding readBids reading judged
+  bids-stop p = e ∙ sym (stops s (tables (roundOf s)) (sectionsOf (roundOf s)) _ (sym p ∙ e))

@@ -1,0 +1,32 @@
+-- The rules of records whose numbers have been read: what a function answers that is handed the numbers. Assumes nothing.
+use Prim.Native.Nat.{ℕ, _%_}
+use mathlib.Core.List.{List}
+use native.Mathlib.Decide.{decLe, decLt, ℕ-discrete}
+use Rattle.rules.specs.Names.{techBroken, appBroken, whole, highestPrice, priceStep, largestCapacity}
+use Rattle.rules.specs.Lists.{given, both, when, never, every}
+use Rattle.rules.specs.File.{yearAt, appAt}
+
+-- 5 of a technology's numbers in year k, the delivery years being the first d
+unfoldable pub pricesOf : (k d admin reference load : ℕ) → ℕ
+pricesOf k d admin reference load =
+    given
+    (both (decLe load whole)
+    (both (decLe reference highestPrice)
+    (both (when (decLt k d) (both (decLe priceStep admin) (both (decLe admin highestPrice) (ℕ-discrete (admin % priceStep) 0))))
+    (when (decLe d k) (ℕ-discrete admin 0)))))
+    0
+    techBroken
+
+-- 6 of an application's numbers, its draw apart
+unfoldable pub numbersOf : List ℕ → (d t tech year days capacity : ℕ) → ℕ
+numbersOf years d t tech year days capacity =
+    given
+    (both (decLt tech t)
+    (both (decLt year d)
+    (both (decLt 0 days) (both (decLe days (yearAt years year .days)) (both (decLt 0 capacity) (decLe capacity largestCapacity))))))
+    0
+    appBroken
+
+-- 6 of its draw
+unfoldable pub drawOf : List ℕ → ℕ → ℕ
+drawOf apps i = given (every i (λ k. never (ℕ-discrete (appAt apps k .draw) (appAt apps i .draw)))) 0 appBroken

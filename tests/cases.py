@@ -1,0 +1,176 @@
+"""cases.py: writes what the test programs are run on, and what they must print, as tests/reading.py reads document 01.
+
+crates/readings: files of every fault at every kind of place, each with its reading: the counts, or the refusal's number and offset.
+crates/listings: the worked cases, pots that reach what chance seldom does, made rounds and damaged ones, each with its listing."""
+import collections
+import os
+import random
+import struct
+
+import making
+import reading
+
+ROOT = os.path.join(os.path.dirname(os.path.abspath(__file__)), '..')
+
+# one round with every kind of record: two delivery years and one for valuation only
+YEARS = [(365, 1, 90), (366, 1, 0), (365, 0, 10000)]
+POTS = [(50000, 60000, 70000), (1000000000000, 0, 1)]
+TECHNOLOGIES = [(0, 10000, [(20000, 5000, 10000), (10000, 0, 3000), (0, 500000, 0)]), (1, 0, [(500000, 0, 1), (10, 0, 9999), (0, 0, 10000)])]
+APPLICATIONS = [(0, 0, 365, 7, 300000, 2 ** 63), (1, 1, 366, 0, 1, 0), (0, 1, 1, 65535, 250, 1)]
+BIDS = [(0, 0, 365, 300000, 4000), (0, 0, 100, 1, 4007), (0, 1, 366, 200, 3990), (2, 1, 1, 250, 10000), (2, 1, 1, 200, 9990)]
+TABLES = [YEARS, POTS, TECHNOLOGIES, APPLICATIONS, BIDS]
+# the edges of every range, and a little beyond
+EDGES = [0, 1, 2, 3, 4, 9, 10, 11, 100, 364, 365, 366, 367, 9999, 10000, 10001, 20000, 65535, 300000, 300001, 500000, 500001, 500010,
+         10 ** 12, 10 ** 12 + 1, 2 ** 32 - 1, 2 ** 64 - 1]
+WIDTHS = [[2, 2, 2], [8, 8, 8], [2, 2] + [4, 4, 2] * 3, [2, 2, 2, 2, 4, 8], [2, 2, 2, 4, 4]]
+
+
+def flat(record):
+    return [x for f in record for x in (flat(f) if isinstance(f, (list, tuple)) else [f])]
+
+
+def written(tables):
+    """The bytes of tables whose records are flat."""
+    out = b''
+    for records, widths in zip(tables, WIDTHS):
+        out += struct.pack('<H', len(records)) + b''.join(x.to_bytes(w, 'little') for r in records for x, w in zip(r, widths))
+    return out
+
+
+def edited():
+    """The round with one field of one record at an edge, or one record twice, or left out."""
+    tables = [[flat(r) for r in records] for records in TABLES]
+    assert written(tables) == making.round_file(*TABLES)
+    yield written(tables)
+    for s, records in enumerate(tables):
+        for i, record in enumerate(records):
+            for f, width in enumerate(WIDTHS[s]):
+                for x in EDGES:
+                    if x < 256 ** width and x != record[f]:
+                        yield written(tables[:s] + [records[:i] + [record[:f] + [x] + record[f + 1:]] + records[i + 1:]] + tables[s + 1:])
+            yield written(tables[:s] + [records[:i] + [record] + records[i:]] + tables[s + 1:])
+            yield written(tables[:s] + [records[:i] + records[i + 1:]] + tables[s + 1:])
+
+
+def counted():
+    """Counts at the edges of their ranges, with records for them and without."""
+    tables = [[flat(r) for r in records] for records in TABLES]
+    for s, most in enumerate((8, 4, 32, 64, 256)):
+        for n in (0, 1, most - 1, most, most + 1):
+            more = [list(tables[s][-1]) for _ in range(n)]
+            for i, record in enumerate(more):
+                if s == 3:
+                    record[3] = i
+            yield written(tables[:s] + [more] + tables[s + 1:])
+        whole = written(tables)
+        at = sum(2 + len(t) * sum(w) for t, w in zip(tables[:s], WIDTHS[:s]))
+        for n in (0, 1, most, most + 1, 255, 256, 65535):
+            yield whole[:at] + struct.pack('<H', n) + whole[at + 2:]
+
+
+def many_bids():
+    """An application's tenth and eleventh bid, its third and fourth in a year; prices of one application and of two; odd lowest bids."""
+    def four_years(bids):
+        figures = [(20000, 0, 10000)] * 4
+        return making.round_file([(365, 1, 0)] * 4, [(0,) * 4], [(0, 10000, figures)], [(0, 0, 365, a, 100, 0) for a in range(2)], bids)
+    for n in (3, 4, 9, 10, 11, 12):
+        for spread in (1, 2, 3, 4):
+            yield four_years([(0, k % spread, 365, 100, 4000 + 10 * k) for k in range(n)])
+    for prices in ((4000, 4000), (4000, 4001), (4001, 4000), (4001, 4002), (4003, 4001, 4002), (0, 1)):
+        for apart in (False, True):
+            yield four_years([(k if apart and k < 2 else 0, 0, 365, 100, p) for k, p in enumerate(prices)])
+            yield four_years([(0, k if apart else 0, 365, 100, p) for k, p in enumerate(prices)])
+
+
+def largest():
+    """A file of 7,866 bytes: every count at its greatest."""
+    figures = [(20000 if k < 4 else 0, 0, 10000) for k in range(8)]
+    applications = [(a % 32, 0, 365, a, 100, 0) for a in range(64)]
+    bids = [(a, k, 365, 100, 4000 + 10 * k) for a in range(64) for k in range(4)]
+    return making.round_file([(365, int(k < 4), 0) for k in range(8)], [(10 ** 6,) * 8] * 4, [(t % 4, 10000, figures) for t in range(32)], applications, bids)
+
+
+def files():
+    yield from (b'', bytes(1), bytes(100), bytes(7866), bytes([255]) * 50, largest(), largest() + b'\0', largest()[:-1])
+    a = making.round_a()
+    for n in range(len(a)):
+        yield a[:n]
+    for tail in (b'\0', b'\1\2\3', bytes(20)):
+        yield a + tail
+    yield from edited()
+    yield from counted()
+    yield from many_bids()
+    rnd = random.Random(1)
+    for _ in range(300):
+        yield making.damage(rnd, making.damage(rnd, making.make(rnd)))
+
+
+def pots():
+    """Pots that reach what chance seldom does, beyond making.directed: ties over delivery years with valuation years behind them, chains
+    that another application breaks, automatic bids alone and in ties, winners at no cost, budgets of 0 and of exactly the total."""
+    def years(d, y, budgets, applications, bids, reference=0):
+        figures = [(20000 if k < d else 0, reference, 10000) for k in range(y)]
+        rows = [(0, start, 365, draw, capacity, 0) for start, draw, capacity in applications]
+        return making.round_file([(365, int(k < d), 0) for k in range(y)], [budgets], [(0, 10000, figures)], rows, bids)
+    for n in range(2, 12):
+        for d in (2, 4):
+            apps = [(a % d, n - a, 100 + 10 * (a % 3)) for a in range(n)]
+            bids = [(a, a % d, 365, 100, 4000) for a in range(n)]
+            for share in (1, 2, 3):
+                yield years(d, d + 1, (35040 * share,) * (d + 1), apps, bids)
+    chain = [(0, 0, 365, 200 - 10 * i, 6000 + 10 * i) for i in range(3)]
+    for other in (None, 6000, 6005, 6010, 6015, 6020, 7000):
+        bids = chain + ([] if other is None else [(1, 0, 365, 100, other // 10 * 10)])
+        for budget in (0, 60000, 90000, 94608, 94607, 100000, 150000):
+            yield years(1, 2, (budget, budget), [(0, 0, 200), (0, 1, 100)], bids)
+            yield years(2, 2, (budget, budget), [(0, 0, 200), (1, 1, 100)], [b if b[0] == 0 else (1, 1) + b[2:] for b in bids])
+    for n in range(1, 6):
+        for budget in (0, 175199, 175200, 350400, 10 ** 6):
+            yield years(1, 1, (budget,), [(0, a, 100) for a in range(n)], [])
+            yield years(1, 1, (budget,), [(0, a, 100) for a in range(n)], [(0, 0, 365, 100, 20000)])
+    for price in (0, 10, 4990, 5000, 5010):
+        yield years(1, 1, (0,), [(0, 0, 100), (0, 1, 100)], [(0, 0, 365, 100, price)], reference=5000)
+        yield years(1, 1, (88,), [(0, 0, 100), (0, 1, 100)], [(0, 0, 365, 100, price), (1, 0, 365, 100, price)], reference=5000)
+
+
+def rounds():
+    yield from making.worked().values()
+    yield from making.directed()
+    yield from pots()
+    rnd = random.Random(2)
+    for k in range(400):
+        file = making.make(rnd)
+        yield making.damage(rnd, file) if k % 4 == 0 else file
+
+
+def told(file):
+    try:
+        r = reading.read(file)
+    except reading.Refused as e:
+        return 'refused %d at %d' % e.args
+    return 'accepted %d %d %d %d %d %d' % (len(r.years), r.deliveries, len(r.pots), len(r.technologies), len(r.applications), len(r.bids))
+
+
+def write(name, cases):
+    """cases: (file, what is printed)"""
+    folder = os.path.join(ROOT, 'crates', name)
+    with open(os.path.join(folder, 'stdin'), 'wb') as f:
+        f.write(b''.join(struct.pack('<H', len(file)) + file for file, _ in cases))
+    with open(os.path.join(folder, 'stdout'), 'w') as f:
+        f.write(''.join(text for _, text in cases))
+
+
+if __name__ == '__main__':
+    cases = [(f, told(f) + '\n') for f in files()]
+    write('readings', cases)
+    kinds = collections.Counter(' '.join(text.split()[:2]) if text.startswith('refused') else 'accepted' for _, text in cases)
+    assert all(kinds['refused %d' % k] >= 5 for k in range(1, 12)) and len(largest()) == 7866
+    for name, value in making.VALUES.items():
+        assert 'total %d\n' % value in reading.listing(making.worked()[name])
+    listings = [(f, reading.listing(f)) for f in rounds()]
+    write('listings', listings)
+    words = collections.Counter(' '.join(w for w in line.split() if w.isalpha()) + (' ' + line.split()[3] if line.startswith('bid') else '')
+                                for _, text in listings for line in text.splitlines())
+    assert all(words['bid reason %d' % k] >= 20 for k in range(1, 8)) and words['pot tie'] >= 5 and len(listings) >= 400
+    print('%d rounds:' % len(listings), ', '.join('%s: %d' % x for x in sorted(words.items())))
+    print('%d files:' % len(cases), ', '.join('%s: %d' % x for x in sorted(kinds.items())))
