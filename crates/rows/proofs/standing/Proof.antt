@@ -1,0 +1,18 @@
+-- `rows::standing` meets its contract: a sealed bid enters, and an automatic one where its application has none.
+use borrow.Author.Needs.{needs}
+use Rattle.rows.proofs.Laws.{enters-own, enters-silent, enters-not}
+use Rattle.rows.proofs.standing.Statement.{statement}
+use Rattle.rows.proofs.standing.Tie as tie
+
+returns : tie.Need-returns
+returns c = enters-own _ _ _ (c .if1 .taken)
+
+returns-2 : tie.Need-returns-2
+returns-2 c = enters-silent _ _ _ (c .before .before .if1 .left) (c .before .silent .ensures) (c .if2 .taken)
+
+returns-3 : tie.Need-returns-3
+returns-3 c = enters-not _ _ _ (c .before .before .if1 .left) (c .before .silent .ensures) (c .if2 .left)
+
+pub standing-spec : {M : Type 1} → statement M
+standing-spec =
+    tie.close (tie.spec returns (λ c κs. search needs) returns-2 returns-3)
