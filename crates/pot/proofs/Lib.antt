@@ -1,0 +1,7 @@
+pub mod Laws
+pub mod Arrays
+pub mod Link
+pub mod Looks
+pub mod Ties
+pub mod Steps
+pub mod Runs

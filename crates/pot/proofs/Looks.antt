@@ -1,0 +1,180 @@
+-- The ways that a look goes: the arrays follow the trace. Assumes nothing.
+use Prim.Native.Nat.{ℕ, _≤_, _<_}
+use mathlib.Core.Path.{_≡_, refl, sym, ap, _∙_}
+use mathlib.Core.Bool.{Bool, true, false, not, _&&_}
+use mathlib.Core.List.{List, [], _∷_, _++_, map}
+use native.Mathlib.Omega.{arith}
+use lib.ListN.{length, getD, set, length-set}
+use lib.Dec.{eqb, ltb}
+use borrow.Author.Tests.{ne-eqb, lt-ltb, ltb-true}
+use Rattle.rules.specs.Names.{noPrice, becauseWon, downAlone, downTied, widestTie}
+use Rattle.rules.specs.Lists.{pick, memb, sift, below}
+use Rattle.rules.specs.Pot.{Pot, Trace, winners, hanging, wideEnd, priceFrom, live, taken, fits, won, down, follows, remaining, choose, others, shared, endedWide, alone, tied, lost, look}
+use Rattle.laws.specs.Lists.{case, clash, not-is-true, In, here, memb-in, in-memb, in-none, in-one, sift-in, sift-same, sift-both, below-in}
+use Rattle.laws.specs.Taken as taken
+use Rattle.laws.specs.Runs.{won-seen}
+use Rattle.sets.specs.Sets.{built, members, headOr, without}
+use Rattle.sets.proofs.Arrays.{put-is, members-built}
+use Rattle.sheet.specs.Sheet.{potIn, Ready, rowApp, rowYear, rowPrice}
+use Rattle.totals.specs.Totals.{totalOf, filled, rowFits}
+use Rattle.pot.specs.declared.PotState.{PotState}
+use Rattle.pot.specs.Marks.{lowestOf, atOf, winAll, turnAll, turnedOf, hungOf, shutOf, settledOf, widened, takenOf, soleOf, followsOf, aloneOf, sharedOf, restOf, choiceIn, tieOf}
+use Rattle.pot.specs.Rep.{hangs, Sizes, Rep, Stands}
+use Rattle.pot.proofs.Arrays.{win-sizes, win-reasons, win-won, win-opened, win-hang, win-wide, turn-sizes, turn-reasons, turn-opened, turn-won, turn-prices, turn-wide}
+use Rattle.pot.proofs.Link as link
+use Rattle.pot.proofs.Link.{Did, rep-did, Holds, holds-rep}
+
+-- `follows` by length and head
+follows-is : (P : Pot) (i : ℕ) (l : List ℕ) → follows P i l ≡ (eqb (length l) 1 && (eqb (P .app (headOr 0 l)) (P .app i) && eqb (P .yr (headOr 0 l)) (P .yr i)))
+unfolding follows
+follows-is P i [] = refl
+follows-is P i (c ∷ []) = refl
+follows-is P i (c ∷ d ∷ l) = rw (ne-eqb (Prim.Native.Nat.suc (Prim.Native.Nat.suc (length l))) 1 (λ e. let z : ⊥ = omega arith in z))
+
+-- what is live has not won
+pub not-won : (P : Pot) (t : Trace) (b : ℕ) → live P t b ≡ true → memb b (winners t) ≡ false
+not-won P t b v = case (memb b (winners t)) (λ u. clash (in-memb (won-seen b t (memb-in b (winners t) u))) (taken.live-is P t b v .fresh)) (λ f. f)
+
+module _ (rows figures budgets : List ℕ) (b m y : ℕ) (ok : Ready rows figures budgets b m y) where
+  abbrev P : Pot
+  P = potIn rows figures budgets b m y
+
+  module _ (t : Trace) (s : PotState) (R : Rep P t s) where
+    abbrev l : List ℕ
+    l = taken P t
+
+    abbrev p : ℕ
+    p = lowestOf rows s m
+
+    abbrev a : List Bool
+    a = takenOf rows m s
+
+    pub sound : (i : ℕ) → In i l → (i < m) × (live P t i ≡ true) × (rowPrice rows i ≡ p) × In i (P .bids)
+    sound = link.taken-sound rows figures budgets b m y ok t s R refl
+
+    pub of-set : members a m ≡ l
+    unfolding takenOf
+    of-set = link.taken-is rows figures budgets b m y ok t s R refl refl
+
+    pub few : (i : ℕ) → In i l → i < 320
+    few i h = link.small rows figures budgets b m y ok i (sound i h .0)
+
+    -- ---- 1: all that were taken are tried
+    abbrev u : PotState
+    u = winAll rows p s l
+
+    su : Sizes u
+    su = win-sizes rows p s (R .sizes) l
+
+    pub trial-fits : rowFits (filled (λ z. totalOf rows figures (u .reasons) (u .prices) z m) y) budgets y ≡ fits P (l ++ winners t)
+    trial-fits = link.fits-is rows figures budgets b m y ok (l ++ winners t) u
+        (link.holds-win rows figures budgets b m y ok (winners t) s (R .sizes) p l (λ i j. let z = sound i j in (z .0, z .2, z .3)) (holds-rep R))
+
+    -- all win, and the year that hangs closes
+    won-with : (r : PotState) → r .reasons ≡ u .reasons → r .won ≡ u .won → r .prices ≡ u .prices → Sizes r
+        → ((d : ℕ) → d < 4 → getD (r .opened) d false ≡ (not (memb d (hangs (s .hang))) && getD (s .opened) d false)) → r .hang ≡ 4 → Did P (won P t l) s r
+    unfolding hangs potIn
+    won-with r er ew eq sz op hg = record {
+      sizes = sz;
+      reasons = λ i. ap (λ (x : List ℕ). getD x i 0) er ∙ win-reasons rows p s (R .sizes) l i few;
+      won = λ z j. ap (λ (x : List Bool). getD x z false) ew ∙ win-won rows p s (R .sizes) l z (λ i h. ok .app i (sound i h .0));
+      opened = λ d j. op d j ∙ ap (λ (x : List ℕ). not (memb d x) && getD (s .opened) d false) (sym (R .hang));
+      prices = λ d j. ap (λ (x : List ℕ). getD x d 0) eq ∙ link.win-prices rows figures budgets b m y ok (winners t) s (R .sizes) p l d (λ i h. let z = sound i h in (z .0, z .2));
+      hang = rw hg;
+    }
+
+    won-did : Did P (won P t l) s (settledOf u)
+    unfolding settledOf shutOf hungOf hangs
+    won-did =
+        case (ltb (s .hang) 4)
+        (λ h. rw (win-hang rows p s (R .sizes) l, h)
+        (won-with (shutOf (s .hang) u) refl refl refl
+        (record { reasons = su .reasons; won = su .won; opened = length-set (u .opened) (s .hang) false ∙ su .opened; prices = su .prices })
+        (λ d j. put-is (u .opened) (s .hang) d false false (omega (arith, su .opened, ltb-true (s .hang) 4 h))
+        ∙ rw (h, win-opened rows p s (R .sizes) l) (case (eqb d (s .hang)) (λ e. rw e) (λ e. rw e)))
+        refl))
+        (λ h. rw (win-hang rows p s (R .sizes) l, h)
+        (won-with (hungOf 4 u) refl refl refl
+        (record { reasons = su .reasons; won = su .won; opened = su .opened; prices = su .prices })
+        (λ d j. rw (h, win-opened rows p s (R .sizes) l))
+        refl))
+
+    pub won-rep : Rep P (won P t l ∷ t) (settledOf u)
+    won-rep = rep-did P t (won P t l) s (settledOf u) refl refl (λ i j. in-none j) (λ i j. sound i j .3) (λ i j. in-none j) R won-did
+
+    pub won-wide : (settledOf u) .wide ≡ s .wide
+    unfolding settledOf shutOf hungOf
+    won-wide = go (ltb (u .hang) 4) ∙ win-wide rows p s (R .sizes) l
+      where
+        go : (h : Bool) → (pick h (shutOf (u .hang) u) (hungOf 4 u)) .wide ≡ u .wide
+        go true = refl
+        go false = refl
+
+    -- ---- 2: one bid alone
+    module _ (i : ℕ) (h : In i l) where
+      -- turned down, with the years that close and hang
+      down-did : (r : PotState) (sh ha : List ℕ) → r .reasons ≡ set (s .reasons) i downAlone → r .won ≡ s .won → r .prices ≡ s .prices
+          → Sizes r → ((d : ℕ) → d < 4 → getD (r .opened) d false ≡ (not (memb d sh) && getD (s .opened) d false)) → ha ≡ hangs (r .hang) → Did P (down P i sh ha) s r
+      unfolding priceFrom
+      down-did r sh ha er ew ep sz op hg = record {
+        sizes = sz;
+        reasons = λ k. ap (λ (x : List ℕ). getD x k 0) er ∙ put-is (s .reasons) i k downAlone 0 (omega (arith, R .sizes .reasons, few i h)) ∙ case (eqb k i) (λ t. rw t) (λ f. rw f);
+        won = λ z j. ap (λ (x : List Bool). getD x z false) ew;
+        opened = op;
+        prices = λ d j. ap (λ (x : List ℕ). getD x d 0) ep;
+        hang = hg;
+      }
+
+      down-rep : (r : PotState) (sh ha : List ℕ) → Did P (down P i sh ha) s r → Rep P (down P i sh ha ∷ t) r
+      down-rep r sh ha D = rep-did P t (down P i sh ha) s r refl refl (λ k j. rw (in-one j) (not-won P t i (sound i h .1))) (λ k j. in-none j) (λ k j. rw (in-one j) (sound i h .3)) R D
+
+      sizes : Sizes (turnedOf i s)
+      unfolding turnedOf
+      sizes = record { reasons = length-set (s .reasons) i downAlone ∙ R .sizes .reasons; won = R .sizes .won; opened = R .sizes .opened; prices = R .sizes .prices }
+
+      -- with no year that closes or hangs
+      turned-rep : Rep P (down P i [] [] ∷ t) (turnedOf i s)
+      unfolding turnedOf hangs
+      turned-rep = down-rep (turnedOf i s) [] [] (down-did (turnedOf i s) [] [] refl refl refl sizes (λ d j. refl) refl)
+
+      hung-rep : Rep P (down P i [] (P .yr i ∷ []) ∷ t) (hungOf (rowYear rows i) (turnedOf i s))
+      unfolding turnedOf hungOf hangs potIn
+      hung-rep = down-rep r [] (rowYear rows i ∷ []) (down-did r [] (rowYear rows i ∷ []) refl refl refl
+          (record { reasons = sizes .reasons; won = sizes .won; opened = sizes .opened; prices = sizes .prices }) (λ d j. refl) (rw (lt-ltb (rowYear rows i) 4 (ok .year i (sound i h .0)))))
+        where
+          r : PotState
+          r = hungOf (rowYear rows i) (turnedOf i s)
+
+      shut-rep : Rep P (down P i (P .yr i ∷ []) [] ∷ t) (shutOf (rowYear rows i) (turnedOf i s))
+      unfolding turnedOf shutOf hangs potIn
+      shut-rep =
+          down-rep r (rowYear rows i ∷ []) [] (down-did r (rowYear rows i ∷ []) [] refl refl refl
+          (record { reasons = sizes .reasons; won = sizes .won; opened = length-set (s .opened) (rowYear rows i) false ∙ R .sizes .opened; prices = sizes .prices })
+          (λ d j. put-is (s .opened) (rowYear rows i) d false false (omega (arith, R .sizes .opened, ok .year i (sound i h .0))) ∙ case (eqb d (rowYear rows i)) (λ t. rw t) (λ f. rw f))
+          refl)
+        where
+          r : PotState
+          r = shutOf (rowYear rows i) (turnedOf i s)
+
+  -- whether the next look is at the same application's next bid
+  sole-is : (i : ℕ) (t : Trace) (s : PotState) → Rep P t s → followsOf rows m i s ≡ follows P i (taken P t)
+  unfolding followsOf soleOf
+  sole-is i t s R = rw (of-set t s R) (sym (follows-is P i (taken P t) ∙ opened (taken P t)))
+    where
+      opened : (l : List ℕ) → (eqb (length l) 1 && (eqb (P .app (headOr 0 l)) (P .app i) && eqb (P .yr (headOr 0 l)) (P .yr i))) ≡ (eqb (length l) 1 && (eqb (rowApp rows (headOr 0 l)) (rowApp rows i) && eqb (rowYear rows (headOr 0 l)) (rowYear rows i)))
+      opened l = unfold potIn in refl
+
+  module _ (t : Trace) (s : PotState) (R : Rep P t s) where
+    pub alone-rep : (i : ℕ) → In i (taken P t) → Rep P (alone P t i ∷ t) (aloneOf rows m i s)
+    unfolding alone aloneOf
+    alone-rep i h =
+        rw (sole-is i (down P i [] [] ∷ t) (turnedOf i s) (turned-rep t s R i h))
+        (case (follows P i (taken P (down P i [] [] ∷ t))) (λ e. rw e (hung-rep t s R i h)) (λ e. rw e (shut-rep t s R i h)))
+
+    pub alone-wide : (i : ℕ) → (aloneOf rows m i s) .wide ≡ s .wide
+    unfolding aloneOf hungOf shutOf turnedOf
+    alone-wide i = go (followsOf rows m i (turnedOf i s))
+      where
+        go : (g : Bool) → (pick g (hungOf (rowYear rows i) (turnedOf i s)) (shutOf (rowYear rows i) (turnedOf i s))) .wide ≡ s .wide
+        go true = refl
+        go false = refl

@@ -1,0 +1,12 @@
+-- `pot::PotState::shared` meets its contract.
+use borrow.Author.Needs.{needs}
+use Rattle.pot.proofs.Laws.{shared-is}
+use Rattle.pot.proofs.PotState.shared.Statement.{statement}
+use Rattle.pot.proofs.PotState.shared.Tie as tie
+
+returns : tie.Need-returns
+returns c = shared-is _ _ _ _ _ _ (c .before .before .before .trial .ensures) (c .before .before .others .ensures) (c .before .turn-all .ensures) (c .hung .ensures)
+
+pub shared-spec : {M : Type 1} → statement M
+shared-spec =
+    tie.close (tie.spec (λ c κs. search needs) (λ c κs. search needs) (λ c κs. search needs) (λ c κs. search needs) returns)

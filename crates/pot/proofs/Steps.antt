@@ -1,0 +1,118 @@
+-- One look: the arrays follow the trace. Assumes nothing.
+use Prim.Native.Nat.{ℕ, _≤_}
+use mathlib.Core.Path.{_≡_, refl, sym, ap, _∙_}
+use mathlib.Core.Bool.{Bool, true, false}
+use mathlib.Core.List.{List, [], _∷_, _++_}
+use native.Mathlib.Omega.{arith}
+use lib.ListN.{length}
+use Rattle.rules.specs.Pot.{Pot, Trace, winners, wideEnd, taken, fits, down, follows, alone, tied, lost, look}
+use Rattle.laws.specs.Lists.{case, In, here, in-none}
+use Rattle.sets.specs.Sets.{built, members, headOr}
+use Rattle.sheet.specs.Sheet.{potIn, Ready}
+use Rattle.totals.specs.Totals.{totalOf, filled, rowFits}
+use Rattle.pot.specs.declared.PotState.{PotState}
+use Rattle.pot.specs.Marks.{lowestOf, atOf, winAll, settledOf, takenOf, aloneOf, tieOf}
+use Rattle.pot.specs.Rep.{Rep, Stands, Stepped}
+use Rattle.pot.proofs.Looks as looks
+use Rattle.pot.proofs.Ties as ties
+
+-- the sealed bids are of the first test alone
+pub ready-at : {rows figures budgets : List ℕ} {c m y : ℕ} (b : ℕ) → b ≤ m → Ready rows figures budgets c m y → Ready rows figures budgets b m y
+ready-at b h r = record {
+  few = r .few;
+  sealed = h;
+  some = r .some;
+  years = r .years;
+  rows-whole = r .rows-whole;
+  figures-whole = r .figures-whole;
+  budgets-whole = r .budgets-whole;
+  app = r .app;
+  year = r .year;
+  price = r .price;
+  cap = r .cap;
+  draw = r .draw;
+  reference = r .reference;
+  energy = r .energy;
+  share = r .share;
+  budget = r .budget;
+  apart = r .apart;
+}
+
+-- one taken, or several
+only : (l : List ℕ) {c i : ℕ} → c ≡ length l → c ≡ 1 → i ≡ headOr 0 l → l ≡ i ∷ []
+only [] ec h e = absurd (let z : ⊥ = omega arith in z)
+only (x ∷ []) ec h e = rw e
+only (x ∷ y ∷ l) ec h e = absurd (let z : ⊥ = omega arith in z)
+
+several : (P : Pot) (t : Trace) (l : List ℕ) {c x : ℕ} → c ≡ length l → (c ≡ 1 → ⊥) → In x l → lost P t l ≡ tied P t l
+unfolding lost
+several P t [] ec h i = in-none i
+several P t (y ∷ []) ec h i = absurd (h ec)
+several P t (y ∷ z ∷ l) ec h i = refl
+
+lost-one : (P : Pot) (t : Trace) (i : ℕ) → lost P t (i ∷ []) ≡ alone P t i
+unfolding lost
+lost-one P t i = refl
+
+-- ---- a step
+module _ (rows figures budgets : List ℕ) (m y : ℕ) (ok : Ready rows figures budgets 0 m y) (s : PotState) {p : ℕ} {a : List Bool} {v : PotState} {row : List ℕ} {f : Bool} (ep : p ≡ lowestOf rows s m) (ea : a ≡ built (atOf rows s p) m) (ev : v ≡ winAll rows p s (members a m)) (er : row ≡ filled (λ z. totalOf rows figures (v .reasons) (v .prices) z m) y) (ef : f ≡ rowFits row budgets y) where
+  taken-a : a ≡ takenOf rows m s
+  unfolding takenOf
+  taken-a = rw (ea, ep)
+
+  module _ (b : ℕ) (h : b ≤ m) (t : Trace) where
+    abbrev P : Pot
+    P = potIn rows figures budgets b m y
+
+    ok-b : Ready rows figures budgets b m y
+    ok-b = ready-at b h ok
+
+    of-set : Rep P t s → members a m ≡ taken P t
+    of-set R = ap (λ (x : List Bool). members x m) taken-a ∙ looks.of-set rows figures budgets b m y ok-b t s R
+
+    tried : Rep P t s → v ≡ winAll rows (lowestOf rows s m) s (taken P t)
+    tried R = ev ∙ ap (winAll rows p s) (of-set R) ∙ ap (λ (x : ℕ). winAll rows x s (taken P t)) ep
+
+    fits-is : Rep P t s → f ≡ fits P (taken P t ++ winners t)
+    fits-is R =
+        ef ∙ ap (λ (x : List ℕ). rowFits x budgets y) (er ∙ ap (λ (u : PotState). filled (λ z. totalOf rows figures (u .reasons) (u .prices) z m) y) (tried R))
+        ∙ looks.trial-fits rows figures budgets b m y ok-b t s R
+
+  -- all that were taken fit
+  pub step-fits : {r : PotState} → f ≡ true → r ≡ settledOf v → (b : ℕ) → b ≤ m → Stepped (potIn rows figures budgets b m y) s r
+  unfolding look wideEnd
+  step-fits g e b h t x S n i =
+      let R = S .rep n in
+      rw (sym (fits-is b h t R) ∙ g, e, tried b h t R) (record {
+        wide = looks.won-wide rows figures budgets b m y (ready-at b h ok) t s R ∙ S .wide ∙ n;
+        rep = λ q. looks.won-rep rows figures budgets b m y (ready-at b h ok) t s R;
+      })
+
+  module _ (g : f ≡ false) {c : ℕ} (ec : c ≡ length (members a m)) where
+    look-lost : (b : ℕ) (h : b ≤ m) (t : Trace) → Rep (potIn rows figures budgets b m y) t s → look (potIn rows figures budgets b m y) t (taken (potIn rows figures budgets b m y) t) ≡ lost (potIn rows figures budgets b m y) t (taken (potIn rows figures budgets b m y) t)
+    unfolding look
+    look-lost b h t R = rw (sym (fits-is b h t R) ∙ g)
+
+    -- one alone does not
+    pub step-alone : {i : ℕ} {r : PotState} → c ≡ 1 → i ≡ headOr 0 (members a m) → r ≡ aloneOf rows m i s → (b : ℕ) → b ≤ m → Stepped (potIn rows figures budgets b m y) s r
+    unfolding wideEnd
+    step-alone {i} q ei e b h t x S n j =
+        let P = potIn rows figures budgets b m y in
+        let R = S .rep n in
+        let z : taken P t ≡ i ∷ [] = only (taken P t) (ec ∙ ap length (of-set b h t R)) q (ei ∙ ap (headOr 0) (of-set b h t R)) in
+        let w : In i (taken P t) = rw z (here refl) in
+        rw (look-lost b h t R ∙ ap (lost P t) z ∙ lost-one P t i, e) (record {
+          wide = looks.alone-wide rows figures budgets b m y (ready-at b h ok) t s R i ∙ S .wide ∙ n ∙ sym (not-wide P t i);
+          rep = λ u. looks.alone-rep rows figures budgets b m y (ready-at b h ok) t s R i w;
+        })
+      where
+        not-wide : (P : Pot) (t : Trace) (i : ℕ) → (alone P t i) .wide ≡ false
+        not-wide P t i = unfold alone in case (follows P i (taken P (down P i [] [] ∷ t))) (λ u. rw u) (λ u. rw u)
+
+    -- several do not
+    pub step-tie : {r : PotState} → (c ≡ 1 → ⊥) → r ≡ tieOf rows figures budgets m y a p s → (b : ℕ) → b ≤ m → Stepped (potIn rows figures budgets b m y) s r
+    step-tie q e b h t x S n j =
+        let P = potIn rows figures budgets b m y in
+        let R = S .rep n in
+        rw (look-lost b h t R ∙ several P t (taken P t) (ec ∙ ap length (of-set b h t R)) q j, e, taken-a, ep)
+        (ties.tied-stands rows figures budgets b m y (ready-at b h ok) t s R (S .wide ∙ n))

@@ -1,0 +1,169 @@
+-- Several bids taken that do not fit together: the arrays follow the trace. Assumes nothing.
+use Prim.Native.Nat.{ℕ, _≤_, _<_}
+use mathlib.Core.Path.{_≡_, refl, sym, ap, _∙_}
+use mathlib.Core.Bool.{Bool, true, false, not, _&&_}
+use mathlib.Core.List.{List, _∷_, map}
+use lib.ListN.{length, getD}
+use lib.Dec.{ltb}
+use borrow.Author.Tests.{ltb-false}
+use Rattle.rules.specs.Names.{becauseWon, downTied, widestTie}
+use Rattle.rules.specs.Lists.{pick, memb, sift, below}
+use Rattle.rules.specs.Pot.{Pot, Trace, winners, wideEnd, live, taken, remaining, choose, others, shared, tied}
+use Rattle.laws.specs.Lists.{case, clash, not-is-true, In, memb-in, sift-in, sift-same, sift-both}
+use Rattle.sets.specs.Sets.{built, members, without}
+use Rattle.sets.proofs.Arrays.{members-built}
+use Rattle.sheet.specs.Sheet.{potIn, Ready, rowYear, rowPrice}
+use Rattle.ties.specs.Ties.{basesOf, keepsOf, choiceOf}
+use Rattle.ties.proofs.Link as tie
+use Rattle.pot.specs.declared.PotState.{PotState}
+use Rattle.pot.specs.Marks.{lowestOf, winAll, turnAll, hungOf, widened, takenOf, sharedOf, restOf, choiceIn, tieOf}
+use Rattle.pot.specs.Rep.{hangs, Sizes, Rep, Stands}
+use Rattle.pot.proofs.Arrays.{win-sizes, win-reasons, win-won, win-opened, win-wide, turn-sizes, turn-reasons, turn-opened, turn-won, turn-prices, turn-wide}
+use Rattle.pot.proofs.Link as link
+use Rattle.pot.proofs.Link.{Did, rep-did, holds-rep}
+use Rattle.pot.proofs.Looks as looks
+use Rattle.pot.proofs.Looks.{not-won}
+
+module _ (rows figures budgets : List ℕ) (b m y : ℕ) (ok : Ready rows figures budgets b m y) where
+  abbrev P : Pot
+  P = potIn rows figures budgets b m y
+
+  module _ (t : Trace) (s : PotState) (R : Rep P t s) where
+    abbrev ws : List ℕ
+    ws = winners t
+
+    abbrev l : List ℕ
+    l = taken P t
+
+    abbrev p : ℕ
+    p = lowestOf rows s m
+
+    abbrev a : List Bool
+    a = takenOf rows m s
+
+    abbrev base : List ℕ
+    base = basesOf rows figures (s .reasons) (s .prices) p m y
+
+    abbrev rest : List Bool
+    rest = restOf rows figures budgets m y a p s
+
+    abbrev k : ℕ
+    k = length (members rest m)
+
+    sound : (i : ℕ) → In i l → (i < m) × (live P t i ≡ true) × (rowPrice rows i ≡ p) × In i (P .bids)
+    sound = looks.sound rows figures budgets b m y ok t s R
+
+    few : (i : ℕ) → In i l → i < 320
+    few = looks.few rows figures budgets b m y ok t s R
+
+    of-set : members a m ≡ l
+    of-set = looks.of-set rows figures budgets b m y ok t s R
+
+    at-price : (i : ℕ) → In i l → P .price i ≡ p
+    unfolding potIn
+    at-price i h = sound i h .2
+
+    new : (i : ℕ) → In i l → memb i ws ≡ false
+    new i h = not-won P t i (sound i h .1)
+
+    rest-is : rest ≡ built (keepsOf rows figures base budgets p y a) m
+    unfolding restOf
+    rest-is = refl
+
+    pub of-rest : members rest m ≡ remaining P ws l
+    of-rest =
+        tie.of-rest rows figures budgets b m y ok ws (s .reasons) (s .prices) (holds-rep R .marked) (R .sizes .prices) (R .price) p refl a l (of-set)
+        (link.taken-part rows figures budgets b m y ok t) at-price new rest rest-is
+
+    module _ (h : k ≤ 10) where
+      abbrev ch : List ℕ
+      ch = choose P ws l
+
+      abbrev w : List Bool
+      w = choiceIn rows figures budgets m y a p s
+
+      choice-is : w ≡ choiceOf rows figures base budgets rest k p m y
+      unfolding choiceIn
+      choice-is = refl
+
+      of-choice : members w m ≡ ch
+      of-choice =
+          tie.of-choice rows figures budgets b m y ok ws (s .reasons) (s .prices) (holds-rep R .marked) (R .sizes .prices) (R .price) p refl a l (of-set)
+          (link.taken-part rows figures budgets b m y ok t) at-price new rest rest-is refl h choice-is
+
+      in-w : (i : ℕ) → In i l → getD w i false ≡ memb i ch
+      in-w i j =
+          tie.choice-at rows figures budgets b m y ok ws (s .reasons) (s .prices) (holds-rep R .marked) (R .sizes .prices) (R .price) p refl a l (of-set)
+          (link.taken-part rows figures budgets b m y ok t) at-price new rest rest-is refl h choice-is i (sound i j .0)
+
+      in-choice : (i : ℕ) → In i ch → In i l
+      in-choice =
+          tie.chosen-among rows figures budgets b m y ok ws (s .reasons) (s .prices) (holds-rep R .marked) (R .sizes .prices) (R .price) p refl a l (of-set)
+          (link.taken-part rows figures budgets b m y ok t) at-price new rest rest-is refl h
+
+      abbrev out : List ℕ
+      out = others P l ch
+
+      of-others : members (built (without a w) m) m ≡ out
+      unfolding without
+      of-others =
+          members-built (without a w) m (ok .few)
+          ∙ sym (sift-both (λ i. not (getD w i false)) (λ i. getD a i false) (below m))
+          ∙ ap (sift (λ i. not (getD w i false))) (opened ∙ of-set)
+          ∙ sift-same (λ i. not (getD w i false)) (λ i. not (memb i ch)) l (λ i j. ap not (in-w i j))
+        where
+          opened : sift (λ i. getD a i false) (below m) ≡ members a m
+          opened = unfold members in refl
+
+      in-out : (i : ℕ) → In i out → In i l × (memb i ch ≡ false)
+      in-out i j = let z = sift-in i (λ c. not (memb c ch)) l j in (z .0, not-is-true (memb i ch) (z .1))
+
+      abbrev v : PotState
+      v = winAll rows p s ch
+
+      abbrev x : PotState
+      x = hungOf 4 (turnAll rows downTied v out)
+
+      sv : Sizes v
+      sv = win-sizes rows p s (R .sizes) ch
+
+      shared-did : Did P (shared P t l) s x
+      unfolding hungOf hangs potIn
+      shared-did = record {
+        sizes = let z = turn-sizes rows downTied v sv out in record { reasons = z .reasons; won = z .won; opened = z .opened; prices = z .prices };
+        reasons = λ i.
+            turn-reasons rows downTied v sv out i (λ c j. few c (in-out c j .0))
+            ∙ ap (pick (memb i out) downTied) (win-reasons rows p s (R .sizes) ch i (λ c j. few c (in-choice c j)))
+            ∙ swap i;
+        won = λ z j. ap (λ (q : List Bool). getD q z false) (turn-won rows downTied v sv out) ∙ win-won rows p s (R .sizes) ch z (λ c g. ok .app c (sound c (in-choice c g) .0));
+        opened = λ d j.
+            turn-opened rows downTied v sv out d (λ c g. ok .year c (sound c (in-out c g .0) .0))
+            ∙ ap (λ (q : List Bool). not (memb d (map (rowYear rows) out)) && getD q d false) (win-opened rows p s (R .sizes) ch);
+        prices = λ d j.
+            ap (λ (q : List ℕ). getD q d 0) (turn-prices rows downTied v sv out)
+            ∙ link.win-prices rows figures budgets b m y ok ws s (R .sizes) p ch d (λ c g. let z = sound c (in-choice c g) in (z .0, z .2));
+        hang = refl;
+      }
+        where
+          swap : (i : ℕ) → pick (memb i out) downTied (pick (memb i ch) becauseWon (getD (s .reasons) i 0)) ≡ pick (memb i ch) becauseWon (pick (memb i out) downTied (getD (s .reasons) i 0))
+          swap i = case (memb i out) (λ e. rw (e, in-out i (memb-in i out e) .1)) (λ e. rw e)
+
+      -- the arrays after a tie that is not too wide
+      shared-rep : Rep P (shared P t l ∷ t) (sharedOf rows m a w p s)
+      unfolding sharedOf
+      shared-rep =
+          rw (of-choice, of-others)
+          (rep-did P t (shared P t l) s x refl refl (λ i j. new i (in-out i j .0)) (λ i j. sound i (in-choice i j) .3) (λ i j. sound i (in-out i j .0) .3) R shared-did)
+
+      shared-wide : (sharedOf rows m a w p s) .wide ≡ s .wide
+      unfolding sharedOf hungOf
+      shared-wide = rw (of-choice) (turn-wide rows downTied v sv (members (built (without a w) m) m) ∙ win-wide rows p s (R .sizes) ch)
+
+    -- the arrays after any tie
+    pub tied-stands : s .wide ≡ false → Stands P (tied P t l ∷ t) (tieOf rows figures budgets m y a p s)
+    unfolding tied tieOf widened wideEnd
+    tied-stands n =
+        rw (← (ap length of-rest))
+        (case (ltb widestTie k)
+        (λ e. rw e (record { wide = refl; rep = λ f. clash refl f }))
+        (λ e. rw e (record { wide = shared-wide (ltb-false widestTie k e) ∙ n; rep = λ f. shared-rep (ltb-false widestTie k e) })))

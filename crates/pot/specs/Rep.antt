@@ -1,0 +1,44 @@
+-- What a pot's arrays stand for: a trace of crate rules. Assumes nothing.
+use Prim.Native.Nat.{ℕ, _<_, _≤_}
+use mathlib.Core.Path.{_≡_}
+use mathlib.Core.Bool.{Bool, true, false, not}
+use mathlib.Core.List.{List, [], _∷_, map}
+use lib.ListN.{length, getD}
+use lib.Dec.{eqb, ltb}
+use Rattle.rules.specs.Names.{noPrice, noReason, becauseWon}
+use Rattle.rules.specs.Lists.{pick, memb}
+use Rattle.rules.specs.Pot.{Pot, Trace, winners, seen, closed, hanging, wideEnd, mark, priceFrom, taken, look}
+use Rattle.laws.specs.Lists.{In}
+use Rattle.pot.specs.declared.PotState.{PotState}
+use Rattle.pot.specs.Marks.{notHere, noYear}
+
+-- the year that hangs, as the trace has it
+unfoldable pub hangs : ℕ → List ℕ
+hangs h = pick (ltb h noYear) (h ∷ []) []
+
+pub record Sizes (s : PotState) : Type 0 where
+  pub reasons : length (s .reasons) ≡ 320
+  pub won : length (s .won) ≡ 64
+  pub opened : length (s .opened) ≡ 4
+  pub prices : length (s .prices) ≡ 4
+
+-- The arrays s stand for the trace t
+pub record Rep (P : Pot) (t : Trace) (s : PotState) : Type 0 where
+  pub sizes : Sizes s
+  pub other : (b : ℕ) → b < 320 → memb b (P .bids) ≡ false → getD (s .reasons) b 0 ≡ notHere
+  pub why : (b : ℕ) → In b (P .bids) → getD (s .reasons) b 0 ≡ mark t b
+  pub one : (b : ℕ) → In b (P .bids) → eqb (getD (s .reasons) b 0) becauseWon ≡ memb b (winners t)
+  pub fresh : (b : ℕ) → In b (P .bids) → eqb (getD (s .reasons) b 0) noReason ≡ not (memb b (seen t))
+  pub has : (a : ℕ) → a < 64 → getD (s .won) a false ≡ memb a (map (P .app) (winners t))
+  pub free : (d : ℕ) → d < 4 → getD (s .opened) d false ≡ not (memb d (closed t))
+  pub price : (d : ℕ) → d < 4 → getD (s .prices) d 0 ≡ priceFrom P noPrice (winners t) d
+  pub hang : hanging t ≡ hangs (s .hang)
+
+-- .. or say that a tie was too wide, and then no more than that
+pub record Stands (P : Pot) (t : Trace) (s : PotState) : Type 0 where
+  pub wide : s .wide ≡ wideEnd t
+  pub rep : wideEnd t ≡ false → Rep P t s
+
+-- The arrays r are one step on from s: whatever trace with a bid to look at s stands for, r stands for it with that look in front
+abbrev pub Stepped : Pot → PotState → PotState → Type 0
+Stepped P s r = (t : Trace) (x : ℕ) → Stands P t s → wideEnd t ≡ false → In x (taken P t) → Stands P (look P t (taken P t) ∷ t) r

@@ -1,0 +1,58 @@
+// Sets of bids, as arrays with a place for each bid by number. specs/Sets.antt says what each function computes.
+ghost use mathlib.Core.Path.{_≡_};
+ghost use mathlib.Core.Bool.{not, _&&_};
+ghost use Prim.Native.Nat.{_≤_, _<_};
+ghost use lib.ListN.{length};
+ghost use Rattle.sets.specs.Sets.{built, members, headOr, without};
+
+// How many bids a set has.
+pub fn count(set: [bool; 320], m: usize) -> usize
+    requires { ⌜ m ≤ 320 ⌝ }
+    ensures { λ r. ⌜ r ≡ length (members set m) ⌝ }
+{
+    let mut k: usize = 0;
+    let mut i: usize = 0;
+    while i < m {
+        if set[i] {
+            k += 1;
+        }
+        i += 1;
+    }
+    k
+}
+
+// The last bid of a set.
+pub fn last(set: [bool; 320], m: usize) -> usize
+    requires { ⌜ (m ≤ 320) × (0 < m) ⌝ }
+    ensures { λ r. ⌜ (r ≡ headOr 0 (members set m)) × (r < m) ⌝ }
+{
+    let mut j: usize = 0;
+    let mut i: usize = 0;
+    while i < m {
+        if set[i] {
+            j = i;
+        }
+        i += 1;
+    }
+    j
+}
+
+fn stays(of: bool, out: bool) -> bool
+    ensures { λ r. ⌜ r ≡ (of && not out) ⌝ }
+{
+    if of { !out } else { false }
+}
+
+// A set without the bids of another.
+pub fn others(set: [bool; 320], a: [bool; 320], m: usize) -> [bool; 320]
+    requires { ⌜ m ≤ 320 ⌝ }
+    ensures { λ r. ⌜ r ≡ built (without set a) m ⌝ }
+{
+    let mut out = [false; 320];
+    let mut i: usize = 0;
+    while i < m {
+        out[i] = stays(set[i], a[i]);
+        i += 1;
+    }
+    out
+}

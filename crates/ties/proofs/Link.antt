@@ -1,0 +1,403 @@
+-- From the arrays of a tie to the rules: what fits alone, what a combination comes to, and which is chosen. Assumes nothing.
+use Prim.Native.Nat.{ℕ, zero, suc, _+_, _-_, _*_, _/_, _%_, _^_, _≤_, _<_}
+use mathlib.Core.Path.{_≡_, refl, sym, ap, ap₂, _∙_}
+use mathlib.Core.Bool.{Bool, true, false, _&&_, _||_}
+use mathlib.Core.Logic.{⊎-elim}
+use mathlib.Core.List.{List, [], _∷_, _++_, map}
+use native.Mathlib.Omega.{arith}
+use lib.ListN.{length, getD, set, length-set}
+use lib.Dec.{eqb, ltb}
+use borrow.Author.Tests.{eqb-true, eqb-false, eq-eqb, ne-eqb, lt-ltb}
+use Rattle.rules.specs.Names.{noPrice}
+use Rattle.rules.specs.Lists.{pick, memb, keep, sift, below, sum}
+use Rattle.rules.specs.Pot.{Pot, has, best, value, priceFrom, clearing, tally, total, within, fits, remaining, rank, combination, chosen, choose}
+use Rattle.laws.specs.Lists.{case, clash, and-true, In, here, there, memb-in, in-memb, in-one, in-map, in-sift, sift-in, sift-same, sift-both, memb-join, in-below, below-in}
+use Rattle.laws.specs.Bits.{has-none, add-lt, add-adds, add-other}
+use Rattle.laws.specs.Tie.{tally-same, best-same, combination-in}
+use Rattle.sets.specs.Sets.{fill, none, built, members}
+use Rattle.sets.proofs.Arrays.{put-is, at-start, fill-at, members-built}
+use Rattle.sheet.specs.Sheet.{potIn, Ready, inAuction, rowYear, rowPrice, rowDraw}
+use Rattle.totals.specs.Totals.{Valued, worthOf, totalOf, fitsTo}
+use Rattle.totals.proofs.Link as link
+use Rattle.totals.proofs.Link.{Marked}
+use Rattle.ties.specs.Ties.{raisedTo, baseAt, noBase, basesOf, aloneTotal, aloneFits, keepsOf, listed, compactOf, aboveOf, rankOf, ranksOf, startOf, startsOf, ownAt, noOwn, ownsOf, Numbers, touchOf, touchedOf, maskTotal, figure, okMask, lastMask, bestMask, combinationOf, choiceAt, choiceOf}
+use Rattle.ties.proofs.Laws.{pow-low}
+use Rattle.ties.proofs.Lists.{listed-is, numbers, rank-at, start-at, in-listed}
+use Rattle.ties.proofs.Sums.{sum-same, price-won, price-one, tally-split, tally-sum, Part, part-sift, part-in}
+
+-- ---- a row of prices that is raised
+raised-length : (prices : List ℕ) (p t n : ℕ) → length (raisedTo prices p t n) ≡ length prices
+unfolding raisedTo
+raised-length prices p t zero = refl
+raised-length prices p t (suc n) = case (has t n) (λ e. rw e (length-set (raisedTo prices p t n) n p ∙ raised-length prices p t n)) (λ f. rw f (raised-length prices p t n))
+
+raised-past : (prices : List ℕ) (p t n d : ℕ) → n ≤ d → n ≤ length prices → getD (raisedTo prices p t n) d 0 ≡ getD prices d 0
+unfolding raisedTo
+raised-past prices p t zero d h g = refl
+raised-past prices p t (suc n) d h g =
+    let r = raised-past prices p t n d (omega arith) (omega arith) in
+    case (has t n)
+    (λ e. rw e (put-is (raisedTo prices p t n) n d p 0 (omega (arith, raised-length prices p t n)) ∙ rw (ne-eqb d n (λ q. let z : ⊥ = omega arith in z)) r))
+    (λ f. rw f r)
+
+raised-at : (prices : List ℕ) (p t n d : ℕ) → d < n → n ≤ length prices → getD (raisedTo prices p t n) d 0 ≡ pick (has t d) p (getD prices d 0)
+unfolding raisedTo
+raised-at prices p t zero d h g = absurd (omega arith)
+raised-at prices p t (suc n) d h g =
+    case (eqb d n)
+    (λ q. let u = eqb-true d n q in
+    case (has t n)
+    (λ e. rw (e, u) (put-is (raisedTo prices p t n) n n p 0 (omega (arith, raised-length prices p t n)) ∙ rw (eq-eqb n n refl, e)))
+    (λ f. rw (f, u, f) (raised-past prices p t n n (omega arith) (omega arith))))
+    (λ q. let u = eqb-false d n q in
+    let r = raised-at prices p t n d (omega arith) (omega arith) in
+    case (has t n)
+    (λ e. rw e (put-is (raisedTo prices p t n) n d p 0 (omega (arith, raised-length prices p t n)) ∙ rw q r))
+    (λ f. rw f r))
+
+-- ---- sets of delivery years
+one-year : (d e : ℕ) → has (2 ^ d) e ≡ (eqb e d || false)
+one-year d e =
+    case (eqb e d)
+    (λ t. rw (t, eqb-true e d t) (ap (λ (x : ℕ). has x d) zero-add ∙ add-adds 0 d (has-none d)))
+    (λ f. rw f (ap (λ (x : ℕ). has x e) zero-add ∙ add-other 0 d e (has-none d) (eqb-false e d f) ∙ has-none e))
+  where
+    zero-add : {x : ℕ} → x ≡ 0 + x
+    zero-add = omega arith
+
+touch-has : (t d e : ℕ) → has (touchOf t d) e ≡ (eqb e d || has t e)
+unfolding touchOf
+touch-has t d e =
+    case (has t d)
+    (λ u. rw u (case (eqb e d) (λ q. rw (q, eqb-true e d q, u)) (λ q. rw q)))
+    (λ u. rw u (case (eqb e d) (λ q. rw (q, eqb-true e d q) (add-adds t d u)) (λ q. rw q (add-other t d e u (eqb-false e d q)))))
+
+touch-low : (t d : ℕ) → t < 16 → d < 4 → touchOf t d < 16
+unfolding touchOf
+touch-low t d h g = case (has t d) (λ u. rw u h) (λ u. rw u (add-lt t d 4 u g h))
+
+module _ (rows figures budgets : List ℕ) (b m y : ℕ) (ok : Ready rows figures budgets b m y) where
+  abbrev P : Pot
+  P = potIn rows figures budgets b m y
+
+  -- a bid of the pot is a part of it
+  pub part-one : (i : ℕ) → In i (P .bids) → Part P (i ∷ [])
+  part-one i h = record {
+    part =
+        opened
+        ∙ sift-same (λ k. inAuction rows k && memb k (i ∷ [])) (λ k. eqb k i) (below m) (λ k j. alike k)
+        ∙ one m (link.bid-lt rows figures budgets b m y ok i h);
+  }
+    where
+      opened : sift (λ k. memb k (i ∷ [])) (P .bids) ≡ sift (λ k. inAuction rows k && memb k (i ∷ [])) (below m)
+      opened = unfold potIn in sift-both (λ k. memb k (i ∷ [])) (inAuction rows) (below m)
+
+      alike : (k : ℕ) → (inAuction rows k && memb k (i ∷ [])) ≡ eqb k i
+      alike k = case (eqb k i) (λ t. rw (t, eqb-true k i t, link.bid-in rows figures budgets b m y ok i h)) (λ f. rw f (no (inAuction rows k)))
+        where
+          no : (t : Bool) → (t && false) ≡ false
+          no true = refl
+          no false = refl
+
+      past : (n : ℕ) → n ≤ i → sift (λ k. eqb k i) (below n) ≡ []
+      past zero g = refl
+      past (suc n) g = rw (ne-eqb n i (λ e. let z : ⊥ = omega arith in z)) (past n (omega arith))
+
+      one : (n : ℕ) → i < n → sift (λ k. eqb k i) (below n) ≡ i ∷ []
+      one zero g = absurd (omega arith)
+      one (suc n) g =
+          case (eqb n i)
+          (λ t. rw (t, eqb-true n i t) (ap (λ (s : List ℕ). i ∷ s) (past i (omega arith))))
+          (λ f. rw f (one n (let d = eqb-false n i f in omega arith)))
+
+  -- the members of a set that has the bids of a part
+  pub part-members : (c : List ℕ) (s : List Bool) → Part P c → ((i : ℕ) → i < m → getD s i false ≡ memb i c) → members s m ≡ c
+  part-members c s Q h =
+      opened
+      ∙ sift-same (λ i. getD s i false) (λ i. inAuction rows i && memb i c) (below m) (λ i j. h i (below-in i m j) ∙ alike i)
+      ∙ sym (sift-both (λ i. memb i c) (inAuction rows) (below m)) ∙ closed
+    where
+      opened : members s m ≡ sift (λ i. getD s i false) (below m)
+      opened = unfold members in refl
+
+      closed : sift (λ i. memb i c) (sift (inAuction rows) (below m)) ≡ c
+      closed = unfold potIn in (Q .part)
+
+      alike : (i : ℕ) → memb i c ≡ (inAuction rows i && memb i c)
+      alike i = case (memb i c) (λ t. rw (t, link.bid-in rows figures budgets b m y ok i (part-in P i Q (memb-in i c t)))) (λ f. rw f (no (inAuction rows i)))
+        where
+          no : (t : Bool) → false ≡ (t && false)
+          no true = refl
+          no false = refl
+
+  -- ---- the winners ws, as marks and a row of prices, and bids at price p that are tried on top of them
+  module _ (ws marks prices : List ℕ) (M : Marked P ws marks) (size : length prices ≡ 4) (at : (d : ℕ) → d < 4 → getD prices d 0 ≡ priceFrom P noPrice ws d) (p : ℕ) {base : List ℕ} (eb : base ≡ basesOf rows figures marks prices p m y) where
+    -- the clearing prices where p is that of the years t
+    abbrev over : ℕ → ℕ → ℕ
+    over t d = pick (has t d) p (clearing P ws d)
+
+    start : (i : ℕ) → In i (P .bids) → rowYear rows i < 4
+    start i h = ok .year i (link.bid-lt rows figures budgets b m y ok i h)
+
+    row-at : (t z : ℕ) → t < 16 → z < y → getD base (t * 8 + z) 0 ≡ totalOf rows figures marks (raisedTo prices p t 4) z m
+    unfolding noBase baseAt
+    row-at t z h g =
+        ap (λ (l : List ℕ). getD l (t * 8 + z) 0) eb ∙ fill-at noBase (baseAt rows figures marks prices p m y) 128 (t * 8 + z) 0 (omega arith) (omega (arith, ok .years))
+        ∙ rw (over8, by8, lt-ltb z y g)
+      where
+        over8 : (t * 8 + z) % 8 ≡ z
+        over8 = omega (arith, ok .years)
+
+        by8 : (t * 8 + z) / 8 ≡ t
+        by8 = omega (arith, ok .years)
+
+    base-is : (t z : ℕ) → t < 16 → z < y → getD base (t * 8 + z) 0 ≡ tally P (value P) (λ i. memb i ws) (over t) z (P .bids)
+    base-is t z h g =
+        row-at t z h g
+        ∙ link.total-at rows figures budgets b m y ok ws marks (raisedTo prices p t 4) M (over t) same z g
+      where
+        same : (i : ℕ) → In i (P .bids) → memb i ws ≡ true → getD (raisedTo prices p t 4) (rowYear rows i) 0 ≡ over t (rowYear rows i)
+        same i j w =
+            raised-at prices p t 4 (rowYear rows i) (start i j) (omega (arith, size))
+            ∙ ap (pick (has t (rowYear rows i)) p) (at (rowYear rows i) (start i j) ∙ opened (price-won P noPrice i ws (memb-in i ws w)))
+          where
+            opened : priceFrom P noPrice ws (P .yr i) ≡ clearing P ws (P .yr i) → priceFrom P noPrice ws (rowYear rows i) ≡ clearing P ws (rowYear rows i)
+            opened e = unfold potIn in e
+
+    -- bids at price p that have not won, and the years in which they start
+    pub record Tried (c : List ℕ) (t : ℕ) : Type 0 where
+      pub part : Part P c
+      pub price : (i : ℕ) → In i c → P .price i ≡ p
+      pub fresh : (i : ℕ) → In i c → memb i ws ≡ false
+      pub low : t < 16
+      pub years : (d : ℕ) → d < 4 → has t d ≡ memb d (map (P .yr) c)
+
+    pub joined : (c : List ℕ) (t z : ℕ) → Tried c t → z < y → getD base (t * 8 + z) 0 + sum (λ i. worthOf rows figures i p z) c ≡ total P (c ++ ws) z
+    joined c t z T g = sym (
+        tally-same P (value P) (λ i. memb i (c ++ ws)) (λ i. memb i c || memb i ws) (clearing P (c ++ ws)) (over t) z (P .bids) (λ i j. memb-join i c ws) (λ i j u. price i j)
+        ∙ tally-split P (value P) (λ i. memb i c) (λ i. memb i ws) (over t) z (P .bids) (λ i j u. T .fresh i (memb-in i c u))
+        ∙ ap₂ _+_ (sym (base-is t z (T .low) g)) (tally-sum P (value P) (λ i. memb i c) (over t) z (P .bids) ∙ ap (sum (λ i. value P i (over t (P .yr i)) z)) (T .part .part) ∙ sum-same (λ i. value P i (over t (P .yr i)) z) (λ i. worthOf rows figures i p z) c own)
+        )
+      where
+        years : (i : ℕ) → In i (P .bids) → has t (P .yr i) ≡ memb (P .yr i) (map (P .yr) c)
+        years i j = T .years (P .yr i) (low (start i j))
+          where
+            low : rowYear rows i < 4 → P .yr i < 4
+            low h = unfold potIn in h
+
+        price : (i : ℕ) → In i (P .bids) → clearing P (c ++ ws) (P .yr i) ≡ over t (P .yr i)
+        price i j = price-one P 0 p c ws (P .yr i) (T .price) ∙ ap (λ (u : Bool). pick u p (clearing P ws (P .yr i))) (sym (years i j))
+
+        own : (i : ℕ) → In i c → value P i (over t (P .yr i)) z ≡ worthOf rows figures i p z
+        own i j = rw (years i (part-in P i (T .part) j), in-memb (in-map (P .yr) j)) (link.value-is rows figures budgets b m y ok i p z g)
+
+    -- ---- what fits alone
+    module _ (a : List Bool) (l : List ℕ) (of-set : members a m ≡ l) (Q : Part P l) (pl : (i : ℕ) → In i l → P .price i ≡ p) (fl : (i : ℕ) → In i l → memb i ws ≡ false) where
+      alone-is : (i z : ℕ) → In i l → z < y → aloneTotal rows figures base p i z ≡ total P (i ∷ ws) z
+      unfolding aloneTotal
+      alone-is i z j g = omega (arith, plus) ∙ joined (i ∷ []) (2 ^ rowYear rows i) z tried g
+        where
+          plus : sum (λ i. worthOf rows figures i p z) (i ∷ []) ≡ worthOf rows figures i p z + 0
+          plus = unfold sum in refl
+
+          tried : Tried (i ∷ []) (2 ^ rowYear rows i)
+          tried = record {
+            part = part-one i (part-in P i Q j);
+            price = λ h q. rw (in-one q) (pl i j);
+            fresh = λ h q. rw (in-one q) (fl i j);
+            low = omega (arith, pow-low (rowYear rows i) (start i (part-in P i Q j)));
+            years = λ d h. one-year (rowYear rows i) d ∙ opened d;
+          }
+            where
+              opened : (d : ℕ) → (eqb d (rowYear rows i) || false) ≡ (eqb d (P .yr i) || false)
+              opened d = unfold potIn in refl
+
+      alone-fits : (i : ℕ) → In i l → aloneFits rows figures base budgets p i y ≡ fits P (i ∷ ws)
+      alone-fits i j = link.fits-is rows figures budgets b m y ok (aloneTotal rows figures base p i) (total P (i ∷ ws)) y (omega arith) (λ z h. alone-is i z j h) ∙ opened
+        where
+          opened : within P (total P (i ∷ ws)) y ≡ fits P (i ∷ ws)
+          opened = unfold potIn in refl
+
+      module _ (s : List Bool) (es : s ≡ built (keepsOf rows figures base budgets p y a) m) where
+        abbrev r : List ℕ
+        r = remaining P ws l
+
+        pub of-rest : members s m ≡ r
+        unfolding keepsOf remaining
+        of-rest =
+            ap (λ (x : List Bool). members x m) es ∙ members-built (keepsOf rows figures base budgets p y a) m (ok .few)
+            ∙ sym (sift-both (λ i. aloneFits rows figures base budgets p i y) (λ i. getD a i false) (below m))
+            ∙ ap (sift (λ i. aloneFits rows figures base budgets p i y)) (opened ∙ of-set)
+            ∙ sift-same (λ i. aloneFits rows figures base budgets p i y) (λ c. fits P (c ∷ ws)) l alone-fits
+          where
+            opened : sift (λ i. getD a i false) (below m) ≡ members a m
+            opened = unfold members in refl
+
+        among : (i : ℕ) → In i r → In i l
+        unfolding remaining
+        among i j = sift-in i (λ c. fits P (c ∷ ws)) l j .0
+
+        part-r : Part P r
+        unfolding remaining
+        part-r = part-sift P (λ c. fits P (c ∷ ws)) Q
+
+        -- ---- combinations of the k bids that remain
+        module _ {k : ℕ} (ek : k ≡ length (members s m)) (few : k ≤ 10) where
+          abbrev list : List ℕ
+          list = compactOf s m
+
+          abbrev ranks : List ℕ
+          ranks = ranksOf rows list k
+
+          abbrev starts : List ℕ
+          starts = startsOf rows list k
+
+          abbrev own : List ℕ
+          own = ownsOf rows figures list p k y
+
+          in-list : listed list k ≡ r
+          in-list = listed-is s m ek few refl ∙ of-rest
+
+          N : Numbers list k m
+          N = numbers s m ek few refl
+
+          valued : Valued rows figures m y
+          valued = link.valued rows figures budgets b m y ok
+
+          rank-is : (j : ℕ) → j < k → getD ranks j 0 ≡ rank P r (getD list j 0)
+          unfolding rank rankOf aboveOf potIn
+          rank-is j g = rank-at rows figures list p k m y valued N few j g ∙ ap (λ (x : List ℕ). length (sift (λ c. ltb (rowDraw rows (getD list j 0)) (rowDraw rows c)) x)) in-list
+
+          start-is : (j : ℕ) → j < k → getD starts j 0 ≡ P .yr (getD list j 0)
+          unfolding startOf potIn
+          start-is j g = start-at rows figures list p k m y valued N few j g
+
+          own-is : (j z : ℕ) → j < k → z < y → getD own (j * 8 + z) 0 ≡ worthOf rows figures (getD list j 0) p z
+          unfolding noOwn ownAt
+          own-is j z g h =
+              fill-at noOwn (ownAt rows figures list p y) (k * 8) (j * 8 + z) 0 (omega arith) (omega (arith, ok .years)) ∙ rw (over8, by8, lt-ltb z y h)
+            where
+              over8 : (j * 8 + z) % 8 ≡ z
+              over8 = omega (arith, ok .years)
+
+              by8 : (j * 8 + z) / 8 ≡ j
+              by8 = omega (arith, ok .years)
+
+          module _ (mask : ℕ) where
+            abbrev sel : ℕ → Bool
+            sel i = has mask (rank P r i)
+
+            sel-is : (j : ℕ) → j < k → has mask (getD ranks j 0) ≡ sel (getD list j 0)
+            sel-is j g = ap (has mask) (rank-is j g)
+
+            touched-is : (n : ℕ) → n ≤ k → (touchedOf ranks starts mask n < 16) × ((d : ℕ) → d < 4 → has (touchedOf ranks starts mask n) d ≡ memb d (map (P .yr) (sift sel (listed list n))))
+            unfolding touchedOf listed
+            touched-is zero h = (omega arith, λ d g. has-none d)
+            touched-is (suc n) h =
+                let ih = touched-is n (omega arith) in
+                case (sel (getD list n 0))
+                (λ u. rw (sel-is n h ∙ u, u) (
+                  touch-low (touchedOf ranks starts mask n) (getD starts n 0) (ih .0) (rw (start-is n h) (low n h)),
+                  λ d g. touch-has (touchedOf ranks starts mask n) (getD starts n 0) d ∙ rw (start-is n h, ih .1 d g),
+                ))
+                (λ u. rw (sel-is n h ∙ u, u) ih)
+              where
+                low : (n : ℕ) → n < k → P .yr (getD list n 0) < 4
+                low n g = unfold potIn in ok .year (getD list n 0) (N .small n g)
+
+            sum-is : (t z n : ℕ) → n ≤ k → z < y → maskTotal base own ranks mask t z n ≡ getD base (t * 8 + z) 0 + sum (λ i. worthOf rows figures i p z) (sift sel (listed list n))
+            unfolding maskTotal listed sum
+            sum-is t z zero h g = omega arith
+            sum-is t z (suc n) h g =
+                let ih = sum-is t z n (omega arith) g in
+                case (sel (getD list n 0))
+                (λ u. rw (sel-is n h ∙ u, u, own-is n z h g, ih) (omega arith))
+                (λ u. rw (sel-is n h ∙ u, u, ih) (omega arith))
+
+            set-size : (n : ℕ) → length (combinationOf list ranks mask n) ≡ 320
+            unfolding combinationOf none
+            set-size zero = refl
+            set-size (suc n) = case (has mask (getD ranks n 0)) (λ u. rw u (length-set (combinationOf list ranks mask n) (getD list n 0) true ∙ set-size n)) (λ u. rw u (set-size n))
+
+            set-is : (n i : ℕ) → n ≤ k → i < m → getD (combinationOf list ranks mask n) i false ≡ memb i (sift sel (listed list n))
+            unfolding combinationOf listed none
+            set-is zero i h g = at-start 320 i false false (omega (arith, ok .few))
+            set-is (suc n) i h g =
+                let ih = set-is n i (omega arith) g in
+                case (sel (getD list n 0))
+                (λ u. rw (sel-is n h ∙ u, u) (
+                put-is (combinationOf list ranks mask n) (getD list n 0) i true false (omega (arith, set-size n, N .small n h, ok .few))
+                ∙ case (eqb i (getD list n 0)) (λ q. rw q) (λ q. rw q ih)
+                ))
+                (λ u. rw (sel-is n h ∙ u, u) ih)
+
+            abbrev cs : List ℕ
+            cs = combination P r mask
+
+            of-com : sift sel (listed list k) ≡ cs
+            unfolding combination
+            of-com = ap (sift sel) in-list
+
+            part-com : Part P cs
+            unfolding combination
+            part-com = part-sift P sel part-r
+
+            in-com : (i : ℕ) → In i cs → In i l
+            in-com i j = among i (combination-in P i mask r j)
+
+            abbrev years : ℕ
+            years = touchedOf ranks starts mask k
+
+            tried : Tried cs years
+            tried =
+                let z = touched-is k (omega arith) in
+                record {
+                  part = part-com;
+                  price = λ i j. pl i (in-com i j);
+                  fresh = λ i j. fl i (in-com i j);
+                  low = z .0;
+                  years = λ d g. z .1 d g ∙ ap (λ (x : List ℕ). memb d (map (P .yr) x)) of-com;
+                }
+
+            figure-is : (z : ℕ) → z < y → figure base own ranks k mask years z ≡ total P (cs ++ ws) z
+            unfolding figure
+            figure-is z g = sum-is years z k (omega arith) g ∙ ap (λ (x : List ℕ). getD base (years * 8 + z) 0 + sum (λ i. worthOf rows figures i p z) x) of-com ∙ joined cs years z tried g
+
+            ok-is : okMask base own ranks starts budgets k y mask ≡ fits P (cs ++ ws)
+            unfolding okMask
+            ok-is = link.fits-is rows figures budgets b m y ok (figure base own ranks k mask years) (total P (cs ++ ws)) y (omega arith) figure-is ∙ opened
+              where
+                opened : within P (total P (cs ++ ws)) y ≡ fits P (cs ++ ws)
+                opened = unfold potIn in refl
+
+            last-is : lastMask base own ranks starts k y mask ≡ total P (cs ++ ws) (P .years - 1)
+            unfolding lastMask
+            last-is = figure-is (y - 1) (omega (arith, ok .some)) ∙ opened
+              where
+                opened : total P (cs ++ ws) (y - 1) ≡ total P (cs ++ ws) (P .years - 1)
+                opened = unfold potIn in refl
+
+            of-set-com : members (combinationOf list ranks mask k) m ≡ cs
+            of-set-com = part-members cs (combinationOf list ranks mask k) part-com (λ i g. set-is k i (omega arith) g ∙ ap (memb i) of-com)
+
+          -- the number of the best combination
+          best-is : bestMask base own ranks starts budgets k y ≡ best (λ x. fits P (combination P r x ++ ws)) (λ x. total P (combination P r x ++ ws) (P .years - 1)) (2 ^ length r)
+          unfolding bestMask
+          best-is =
+              best-same (okMask base own ranks starts budgets k y) (λ x. fits P (combination P r x ++ ws)) (lastMask base own ranks starts k y) (λ x. total P (combination P r x ++ ws) (P .years - 1)) (2 ^ k) ok-is last-is
+              ∙ ap (λ (n : ℕ). best (λ x. fits P (combination P r x ++ ws)) (λ x. total P (combination P r x ++ ws) (P .years - 1)) (2 ^ n)) (ek ∙ ap length of-rest)
+
+          pub of-choice : {w : List Bool} → w ≡ choiceOf rows figures base budgets s k p m y → members w m ≡ choose P ws l
+          unfolding choiceOf choiceAt choose chosen
+          of-choice ew = ap (λ (x : List Bool). members x m) ew ∙ of-set-com (bestMask base own ranks starts budgets k y) ∙ ap (combination P r) best-is
+
+          -- the chosen bids as a set
+          pub choice-at : {w : List Bool} → w ≡ choiceOf rows figures base budgets s k p m y → (i : ℕ) → i < m → getD w i false ≡ memb i (choose P ws l)
+          unfolding choiceOf choiceAt choose chosen
+          choice-at ew i g =
+              ap (λ (x : List Bool). getD x i false) ew ∙ set-is (bestMask base own ranks starts budgets k y) k i (omega arith) g
+              ∙ ap (memb i) (of-com (bestMask base own ranks starts budgets k y) ∙ ap (combination P r) best-is)
+
+          pub chosen-among : (i : ℕ) → In i (choose P ws l) → In i l
+          unfolding choose chosen
+          chosen-among i j = in-com (best (λ x. fits P (combination P r x ++ ws)) (λ x. total P (combination P r x ++ ws) (P .years - 1)) (2 ^ length r)) i j

@@ -1,0 +1,41 @@
+-- `ties::choose` meets its contract.
+use borrow.Author.Needs.{needs}
+use native.Mathlib.Omega.{arith}
+use Rattle.ties.proofs.Laws.{choice-is}
+use Rattle.ties.proofs.Lists.{numbers, numbers-more, placed, summed}
+use Rattle.ties.proofs.choose.Statement.{statement}
+use Rattle.ties.proofs.choose.Tie as tie
+
+compact-requires : tie.Need-compact-requires
+compact-requires c κs = (c .before .before .before .before .pre .0 .0 .checked .few, omega (arith, c .before .before .before .before .pre .1 .0, c .before .before .before .before .pre .1 .1))
+
+ranks-requires : tie.Need-ranks-requires
+ranks-requires c κs = ((numbers _ _ (c .before .before .before .before .before .before .pre .1 .0) (c .before .before .before .before .before .before .pre .1 .1) (c .before .compact .ensures)), c .before .before .before .before .before .before .pre .0 .0 .checked .rows-whole, c .before .before .before .before .before .before .pre .1 .1)
+
+starts-requires : tie.Need-starts-requires
+starts-requires c κs = ((numbers _ _ (c .before .before .before .before .before .before .before .before .pre .1 .0) (c .before .before .before .before .before .before .before .before .pre .1 .1) (c .before .before .before .compact .ensures)), c .before .before .before .before .before .before .before .before .pre .0 .0 .checked, c .before .before .before .before .before .before .before .before .pre .1 .1)
+
+owns-requires : tie.Need-owns-requires
+owns-requires c κs = (c .before .before .before .before .before .before .before .before .before .before .pre .0 .0, (numbers _ _ (c .before .before .before .before .before .before .before .before .before .before .pre .1 .0) (c .before .before .before .before .before .before .before .before .before .before .pre .1 .1) (c .before .before .before .before .before .compact .ensures)), c .before .before .before .before .before .before .before .before .before .before .pre .1 .1)
+
+best-mask-requires : tie.Need-best-mask-requires
+best-mask-requires c κs = (
+  summed _ _ _ _ _ _ _ (c .before .before .before .before .before .before .before .before .before .before .before .before .before .before .pre .0 .0) (numbers _ _ (c .before .before .before .before .before .before .before .before .before .before .before .before .before .before .pre .1 .0) (c .before .before .before .before .before .before .before .before .before .before .before .before .before .before .pre .1 .1) (c .before .before .before .before .before .before .before .before .before .compact .ensures)) (c .before .before .before .before .before .before .before .before .before .before .before .before .before .before .pre .1 .1) (c .before .before .before .before .before .before .before .before .before .before .before .before .before .before .pre .0 .1) (c .before .before .before .owns .ensures) (c .before .before .before .before .before .before .before .ranks .ensures),
+  placed _ _ _ (c .before .before .before .before .before .before .before .before .before .before .before .before .before .before .args .p) _ _ _ (c .before .before .before .before .before .before .before .before .before .before .before .before .before .before .pre .0 .0) (numbers _ _ (c .before .before .before .before .before .before .before .before .before .before .before .before .before .before .pre .1 .0) (c .before .before .before .before .before .before .before .before .before .before .before .before .before .before .pre .1 .1) (c .before .before .before .before .before .before .before .before .before .compact .ensures)) (c .before .before .before .before .before .before .before .before .before .before .before .before .before .before .pre .1 .1) (c .before .before .before .before .before .before .before .ranks .ensures) (c .before .before .before .before .before .starts .ensures),
+  c .before .before .before .before .before .before .before .before .before .before .before .before .before .before .pre .0 .2,
+  c .before .before .before .before .before .before .before .before .before .before .before .before .before .before .pre .0 .0 .years,
+  c .before .before .before .before .before .before .before .before .before .before .before .before .before .before .pre .0 .3,
+)
+
+combination-requires : tie.Need-combination-requires
+combination-requires c κs =
+    let q = placed _ _ _ (c .before .before .before .before .before .before .before .before .before .before .before .before .before .before .before .before .before .args .p) _ _ _ (c .before .before .before .before .before .before .before .before .before .before .before .before .before .before .before .before .before .pre .0 .0) (numbers _ _ (c .before .before .before .before .before .before .before .before .before .before .before .before .before .before .before .before .before .pre .1 .0) (c .before .before .before .before .before .before .before .before .before .before .before .before .before .before .before .before .before .pre .1 .1) (c .before .before .before .before .before .before .before .before .before .before .before .before .compact .ensures)) (c .before .before .before .before .before .before .before .before .before .before .before .before .before .before .before .before .before .pre .1 .1) (c .before .before .before .before .before .before .before .before .before .before .ranks .ensures) (c .before .before .before .before .before .before .before .before .starts .ensures) in
+    (numbers-more 320 (c .before .before .before .before .before .before .before .before .before .before .before .before .before .before .before .before .before .pre .0 .0 .checked .few) (numbers _ _ (c .before .before .before .before .before .before .before .before .before .before .before .before .before .before .before .before .before .pre .1 .0) (c .before .before .before .before .before .before .before .before .before .before .before .before .before .before .before .before .before .pre .1 .1) (c .before .before .before .before .before .before .before .before .before .before .before .before .compact .ensures)), q .ranks-in, q .ranks-small)
+
+returns : tie.Need-returns
+returns c = choice-is _ _ _ _ _ _ _ _ _ (c .before .before .before .before .before .before .before .before .before .before .before .before .before .compact .ensures) (c .before .before .before .before .before .before .before .before .before .before .before .ranks .ensures) (c .before .before .before .before .before .before .before .before .before .starts .ensures) (c .before .before .before .before .before .before .before .owns .ensures) (c .before .before .before .best-mask .ensures) (c .combination .ensures)
+
+pub choose-spec : {M : Type 1} → statement M
+choose-spec =
+    tie.close (tie.spec compact-requires (λ c. search needs) ranks-requires (λ c. search needs) starts-requires (λ c. search needs) owns-requires
+    (λ c. search needs) (λ c. search needs) (λ c. search needs) best-mask-requires (λ c. search needs) (λ c. search needs) combination-requires returns)

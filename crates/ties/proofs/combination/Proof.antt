@@ -1,0 +1,45 @@
+-- The invariant: the set has the bids passed that are in the combination.
+use borrow.Author.Needs.{needs}
+use native.Mathlib.Omega.{arith}
+use Prim.Native.Nat.{_≤_, _-_}
+use mathlib.Core.Path.{_≡_, _∙_}
+use mathlib.Core.Logic.{⊎-elim}
+use Rattle.sets.proofs.Laws.{done}
+use Rattle.sets.specs.Sets.{none}
+use Rattle.ties.specs.Ties.{combinationOf}
+use Rattle.ties.proofs.Laws.{combination-hit, combination-miss}
+use Rattle.ties.proofs.combination.Statement.{statement}
+use Rattle.ties.proofs.combination.Tie as tie
+
+abbrev Inv-loop : tie.InvT-loop
+Inv-loop list ranks k mask out₀ j₀ out j = (j ≤ k) × (out ≡ combinationOf list ranks mask j)
+
+abbrev μ-loop : tie.MeasureT-loop
+μ-loop list ranks k mask out₀ j₀ out j = k - j
+
+loop-holds : tie.Need-loop-holds Inv-loop μ-loop
+unfolding combinationOf none
+loop-holds c = search needs
+
+shared-slice-read-member : tie.Need-shared-slice-read-member Inv-loop μ-loop
+shared-slice-read-member c = omega (arith, c .before .before .before .before .before .pre .1, c .before .loop-test .taken)
+
+member-requires : tie.Need-member-requires Inv-loop μ-loop
+member-requires c κs = c .before .before .before .before .before .pre .2 _ (c .before .loop-test .taken)
+
+shared-slice-read-out : tie.Need-shared-slice-read-out Inv-loop μ-loop
+shared-slice-read-out c = omega (arith, c .before .before .before .before .before .before .before .before .pre .0 .room, c .before .before .before .before .loop-test .taken)
+
+array-write-out : tie.Need-array-write-out Inv-loop μ-loop
+array-write-out c = c .before .before .before .before .before .before .before .before .pre .0 .small _ (c .before .before .before .before .loop-test .taken)
+
+loop-again : tie.Need-loop-again Inv-loop μ-loop
+loop-again c = (omega arith, ⊎-elim (λ w. w .2 ∙ combination-hit _ _ _ (c .before .member .ensures) _ (c .before .before .before .before .loop .inv .1) (w .0 .taken)) (λ w. w .1 ∙ combination-miss _ _ _ (c .before .member .ensures) _ (c .before .before .before .before .loop .inv .1) (w .0 .left)) (c .if1 .came))
+
+returns : tie.Need-returns Inv-loop μ-loop
+returns c = done (combinationOf _ _ _) (c .before .loop .inv .1) (c .before .loop .inv .0) (c .loop-test .left)
+
+pub combination-spec : {M : Type 1} → statement M
+combination-spec =
+    tie.close (tie.spec Inv-loop μ-loop loop-holds (λ c. search needs) shared-slice-read-member member-requires (λ c. search needs)
+    shared-slice-read-out array-write-out (λ c. omega arith) (λ c. omega arith) loop-again returns)

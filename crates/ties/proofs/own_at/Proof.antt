@@ -1,0 +1,18 @@
+-- `ties::own_at` meets its contract.
+use borrow.Author.Needs.{needs}
+use Rattle.ties.proofs.Laws.{own-in, own-out}
+use Rattle.ties.proofs.own_at.Statement.{statement}
+use Rattle.ties.proofs.own_at.Tie as tie
+
+worth-requires : tie.Need-worth-requires
+worth-requires c κs = c .before .before .before .before .before .pre .0 _ (c .before .if1 .taken)
+
+returns : tie.Need-returns
+returns c = own-in _ _ _ _ _ _ (c .before .before .if1 .taken) (c .worth .ensures .0)
+
+returns-2 : tie.Need-returns-2
+returns-2 c = own-out _ _ _ _ _ _ (c .if1 .left)
+
+pub own-at-spec : {M : Type 1} → statement M
+own-at-spec =
+    tie.close (tie.spec (λ c. search needs) (λ c. search needs) worth-requires returns returns-2)

@@ -1,0 +1,41 @@
+-- The invariant: each place passed holds its year.
+use borrow.Author.Needs.{needs}
+use native.Mathlib.Omega.{arith}
+use Prim.Native.Nat.{_≤_, _-_}
+use mathlib.Core.Path.{_≡_}
+use Rattle.sets.proofs.Laws.{done, fill-next}
+use Rattle.sets.specs.Sets.{fill}
+use Rattle.ties.specs.Ties.{noList, startOf}
+use Rattle.ties.proofs.Laws.{start-is}
+use Rattle.ties.proofs.starts.Statement.{statement}
+use Rattle.ties.proofs.starts.Tie as tie
+
+abbrev Inv-loop : tie.InvT-loop
+Inv-loop rows list k m out₀ j₀ out j = (j ≤ k) × (out ≡ fill noList (startOf rows list) j)
+
+abbrev μ-loop : tie.MeasureT-loop
+μ-loop rows list k m out₀ j₀ out j = k - j
+
+loop-holds : tie.Need-loop-holds Inv-loop μ-loop
+unfolding fill noList
+loop-holds c = search needs
+
+shared-slice-read-year : tie.Need-shared-slice-read-year Inv-loop μ-loop
+shared-slice-read-year c = omega (arith, c .before .before .before .before .before .pre .0 .room, c .before .loop-test .taken)
+
+year-requires : tie.Need-year-requires Inv-loop μ-loop
+year-requires c κs = omega (arith, c .before .before .before .before .before .pre .0 .small _ (c .before .loop-test .taken), c .before .before .before .before .before .pre .1 .rows-whole)
+
+cast-out : tie.Need-cast-out Inv-loop μ-loop
+cast-out c = omega (arith, c .year .ensures, c .before .before .before .before .before .before .pre .1 .year _ (c .before .before .before .before .before .before .pre .0 .small _ (c .before .before .loop-test .taken)))
+
+loop-again : tie.Need-loop-again Inv-loop μ-loop
+loop-again c = (omega arith, fill-next _ _ _ (c .before .before .before .loop .inv .1) (start-is _ _ _ (c .year .ensures)))
+
+returns : tie.Need-returns Inv-loop μ-loop
+returns c = done (fill noList (startOf _ _)) (c .before .loop .inv .1) (c .before .loop .inv .0) (c .loop-test .left)
+
+pub starts-spec : {M : Type 1} → statement M
+starts-spec =
+    tie.close (tie.spec Inv-loop μ-loop loop-holds (λ c. search needs) shared-slice-read-year year-requires cast-out (λ c. search needs)
+    (λ c. search needs) (λ c. omega arith) (λ c. omega arith) loop-again returns)

@@ -1,0 +1,159 @@
+-- What the functions of `ties` compute from a sheet and rows of numbers, and what they need. No rule of document 01 is stated here. Assumes nothing.
+use Prim.Native.Nat.{ℕ, zero, suc, _+_, _-_, _*_, _/_, _%_, _^_, _≤_, _<_}
+use mathlib.Core.Bool.{Bool, true, false, _&&_}
+use mathlib.Core.List.{List, [], _∷_}
+use mathlib.Core.Path.{_≡_}
+use lib.ListN.{length, getD, set, replicate}
+use lib.Dec.{leb, ltb}
+use Rattle.rules.specs.Lists.{pick, sift}
+use Rattle.rules.specs.Pot.{has, best}
+use Rattle.sets.specs.Sets.{fill, none, members}
+use Rattle.sheet.specs.Sheet.{rowYear, rowDraw}
+use Rattle.totals.specs.Totals.{Priced, dearest, worthOf, totalOf, fitsTo}
+use Rattle.ties.specs.declared.Best.{Best}
+
+-- ---- the present winners, for each set t of delivery years, a number with one binary place for each
+
+-- the clearing prices of a trial: p in the years below n of the set
+unfoldable pub raisedTo : (prices : List ℕ) (p t : ℕ) → ℕ → List ℕ
+raisedTo prices p t zero = prices
+raisedTo prices p t (suc d) = pick (has t d) (set (raisedTo prices p t d) d p) (raisedTo prices p t d)
+
+-- what the winners cost: 8 years to a set
+unfoldable pub baseAt : (rows figures marks prices : List ℕ) (p m y i : ℕ) → ℕ
+baseAt rows figures marks prices p m y i = pick (ltb (i % 8) y) (totalOf rows figures marks (raisedTo prices p (i / 8) 4) (i % 8) m) 0
+
+unfoldable pub noBase : List ℕ
+noBase = replicate 128 0
+
+abbrev pub basesOf : (rows figures marks prices : List ℕ) (p m y : ℕ) → List ℕ
+basesOf rows figures marks prices p m y = fill noBase (baseAt rows figures marks prices p m y) 128
+
+-- no winner is dearer than the dearest
+pub record Base (base : List ℕ) : Type 0 where
+  pub room : 128 ≤ length base
+  pub small : (i : ℕ) → getD base i 0 ≤ dearest * 320
+
+-- ---- a bid alone
+
+unfoldable pub aloneTotal : (rows figures base : List ℕ) (p k z : ℕ) → ℕ
+aloneTotal rows figures base p k z = getD base (2 ^ rowYear rows k * 8 + z) 0 + worthOf rows figures k p z
+
+abbrev pub aloneFits : (rows figures base budgets : List ℕ) (p k y : ℕ) → Bool
+aloneFits rows figures base budgets p k y = fitsTo (aloneTotal rows figures base p k) budgets y
+
+-- of the set, and fits alone
+unfoldable pub keepsOf : (rows figures base budgets : List ℕ) (p y : ℕ) → List Bool → ℕ → Bool
+keepsOf rows figures base budgets p y l k = getD l k false && aloneFits rows figures base budgets p k y
+
+-- ---- the bids that remain, as a list of numbers
+
+-- the first k of an array, the last first
+unfoldable pub listed : List ℕ → ℕ → List ℕ
+listed a zero = []
+listed a (suc k) = getD a k 0 ∷ listed a k
+
+unfoldable pub noList : List ℕ
+noList = replicate 10 0
+
+-- the members of a set below n, written one after the other
+unfoldable pub compactOf : List Bool → ℕ → List ℕ
+compactOf l zero = noList
+compactOf l (suc i) = pick (getD l i false) (set (compactOf l i) (length (members l i)) i) (compactOf l i)
+
+-- how many of the first k have a draw above x; the binary place, the start year of the bid at place j
+unfoldable pub aboveOf : (rows list : List ℕ) (x k : ℕ) → ℕ
+aboveOf rows list x k = length (sift (λ c. ltb x (rowDraw rows c)) (listed list k))
+
+unfoldable pub rankOf : (rows list : List ℕ) (k j : ℕ) → ℕ
+rankOf rows list k j = aboveOf rows list (rowDraw rows (getD list j 0)) k
+
+unfoldable pub startOf : (rows list : List ℕ) (j : ℕ) → ℕ
+startOf rows list j = rowYear rows (getD list j 0)
+
+abbrev pub ranksOf : (rows list : List ℕ) (k : ℕ) → List ℕ
+ranksOf rows list k = fill noList (rankOf rows list k) k
+
+abbrev pub startsOf : (rows list : List ℕ) (k : ℕ) → List ℕ
+startsOf rows list k = fill noList (startOf rows list) k
+
+-- what the bids cost at price p: 8 years to a bid
+unfoldable pub ownAt : (rows figures list : List ℕ) (p y i : ℕ) → ℕ
+ownAt rows figures list p y i = pick (ltb (i % 8) y) (worthOf rows figures (getD list (i / 8) 0) p (i % 8)) 0
+
+unfoldable pub noOwn : List ℕ
+noOwn = replicate 80 0
+
+abbrev pub ownsOf : (rows figures list : List ℕ) (p k y : ℕ) → List ℕ
+ownsOf rows figures list p k y = fill noOwn (ownAt rows figures list p y) (k * 8)
+
+-- the first k of the list are numbers of bids below m
+pub record Numbers (list : List ℕ) (k m : ℕ) : Type 0 where
+  pub room : k ≤ length list
+  pub small : (j : ℕ) → j < k → getD list j 0 < m
+
+-- ---- combinations: the j-th bid is in the combination number `mask` where that has its binary place
+
+-- a set of years with one more; the years in which the bids start that are in the combination
+unfoldable pub touchOf : (t d : ℕ) → ℕ
+touchOf t d = pick (has t d) t (t + 2 ^ d)
+
+unfoldable pub touchedOf : (ranks starts : List ℕ) (mask k : ℕ) → ℕ
+touchedOf ranks starts mask zero = 0
+touchedOf ranks starts mask (suc j) = pick (has mask (getD ranks j 0)) (touchOf (touchedOf ranks starts mask j) (getD starts j 0)) (touchedOf ranks starts mask j)
+
+-- the total in year z with the combination added to the winners, whose years are t
+unfoldable pub maskTotal : (base own ranks : List ℕ) (mask t z k : ℕ) → ℕ
+maskTotal base own ranks mask t z zero = getD base (t * 8 + z) 0
+maskTotal base own ranks mask t z (suc j) = maskTotal base own ranks mask t z j + pick (has mask (getD ranks j 0)) (getD own (j * 8 + z) 0) 0
+
+unfoldable pub figure : (base own ranks : List ℕ) (k mask t z : ℕ) → ℕ
+figure base own ranks k mask t z = maskTotal base own ranks mask t z k
+
+abbrev pub maskFits : (base own ranks budgets : List ℕ) (k y mask t : ℕ) → Bool
+maskFits base own ranks budgets k y mask t = fitsTo (figure base own ranks k mask t) budgets y
+
+unfoldable pub okMask : (base own ranks starts budgets : List ℕ) (k y mask : ℕ) → Bool
+okMask base own ranks starts budgets k y mask = maskFits base own ranks budgets k y mask (touchedOf ranks starts mask k)
+
+unfoldable pub lastMask : (base own ranks starts : List ℕ) (k y mask : ℕ) → ℕ
+lastMask base own ranks starts k y mask = figure base own ranks k mask (touchedOf ranks starts mask k) (y - 1)
+
+-- the best combination so far, with its figure
+abbrev pub bestOf : (ℕ → Bool) → (ℕ → ℕ) → ℕ → Best
+bestOf ok tot n = record { mask = best ok tot n; total = tot (best ok tot n) }
+
+unfoldable pub considered : (ℕ → Bool) → (ℕ → ℕ) → ℕ → Best → Best
+considered ok tot n b = pick (ok n && leb (b .total) (tot n)) (record { mask = n; total = tot n }) b
+
+unfoldable pub bestMask : (base own ranks starts budgets : List ℕ) (k y : ℕ) → ℕ
+bestMask base own ranks starts budgets k y = best (okMask base own ranks starts budgets k y) (lastMask base own ranks starts k y) (2 ^ k)
+
+-- the bids of a combination, as a set
+unfoldable pub combinationOf : (list ranks : List ℕ) (mask k : ℕ) → List Bool
+combinationOf list ranks mask zero = none
+combinationOf list ranks mask (suc j) = pick (has mask (getD ranks j 0)) (set (combinationOf list ranks mask j) (getD list j 0) true) (combinationOf list ranks mask j)
+
+-- what the sums read, and what the years are read off
+pub record Summed (base own ranks : List ℕ) (k : ℕ) : Type 0 where
+  pub few : k < 32
+  pub base-ok : Base base
+  pub own-room : k * 8 ≤ length own
+  pub own-small : (i : ℕ) → getD own i 0 ≤ dearest
+  pub ranks-room : k ≤ length ranks
+  pub ranks-low : (j : ℕ) → j < k → getD ranks j 0 < 32
+
+pub record Placed (ranks starts : List ℕ) (k : ℕ) : Type 0 where
+  pub ranks-in : k ≤ length ranks
+  pub ranks-small : (j : ℕ) → j < k → getD ranks j 0 < 32
+  pub starts-in : k ≤ length starts
+  pub starts-small : (j : ℕ) → j < k → getD starts j 0 < 4
+
+-- ---- the combination that is chosen among the k bids of a set
+unfoldable pub choiceAt : (rows figures base budgets list : List ℕ) (p k y : ℕ) → List Bool
+choiceAt rows figures base budgets list p k y =
+    combinationOf list (ranksOf rows list k)
+    (bestMask base (ownsOf rows figures list p k y) (ranksOf rows list k) (startsOf rows list k) budgets k y) k
+
+unfoldable pub choiceOf : (rows figures base budgets : List ℕ) → List Bool → (k p m y : ℕ) → List Bool
+choiceOf rows figures base budgets l k p m y = choiceAt rows figures base budgets (compactOf l m) p k y

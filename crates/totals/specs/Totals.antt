@@ -1,0 +1,72 @@
+-- What the functions of `totals` compute from a sheet and rows of numbers, and what of the sheet they need. Assumes nothing.
+use Prim.Native.Nat.{ℕ, zero, suc, _+_, _*_, _≤_, _<_}
+use mathlib.Core.Bool.{Bool, true, _&&_}
+use mathlib.Core.List.{List}
+use lib.ListN.{length, getD, replicate}
+use lib.Dec.{eqb, leb}
+use Rattle.rules.specs.Names.{mostBids, mostApps, mostYears, mostDeliveries, highestPrice, becauseWon}
+use Rattle.rules.specs.Lists.{pick, sift, below, sum}
+use Rattle.rules.specs.Value.{ceilDiv, pound}
+use Rattle.sets.specs.Sets.{fill}
+use Rattle.sheet.specs.Sheet.{rowApp, rowYear, rowPrice, rowCap, figReference, figEnergy, figShare, sheetCost, inTest, mostEnergy, mostShare}
+
+-- ---- what has been seen to: of the rows of m bids; of the figures of a bid in a year; of the figures of m bids in y years
+pub record Checked (rows : List ℕ) (m : ℕ) : Type 0 where
+  pub few : m ≤ mostBids + mostApps
+  pub rows-whole : m * 6 ≤ length rows
+  pub app : (k : ℕ) → k < m → rowApp rows k < mostApps
+  pub year : (k : ℕ) → k < m → rowYear rows k < mostDeliveries
+  pub price : (k : ℕ) → k < m → rowPrice rows k ≤ highestPrice
+
+pub record Priced (rows figures : List ℕ) (k z : ℕ) : Type 0 where
+  pub row : k * 6 + 6 ≤ length rows
+  pub figure : k * 24 + 24 ≤ length figures
+  pub within : z < mostYears
+  pub start : rowYear rows k < mostDeliveries
+  pub cap : rowCap rows k ≤ highestPrice
+  pub reference : figReference figures k z ≤ highestPrice
+  pub energy : figEnergy figures k z ≤ mostEnergy
+  pub share : figShare figures k z ≤ mostShare
+
+pub record Valued (rows figures : List ℕ) (m y : ℕ) : Type 0 where
+  pub checked : Checked rows m
+  pub years : y ≤ mostYears
+  pub priced : (k z : ℕ) → k < m → z < y → Priced rows figures k z
+
+-- ---- values and totals
+
+-- the greatest value of a bid
+abbrev pub dearest : ℕ
+dearest = 13176000000
+
+-- the value of bid k in year z at a clearing price
+unfoldable pub worthOf : (rows figures : List ℕ) (k price z : ℕ) → ℕ
+worthOf rows figures k price z = ceilDiv (sheetCost rows figures k price z) pound
+
+-- at the price of its start year in a row of prices
+unfoldable pub costOf : (rows figures prices : List ℕ) (z k : ℕ) → ℕ
+costOf rows figures prices z k = worthOf rows figures k (getD prices (rowYear rows k) 0) z
+
+-- the total of the bids below n that are marked as won
+unfoldable pub totalOf : (rows figures marks prices : List ℕ) (z n : ℕ) → ℕ
+totalOf rows figures marks prices z zero = 0
+totalOf rows figures marks prices z (suc i) = totalOf rows figures marks prices z i + pick (eqb (getD marks i 0) becauseWon) (costOf rows figures prices z i) 0
+
+-- a row of 8 places, the first n filled
+unfoldable pub noRow : List ℕ
+noRow = replicate 8 0
+
+abbrev pub filled : (ℕ → ℕ) → ℕ → List ℕ
+filled f n = fill noRow f n
+
+-- no figure of the first n years is above its budget; and of a row
+unfoldable pub fitsTo : (ℕ → ℕ) → (budgets : List ℕ) → ℕ → Bool
+fitsTo f budgets zero = true
+fitsTo f budgets (suc z) = leb (f z) (getD budgets z 0) && fitsTo f budgets z
+
+abbrev pub rowFits : (row budgets : List ℕ) → ℕ → Bool
+rowFits row budgets n = fitsTo (λ z. getD row z 0) budgets n
+
+-- the first test's total of the automatic bids below n
+unfoldable pub autoTotal : (rows figures : List ℕ) (b z n : ℕ) → ℕ
+autoTotal rows figures b z n = sum (λ k. worthOf rows figures k (rowPrice rows k) z) (sift (inTest rows b) (below n))
