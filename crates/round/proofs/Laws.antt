@@ -1,0 +1,140 @@
+-- What the reading of an accepted file says to those who clear it, and one law for each return. Assumes nothing.
+use Prim.Native.Nat.{ℕ, _+_, _-_, _*_, _≤_, _<_}
+use mathlib.Core.Path.{_≡_, refl, sym, ap, _∙_}
+use mathlib.Core.List.{List}
+use native.Mathlib.Omega.{arith}
+use lib.ListN.{length}
+use lib.Dec.{ltb}
+use borrow.Author.Tests.{lt-ltb, le-ltb}
+use Rattle.rules.specs.Names.{countWidth, resultShort}
+use Rattle.rules.specs.Lists.{pick}
+use Rattle.rules.specs.Bytes.{part, onto}
+use Rattle.rules.specs.File.{Round, roundOf, sections, sectionsOf, potsAt, techsAt, appsAt, bidsAt, endAt}
+use Rattle.rules.specs.Refusals.{refusal, place, reading}
+use Rattle.rules.specs.Result.{needed, resultBytes, refusedAs, refusedAt, answerTo, answerOf, after, clearOf, lengthTo, lengthOf}
+use Rattle.rules.specs.declared.Sections.{Sections}
+use Rattle.rules.specs.declared.Reading.{Reading}
+use Rattle.rules.specs.declared.Reading.the-variants as r
+use Rattle.rules.specs.declared.Answer.{Answer}
+use Rattle.rules.specs.declared.Answer.the-variants.{Cleared, Refused}
+use Rattle.laws.specs.Reading.{Sound}
+use Rattle.laws.specs.Fault.{handed-on, ends-there}
+use Rattle.laws.specs.Small.{reading-small}
+use Rattle.rows.specs.Rows.{roundIn, round-is}
+use Rattle.result.specs.declared.Tellings.{Tellings}
+use Rattle.result.specs.Tells.{Small, Counted, Tells}
+use Rattle.result.specs.Told.{size}
+use Rattle.rules.specs.Listing.{refusalLine, roundLines, listingFor, listingOf}
+use Rattle.lines.specs.Printed.{Printed}
+use Rattle.listing.specs.Told.{longest}
+use Rattle.round.specs.Round.{Clears, SmallAnswer, listed, Lists}
+
+-- the parts of a file whose sections are these
+abbrev pub partsIn : List ℕ → Sections → Round
+partsIn s z =
+    roundIn (part s countWidth (z .second)) (part s (z .second + countWidth) (z .third)) (part s (z .third + countWidth) (z .fourth))
+    (part s (z .fourth + countWidth) (z .fifth)) (part s (z .fifth + countWidth) (length s)) z
+
+-- what is known of an accepted file
+pub record Handed (s : List ℕ) (z : Sections) : Type 0 where
+  pub round : partsIn s z ≡ roundOf s
+  pub sound : Sound (roundOf s)
+  pub small : Small (z .years) (z .deliveries) (z .pots) (z .applications) (z .bids)
+  pub counted : Counted (roundOf s) (z .years) (z .deliveries) (z .pots) (z .applications) (z .bids)
+  pub one : countWidth ≤ z .second
+  pub two : z .second + countWidth ≤ z .third
+  pub three : z .third + countWidth ≤ z .fourth
+  pub four : z .fourth + countWidth ≤ z .fifth
+  pub five : z .fifth + countWidth ≤ length s
+
+-- the parts of a file, the last one up to n
+abbrev partsTo : List ℕ → Round → ℕ → Round
+partsTo s R n =
+    roundIn (part s countWidth (potsAt (R .y))) (part s (potsAt (R .y) + countWidth) (techsAt (R .y) (R .p)))
+    (part s (techsAt (R .y) (R .p) + countWidth) (appsAt (R .y) (R .p) (R .t)))
+    (part s (appsAt (R .y) (R .p) (R .t) + countWidth) (bidsAt (R .y) (R .p) (R .t) (R .n)))
+    (part s (bidsAt (R .y) (R .p) (R .t) (R .n) + countWidth) n)
+    (sectionsOf R)
+
+parts-whole : (s : List ℕ) → partsTo s (roundOf s) (endAt (roundOf s .y) (roundOf s .p) (roundOf s .t) (roundOf s .n) (roundOf s .b)) ≡ roundOf s
+unfolding sectionsOf roundOf sections
+parts-whole s = refl
+
+handed-sections : (s : List ℕ) → length s ≡ endAt (roundOf s .y) (roundOf s .p) (roundOf s .t) (roundOf s .n) (roundOf s .b) → Sound (roundOf s) → Handed s (sectionsOf (roundOf s))
+unfolding sectionsOf
+handed-sections s e S = record {
+  round = ap (λ (n : ℕ). partsTo s (roundOf s) n) e ∙ parts-whole s;
+  sound = S;
+  small = record { years = S .years-most; deliveries = S .deliveries-few; pots = S .pots-few; apps = S .apps-few; bids = S .bids-few };
+  counted = record { years = refl; deliveries = refl; pots = refl; apps = refl; bids = refl };
+  one = omega arith;
+  two = omega arith;
+  three = omega arith;
+  four = omega arith;
+  five = omega arith;
+}
+
+pub handed : (s : List ℕ) {z : Sections} → reading s ≡ r.Accepted z → Handed s z
+handed s {z} e =
+    let h = handed-on s e in
+    rw (h .0) (handed-sections s (ends-there s (unfold refusal in ap refusal e)) (h .1))
+
+-- ---- one law for each return
+
+pub parts-sound : (s : List ℕ) {z : Sections} → Handed s z → Sound (partsIn s z)
+parts-sound s h = rw (h .round) (h .sound)
+
+pub parts-told : (s : List ℕ) {z : Sections} {t : Tellings} → Handed s z → Tells (partsIn s z) t → Tells (roundOf s) t
+parts-told s h t = rw (h .round) at t
+
+-- the lent result is too short
+pub short : (s lent : List ℕ) {z : Sections} {need : ℕ} → reading s ≡ r.Accepted z → need ≡ needed (roundOf s) → length lent < need
+    → Clears s lent (Refused resultShort 0) lent × SmallAnswer (Refused resultShort 0)
+unfolding clearOf answerOf answerTo after refusedAs refusedAt
+short s lent e q h = (
+  record { answer = rw (e, lt-ltb (length lent) (needed (roundOf s)) (omega arith)); bytes = rw (e, lt-ltb (length lent) (needed (roundOf s)) (omega arith)) },
+  record { number = omega arith; at = omega arith },
+)
+
+-- the result is written
+pub written : (s lent : List ℕ) {z : Sections} {need : ℕ} {exit : List ℕ} → reading s ≡ r.Accepted z → need ≡ needed (roundOf s) → need ≤ length lent
+    → exit ≡ onto (resultBytes (roundOf s)) lent → Clears s lent (Cleared need) exit × SmallAnswer (Cleared need)
+unfolding clearOf answerOf answerTo after refusedAs refusedAt
+written s lent e q h b = (
+  record { answer = rw (e, q, le-ltb (length lent) (needed (roundOf s)) (omega arith)); bytes = b ∙ rw (e, le-ltb (length lent) (needed (roundOf s)) (omega arith)) },
+  record { number = omega arith; at = omega arith },
+)
+
+-- the file is refused
+pub turned-away : (s lent : List ℕ) {m at : ℕ} → reading s ≡ r.Refused m at → Clears s lent (Refused m at) lent × SmallAnswer (Refused m at)
+unfolding clearOf answerOf answerTo after refusedAs refusedAt refusal place
+turned-away s lent {m} {at} e =
+    let z = reading-small s in
+    let n : m ≤ 11 = omega (arith, z .number, ap refusal e) in
+    let p : at ≤ 7866 = omega (arith, z .at, ap place e) in
+    (record { answer = rw e; bytes = rw e }, record { number = omega arith; at = p })
+
+pub length-needed : (s : List ℕ) {z : Sections} {n : ℕ} → reading s ≡ r.Accepted z → n ≡ needed (roundOf s) → n ≡ lengthOf s
+unfolding lengthOf lengthTo
+length-needed s e q = rw e q
+
+pub length-none : (s : List ℕ) {m at : ℕ} → reading s ≡ r.Refused m at → 0 ≡ lengthOf s
+unfolding lengthOf lengthTo
+length-none s e = rw e
+
+-- ---- the listing
+
+pub text-short : (s lent : List ℕ) → length lent < longest → Lists s lent 0 lent
+unfolding listed
+text-short s lent h = record { length = rw (lt-ltb (length lent) longest h); bytes = rw (lt-ltb (length lent) longest h) }
+
+pub lines-listed : (s lent : List ℕ) {z : Sections} {n : ℕ} {exit : List ℕ} → reading s ≡ r.Accepted z → longest ≤ length lent
+    → (n ≡ length (roundLines (roundOf s))) × (exit ≡ onto (roundLines (roundOf s)) lent) → Lists s lent n exit
+unfolding listed listingOf listingFor
+lines-listed s lent e h p = record { length = rw (le-ltb (length lent) longest h, e) (p .0); bytes = rw (le-ltb (length lent) longest h, e) (p .1) }
+
+pub refusal-listed : (s lent : List ℕ) {m at n : ℕ} {exit : List ℕ} → reading s ≡ r.Refused m at → longest ≤ length lent
+    → Printed (refusalLine m at) 53 lent exit n → Lists s lent n exit
+unfolding listed listingOf listingFor
+refusal-listed s lent e h p =
+    record { length = rw (le-ltb (length lent) longest h, e) (p .long); bytes = rw (le-ltb (length lent) longest h, e) (p .filled .bytes) }

@@ -1,0 +1,56 @@
+-- The promises, as theorems about what the public functions write: `Clears file lent r exit` is the contract of `round::clear`, which answered r and left
+-- `exit` in the lent result. Assumes nothing.
+use Prim.Native.Nat.{ℕ, _≤_, _<_}
+use mathlib.Core.Path.{_≡_, refl, sym, ap, _∙_}
+use mathlib.Core.List.{List}
+use lib.ListN.{length, drop}
+use Rattle.rules.specs.Names.{auctioned}
+use Rattle.rules.specs.File.{roundOf}
+use Rattle.rules.specs.Refusals.{reading}
+use Rattle.rules.specs.Result.{needed, refusedAs, clearOf, lengthOf}
+use Rattle.rules.specs.declared.Reading.{Reading}
+use Rattle.rules.specs.declared.Answer.{Answer}
+use Rattle.laws.specs.Apart.{DifferElsewhere}
+use Rattle.laws.specs.Told.{Third}
+use Rattle.laws.specs.Read.{outcomeAt, totalAt, toldAt}
+use Rattle.laws.specs.Demanded.{whyAt, SameRecords}
+use Rattle.laws.specs.Theorems as laws
+use Rattle.round.specs.Round.{Clears, Lists}
+
+-- Demand 3, of each pot that an auction cleared, as the bytes that were written tell it: the five sentences are the fields of `Third`
+pub third-demand : (file lent : List ℕ) {r : Answer} {exit : List ℕ} → Clears file lent r exit → refusedAs r ≡ 0
+    → let R = roundOf file in
+    (p : ℕ) → p < R .p → outcomeAt R exit p ≡ auctioned → Third R p (toldAt R exit) (totalAt R exit p) (whyAt R exit)
+third-demand file lent C e = rw (C .bytes) (laws.third-demand file lent (rw (C .answer) at e))
+
+-- "Two accepted files with equal counts that differ only in declared costs, and in budgets, technologies, applications and bids of other pots, each pot's
+-- records at the same places, give one pot the same outcome, prices, totals and reasons"
+pub pots-apart : (file other lent lent′ : List ℕ) {r q : Answer} {exit exit′ : List ℕ} → Clears file lent r exit → Clears other lent′ q exit′
+    → refusedAs r ≡ 0 → refusedAs q ≡ 0 → (p : ℕ) → p < roundOf file .p → DifferElsewhere p (roundOf file) (roundOf other)
+    → SameRecords p (roundOf file) (roundOf other) exit exit′
+pots-apart file other lent lent′ C D e f p h d =
+    rw (C .bytes, D .bytes) (laws.pots-apart file other lent lent′ (rw (C .answer) at e) (rw (D .answer) at f) p h d)
+
+-- "a refusal leaves the lent result as it was"
+pub refusal-writes-nothing : (file lent : List ℕ) {r : Answer} {exit : List ℕ} → Clears file lent r exit → (refusedAs r ≡ 0 → ⊥) → exit ≡ lent
+refusal-writes-nothing file lent C n = C .bytes ∙ laws.refusal-writes-nothing file lent (λ e. n (ap refusedAs (C .answer) ∙ e))
+
+-- "bytes after it stay"
+pub bytes-after-stay : (file lent : List ℕ) {r : Answer} {exit : List ℕ} → Clears file lent r exit → refusedAs r ≡ 0
+    → drop (needed (roundOf file)) exit ≡ drop (needed (roundOf file)) lent
+bytes-after-stay file lent C e = rw (C .bytes) (laws.bytes-after-stay file lent (rw (C .answer) at e))
+
+-- ---- "two answers allowed by it are proved equal", for each public function
+
+pub one-clearing : (file lent : List ℕ) {r q : Answer} {s t : List ℕ} → Clears file lent r s → Clears file lent q t → (r ≡ q) × (s ≡ t)
+one-clearing file lent C D = (C .answer ∙ sym (D .answer), C .bytes ∙ sym (D .bytes))
+
+pub one-listing : (file lent : List ℕ) {m n : ℕ} {s t : List ℕ} → Lists file lent m s → Lists file lent n t → (m ≡ n) × (s ≡ t)
+one-listing file lent C D = (C .length ∙ sym (D .length), C .bytes ∙ sym (D .bytes))
+
+pub one-length : (file : List ℕ) {m n : ℕ} → m ≡ lengthOf file → n ≡ lengthOf file → m ≡ n
+one-length file p q = p ∙ sym q
+
+-- of `file::read`
+pub one-reading : (file : List ℕ) {r q : Reading} → r ≡ reading file → q ≡ reading file → r ≡ q
+one-reading file p q = p ∙ sym q
