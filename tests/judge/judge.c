@@ -1,0 +1,1269 @@
+/* The judge: document 01 in plain C.  Sentences of 01 stand quoted in the
+ * comments; words like look, trial, winner, live, closed are the paper's. */
+#include "judge.h"
+
+#include <stdarg.h>
+#include <stdio.h>
+#include <string.h>
+
+__extension__ typedef unsigned __int128 u128;
+
+enum {
+    MAX_YEARS = JUDGE_MAX_YEARS,
+    MAX_DELIVERY_YEARS = JUDGE_MAX_DELIVERY_YEARS,
+    MAX_POTS = JUDGE_MAX_POTS,
+    MAX_TECHNOLOGIES = JUDGE_MAX_TECHNOLOGIES,
+    MAX_APPLICATIONS = JUDGE_MAX_APPLICATIONS,
+    MAX_BIDS = JUDGE_MAX_BIDS,
+    MAX_POT_BIDS = MAX_BIDS + MAX_APPLICATIONS, /* sealed and automatic */
+    MAX_BIDS_OF_APPLICATION = 10,
+    MAX_BIDS_IN_YEAR = 3,
+    MAX_REMAINING = 10
+};
+
+enum section { YEARS, POTS, TECHNOLOGIES, APPLICATIONS, BIDS };
+enum kind { VALUATION_ONLY = 0, DELIVERY = 1 };
+enum outcome { ADMINISTRATIVE = 0, AUCTION = 1, TIE = 2 };
+
+enum reason {
+    NOT_YET_LOOKED_AT = 0,
+    WON = 1,
+    TURNED_DOWN_ALONE = 2,
+    TURNED_DOWN_IN_TIE = 3,
+    NOT_LOOKED_AT_APPLICATION_WON = 4,
+    NOT_LOOKED_AT_OTHERWISE = 5,
+    IN_OUTCOME_0 = 6,
+    IN_OUTCOME_2 = 7
+};
+
+#define AUTOMATIC_BID 65534u
+#define NO_BID 65535u
+#define NO_PRICE 4294967295u
+
+/* ---- the round as read ---- */
+
+struct year {
+    uint32_t days, kind, tlm;
+};
+
+struct pot {
+    uint64_t budget[MAX_YEARS];
+};
+
+struct technology {
+    uint32_t pot, rqm;
+    uint32_t administrative[MAX_YEARS];
+    uint32_t reference[MAX_YEARS];
+    uint32_t load_factor[MAX_YEARS];
+};
+
+struct application {
+    uint32_t technology, year, days, draw, capacity;
+    uint64_t declared_cost;
+    uint32_t sealed_bids;
+    uint32_t sealed_bids_in_year[MAX_DELIVERY_YEARS];
+};
+
+struct bid {
+    uint32_t number; /* its number in the file, or AUTOMATIC_BID */
+    uint32_t application, year, days, capacity, price;
+    uint64_t offset;
+};
+
+struct round {
+    unsigned year_count, delivery_years;
+    unsigned pot_count, technology_count, application_count, bid_count;
+    struct year years[MAX_YEARS];
+    struct pot pots[MAX_POTS];
+    struct technology technologies[MAX_TECHNOLOGIES];
+    struct application applications[MAX_APPLICATIONS];
+    struct bid bids[MAX_BIDS];
+};
+
+/* ---- the result before it is written or printed ---- */
+
+struct pot_result {
+    uint32_t outcome;
+    uint32_t price[MAX_DELIVERY_YEARS];
+    uint64_t total[MAX_YEARS];
+};
+
+struct application_result {
+    uint32_t won, bid, automatic_reason, price;
+};
+
+struct clearing {
+    struct pot_result pots[MAX_POTS];
+    struct application_result applications[MAX_APPLICATIONS];
+    uint32_t bid_reasons[MAX_BIDS];
+};
+
+/* ---- counters (with JUDGE_COUNT only) ---- */
+
+#ifdef JUDGE_COUNT
+struct judge_counts judge_counts;
+bool judge_counting;
+#define COUNT(statement) do { if (judge_counting) { statement; } } while (0)
+#define CLAUSE(name, condition) ((condition) && count_clause(JUDGE_CLAUSE_##name))
+static bool count_clause(enum judge_clause clause)
+{
+    judge_counts.clause[clause] += judge_counting;
+    return true;
+}
+#else
+#define COUNT(statement) do { } while (0)
+#define CLAUSE(name, condition) (condition)
+#endif
+
+/* ---- reading ---- */
+
+/* "A reader holds the file and its place in it." */
+struct reader {
+    const uint8_t *file;
+    uint64_t len, place;
+    uint64_t refusal; /* number * 2^32 + offset, or 0 */
+};
+
+/* "Each refusal is a number and the offset of the count or record at fault
+ * (0 where it is not in the file)." */
+static uint64_t refusal(unsigned number, uint64_t offset)
+{
+    COUNT(judge_counts.refusal[number]++);
+    return ((uint64_t)number << 32) + offset;
+}
+
+static bool refuse(struct reader *r, unsigned number, uint64_t offset)
+{
+    r->refusal = refusal(number, offset);
+    return false;
+}
+
+/* "Numbers are little-endian." */
+static uint64_t number_at(const uint8_t *p, unsigned bytes)
+{
+    uint64_t n = 0;
+    for (unsigned i = 0; i < bytes; i++)
+        n |= (uint64_t)p[i] << (8 * i);
+    return n;
+}
+
+/* "A record's fields follow each other with no gap." */
+static uint64_t field(const uint8_t **p, unsigned bytes)
+{
+    uint64_t n = number_at(*p, bytes);
+    *p += bytes;
+    return n;
+}
+
+/* 1: "the file ends before the end of this count or record" */
+static const uint8_t *take(struct reader *r, uint64_t bytes)
+{
+    if (r->len - r->place < bytes) {
+        refuse(r, 1, r->place);
+        return NULL;
+    }
+    const uint8_t *p = r->file + r->place;
+    r->place += bytes;
+    return p;
+}
+
+/* "Five sections stand in this order, each after its 2-byte count"
+ * 2: "count outside its range" */
+static bool read_count(struct reader *r, enum section section,
+                       unsigned least, unsigned most, unsigned *count)
+{
+    uint64_t offset = r->place;
+    const uint8_t *p = take(r, 2);
+    (void)section;
+    if (p == NULL) {
+        COUNT(judge_counts.cut_count[section]++);
+        return false;
+    }
+    *count = (unsigned)number_at(p, 2);
+    if (*count < least || *count > most) {
+        COUNT(if (*count < least) judge_counts.count_low[section]++;
+              else judge_counts.count_high[section]++);
+        return refuse(r, 2, offset);
+    }
+    return true;
+}
+
+static const uint8_t *take_record(struct reader *r, enum section section, uint64_t bytes)
+{
+    const uint8_t *p = take(r, bytes);
+    (void)section;
+    if (p == NULL)
+        COUNT(judge_counts.cut_record[section]++);
+    return p;
+}
+
+/* 3: "days not 365 or 366; kind above 1; TLM above 10,000; year 0 not a
+ * delivery year; a delivery year after a valuation-only one; a fifth delivery
+ * year".  Delivery years so far are the first round->delivery_years. */
+static bool year_at_fault(const struct round *round, unsigned i)
+{
+    const struct year *year = &round->years[i];
+    bool delivery = year->kind == DELIVERY;
+    return CLAUSE(year_days, year->days != 365 && year->days != 366)
+        || CLAUSE(year_kind, year->kind > 1)
+        || CLAUSE(year_tlm, year->tlm > 10000)
+        || CLAUSE(year_0_not_delivery, i == 0 && !delivery)
+        || CLAUSE(delivery_after_valuation_only, delivery && round->delivery_years < i)
+        || CLAUSE(fifth_delivery_year, delivery && round->delivery_years == MAX_DELIVERY_YEARS);
+}
+
+static bool read_years(struct reader *r, struct round *round)
+{
+    if (!read_count(r, YEARS, 1, MAX_YEARS, &round->year_count))
+        return false;
+    for (unsigned i = 0; i < round->year_count; i++) {
+        uint64_t offset = r->place;
+        const uint8_t *p = take_record(r, YEARS, 6);
+        if (p == NULL)
+            return false;
+        struct year *year = &round->years[i];
+        year->days = (uint32_t)field(&p, 2);
+        year->kind = (uint32_t)field(&p, 2);
+        year->tlm = (uint32_t)field(&p, 2);
+        if (year_at_fault(round, i))
+            return refuse(r, 3, offset);
+        if (year->kind == DELIVERY)
+            round->delivery_years++;
+    }
+    return true;
+}
+
+/* 4: "a budget above 1,000,000,000,000" */
+static bool pot_at_fault(const struct round *round, const struct pot *pot)
+{
+    for (unsigned y = 0; y < round->year_count; y++)
+        if (CLAUSE(budget_above, pot->budget[y] > 1000000000000u))
+            return true;
+    return false;
+}
+
+static bool read_pots(struct reader *r, struct round *round)
+{
+    if (!read_count(r, POTS, 1, MAX_POTS, &round->pot_count))
+        return false;
+    for (unsigned i = 0; i < round->pot_count; i++) {
+        uint64_t offset = r->place;
+        const uint8_t *p = take_record(r, POTS, 8 * round->year_count);
+        if (p == NULL)
+            return false;
+        struct pot *pot = &round->pots[i];
+        for (unsigned y = 0; y < round->year_count; y++)
+            pot->budget[y] = field(&p, 8);
+        if (pot_at_fault(round, pot))
+            return refuse(r, 4, offset);
+    }
+    return true;
+}
+
+/* 5: "administrative price not a multiple of 10 from 10 to 500,000 in a
+ * delivery year, or not 0 in another" */
+static bool administrative_at_fault(const struct round *round, unsigned y, uint32_t price)
+{
+    if (y >= round->delivery_years)
+        return CLAUSE(administrative_not_0, price != 0);
+    return CLAUSE(administrative_below_10, price < 10)
+        || CLAUSE(administrative_above, price > 500000)
+        || CLAUSE(administrative_not_multiple, price % 10 != 0);
+}
+
+/* 5: "pot not in the file; RQM or load factor above 10,000; reference above
+ * 500,000; ..." */
+static bool technology_at_fault(const struct round *round, const struct technology *technology)
+{
+    if (CLAUSE(pot_not_in_file, technology->pot >= round->pot_count)
+        || CLAUSE(rqm_above, technology->rqm > 10000))
+        return true;
+    for (unsigned y = 0; y < round->year_count; y++)
+        if (CLAUSE(load_factor_above, technology->load_factor[y] > 10000)
+            || CLAUSE(reference_above, technology->reference[y] > 500000)
+            || administrative_at_fault(round, y, technology->administrative[y]))
+            return true;
+    return false;
+}
+
+static bool read_technologies(struct reader *r, struct round *round)
+{
+    if (!read_count(r, TECHNOLOGIES, 1, MAX_TECHNOLOGIES, &round->technology_count))
+        return false;
+    for (unsigned i = 0; i < round->technology_count; i++) {
+        uint64_t offset = r->place;
+        const uint8_t *p = take_record(r, TECHNOLOGIES, 4 + 10 * round->year_count);
+        if (p == NULL)
+            return false;
+        struct technology *technology = &round->technologies[i];
+        technology->pot = (uint32_t)field(&p, 2);
+        technology->rqm = (uint32_t)field(&p, 2);
+        for (unsigned y = 0; y < round->year_count; y++) {
+            technology->administrative[y] = (uint32_t)field(&p, 4);
+            technology->reference[y] = (uint32_t)field(&p, 4);
+            technology->load_factor[y] = (uint32_t)field(&p, 2);
+        }
+        if (technology_at_fault(round, technology))
+            return refuse(r, 5, offset);
+    }
+    return true;
+}
+
+/* 6: "draw used by an earlier application" */
+static bool draw_used(const struct round *round, unsigned i)
+{
+    for (unsigned earlier = 0; earlier < i; earlier++)
+        if (round->applications[earlier].draw == round->applications[i].draw)
+            return true;
+    return false;
+}
+
+/* 6: "technology not in the file; year not a delivery year; days 0 or above
+ * that year's; capacity 0 or above 300,000; ..." */
+static bool application_at_fault(const struct round *round, unsigned i)
+{
+    const struct application *application = &round->applications[i];
+    return CLAUSE(technology_not_in_file, application->technology >= round->technology_count)
+        || CLAUSE(application_year, application->year >= round->delivery_years)
+        || CLAUSE(application_days_0, application->days == 0)
+        || CLAUSE(application_days_above, application->days > round->years[application->year].days)
+        || CLAUSE(application_capacity_0, application->capacity == 0)
+        || CLAUSE(application_capacity_above, application->capacity > 300000)
+        || CLAUSE(draw_used, draw_used(round, i));
+}
+
+static bool read_applications(struct reader *r, struct round *round)
+{
+    if (!read_count(r, APPLICATIONS, 0, MAX_APPLICATIONS, &round->application_count))
+        return false;
+    for (unsigned i = 0; i < round->application_count; i++) {
+        uint64_t offset = r->place;
+        const uint8_t *p = take_record(r, APPLICATIONS, 20);
+        if (p == NULL)
+            return false;
+        struct application *application = &round->applications[i];
+        application->technology = (uint32_t)field(&p, 2);
+        application->year = (uint32_t)field(&p, 2);
+        application->days = (uint32_t)field(&p, 2);
+        application->draw = (uint32_t)field(&p, 2);
+        application->capacity = (uint32_t)field(&p, 4);
+        application->declared_cost = field(&p, 8);
+        if (application_at_fault(round, i))
+            return refuse(r, 6, offset);
+    }
+    return true;
+}
+
+/* 7: "application not in the file; year not a delivery year; days 0 or above
+ * that year's; capacity 0 or above the application's; start earlier than the
+ * application's; price above the administrative price of its technology and
+ * year".  ""Earlier start" means a smaller year, or the same year with more
+ * days." */
+static bool bid_at_fault(const struct round *round, const struct bid *bid)
+{
+    if (CLAUSE(application_not_in_file, bid->application >= round->application_count)
+        || CLAUSE(bid_year, bid->year >= round->delivery_years))
+        return true;
+    const struct application *application = &round->applications[bid->application];
+    const struct technology *technology = &round->technologies[application->technology];
+    return CLAUSE(bid_days_0, bid->days == 0)
+        || CLAUSE(bid_days_above, bid->days > round->years[bid->year].days)
+        || CLAUSE(bid_capacity_0, bid->capacity == 0)
+        || CLAUSE(bid_capacity_above, bid->capacity > application->capacity)
+        || CLAUSE(bid_year_earlier, bid->year < application->year)
+        || CLAUSE(bid_more_days, bid->year == application->year && bid->days > application->days)
+        || CLAUSE(bid_price_above, bid->price > technology->administrative[bid->year]);
+}
+
+/* 8: "price of an earlier bid of the same application" */
+static bool price_of_an_earlier_bid(const struct round *round, const struct bid *bid)
+{
+    for (unsigned earlier = 0; earlier < bid->number; earlier++)
+        if (CLAUSE(price_of_earlier_bid,
+                   round->bids[earlier].application == bid->application
+                   && round->bids[earlier].price == bid->price))
+            return true;
+    return false;
+}
+
+/* 9: "eleventh bid of an application, or its fourth in one year" */
+static bool one_bid_too_many(const struct round *round, const struct bid *bid)
+{
+    const struct application *application = &round->applications[bid->application];
+    return CLAUSE(eleventh_bid, application->sealed_bids == MAX_BIDS_OF_APPLICATION)
+        || CLAUSE(fourth_bid_in_year,
+                  application->sealed_bids_in_year[bid->year] == MAX_BIDS_IN_YEAR);
+}
+
+/* "Records are judged in file order; within one, 1 comes first, and for bids
+ * 7, then 8, then 9." */
+static bool judge_bid(struct reader *r, const struct round *round, const struct bid *bid)
+{
+    if (bid_at_fault(round, bid))
+        return refuse(r, 7, bid->offset);
+    if (price_of_an_earlier_bid(round, bid))
+        return refuse(r, 8, bid->offset);
+    if (one_bid_too_many(round, bid))
+        return refuse(r, 9, bid->offset);
+    return true;
+}
+
+static bool read_bids(struct reader *r, struct round *round)
+{
+    if (!read_count(r, BIDS, 0, MAX_BIDS, &round->bid_count))
+        return false;
+    for (unsigned i = 0; i < round->bid_count; i++) {
+        struct bid *bid = &round->bids[i];
+        bid->number = i;
+        bid->offset = r->place;
+        const uint8_t *p = take_record(r, BIDS, 14);
+        if (p == NULL)
+            return false;
+        bid->application = (uint32_t)field(&p, 2);
+        bid->year = (uint32_t)field(&p, 2);
+        bid->days = (uint32_t)field(&p, 2);
+        bid->capacity = (uint32_t)field(&p, 4);
+        bid->price = (uint32_t)field(&p, 4);
+        if (!judge_bid(r, round, bid))
+            return false;
+        round->applications[bid->application].sealed_bids++;
+        round->applications[bid->application].sealed_bids_in_year[bid->year]++;
+    }
+    return true;
+}
+
+/* 10: "bytes after the last record (offset: the first of them)" */
+static bool read_end(struct reader *r)
+{
+    if (CLAUSE(bytes_after, r->place < r->len))
+        return refuse(r, 10, r->place);
+    return true;
+}
+
+static bool lowest_of_application_in_year(const struct round *round, const struct bid *bid)
+{
+    for (unsigned i = 0; i < round->bid_count; i++) {
+        const struct bid *other = &round->bids[i];
+        if (other->application == bid->application && other->year == bid->year
+            && other->price < bid->price)
+            return false;
+    }
+    return true;
+}
+
+/* 11: "the lowest bid of an application in a year is not a multiple of 10"
+ * "11 (first such bid in the file)" */
+static bool judge_lowest_bids(struct reader *r, const struct round *round)
+{
+    for (unsigned i = 0; i < round->bid_count; i++) {
+        const struct bid *bid = &round->bids[i];
+        if (CLAUSE(lowest_not_multiple,
+                   bid->price % 10 != 0 && lowest_of_application_in_year(round, bid)))
+            return refuse(r, 11, bid->offset);
+    }
+    return true;
+}
+
+/* "A refusal met in one section ends the reading there."  Answers 0 or the
+ * refusal. */
+static uint64_t read_round(const uint8_t *file, uint64_t file_len, struct round *round)
+{
+    struct reader r = { file, file_len, 0, 0 };
+    memset(round, 0, sizeof *round);
+    if (read_years(&r, round) && read_pots(&r, round) && read_technologies(&r, round)
+        && read_applications(&r, round) && read_bids(&r, round) && read_end(&r)
+        && judge_lowest_bids(&r, round)) {
+        COUNT(judge_counts.accepted++);
+        return 0;
+    }
+    return r.refusal;
+}
+
+/* "The result needs 6 + P(2 + 4D + 8Y) + 10N + 2B bytes for P pots, D delivery
+ * years, Y years, N applications, B bids" */
+static uint64_t result_needs(const struct round *round)
+{
+    return 6 + round->pot_count * (2 + 4 * round->delivery_years + 8 * round->year_count)
+        + 10 * round->application_count + 2 * round->bid_count;
+}
+
+/* ---- value of one bid ---- */
+
+/* "the exact cost in pounds is (price − reference in y) × load factor in y ×
+ * hours × capacity × (1 − TLM in y) × RQM, factors taken at their scales."
+ * "Price less reference may fall below zero; the cost is then zero."
+ * "The value is the exact cost rounded up once to a whole pound."
+ * "the exact cost is a whole number of parts, 10^17 to the pound" */
+uint64_t judge_value(uint32_t price, uint32_t reference, uint32_t load_factor,
+                     uint32_t hours, uint32_t capacity, uint32_t tlm, uint32_t rqm)
+{
+    const uint64_t parts_to_the_pound = 100000000000000000u;
+    int64_t difference = (int64_t)price - (int64_t)reference;
+    if (difference <= 0)
+        return 0;
+    u128 parts = (u128)difference * load_factor * hours * capacity * (10000 - tlm) * rqm;
+    return (uint64_t)((parts + parts_to_the_pound - 1) / parts_to_the_pound);
+}
+
+/* "Hours are 0 for y before d, 24 × first-year days for y = d, and 24 × days
+ * of y after." */
+static uint32_t hours_in_year(const struct round *round, const struct bid *bid, unsigned y)
+{
+    if (y < bid->year)
+        return 0;
+    if (y == bid->year)
+        return 24 * bid->days;
+    return 24 * round->years[y].days;
+}
+
+static const struct technology *technology_of(const struct round *round, const struct bid *bid)
+{
+    return &round->technologies[round->applications[bid->application].technology];
+}
+
+/* "The price is the clearing price of d, capped at the technology's
+ * administrative price of d, and the same in every year." */
+static uint32_t capped_price(const struct round *round, const struct bid *bid,
+                             uint32_t clearing_price)
+{
+    uint32_t cap = technology_of(round, bid)->administrative[bid->year];
+    return clearing_price < cap ? clearing_price : cap;
+}
+
+static uint64_t value_in_year(const struct round *round, const struct bid *bid,
+                              uint32_t price, unsigned y)
+{
+    const struct technology *technology = technology_of(round, bid);
+    return judge_value(price, technology->reference[y], technology->load_factor[y],
+                       hours_in_year(round, bid, y), bid->capacity,
+                       round->years[y].tlm, technology->rqm);
+}
+
+/* Clearing prices and year totals, a place for each year. */
+struct row {
+    uint32_t price[MAX_YEARS];
+    uint64_t total[MAX_YEARS];
+};
+
+static void add_value(const struct round *round, const struct bid *bid,
+                      uint32_t clearing_price, struct row *row)
+{
+    uint32_t price = capped_price(round, bid, clearing_price);
+    for (unsigned y = 0; y < round->year_count; y++)
+        row->total[y] += value_in_year(round, bid, price, y);
+}
+
+/* "fits if no year's total exceeds its budget; equal fits." */
+static bool fits(const struct round *round, const struct pot *pot, const struct row *row)
+{
+    for (unsigned y = 0; y < round->year_count; y++)
+        if (row->total[y] > pot->budget[y])
+            return false;
+    return true;
+}
+
+static struct row empty_row(void)
+{
+    struct row row;
+    for (unsigned y = 0; y < MAX_YEARS; y++) {
+        row.price[y] = NO_PRICE;
+        row.total[y] = 0;
+    }
+    return row;
+}
+
+/* ---- applications of a pot ---- */
+
+static bool in_pot(const struct round *round, uint32_t application, unsigned pot)
+{
+    return round->technologies[round->applications[application].technology].pot == pot;
+}
+
+/* "An application with no bid is given an automatic one: its own capacity,
+ * year and days, at its administrative price." */
+static struct bid automatic_bid(const struct round *round, uint32_t number)
+{
+    const struct application *application = &round->applications[number];
+    struct bid bid = { 0 };
+    bid.number = AUTOMATIC_BID;
+    bid.application = number;
+    bid.year = application->year;
+    bid.days = application->days;
+    bid.capacity = application->capacity;
+    bid.price = round->technologies[application->technology].administrative[application->year];
+    return bid;
+}
+
+/* ---- first test ---- */
+
+/* "all a pot's applications, at their administrative prices".  An application
+ * at its administrative price is what its automatic bid would be. */
+static struct row administrative_row(const struct round *round, unsigned pot)
+{
+    struct row row = empty_row();
+    for (unsigned i = 0; i < round->application_count; i++)
+        if (in_pot(round, i, pot)) {
+            struct bid own = automatic_bid(round, i);
+            add_value(round, &own, own.price, &row);
+        }
+    return row;
+}
+
+static void set_pot_result(const struct round *round, struct pot_result *result,
+                           enum outcome outcome, const struct row *row)
+{
+    result->outcome = outcome;
+    for (unsigned d = 0; d < round->delivery_years; d++)
+        result->price[d] = row->price[d];
+    for (unsigned y = 0; y < round->year_count; y++)
+        result->total[y] = row->total[y];
+}
+
+static void set_reasons_of_pot(const struct round *round, unsigned pot, enum reason reason,
+                               struct clearing *clearing)
+{
+    for (unsigned i = 0; i < round->bid_count; i++)
+        if (in_pot(round, round->bids[i].application, pot))
+            clearing->bid_reasons[i] = reason;
+}
+
+/* "automatic bid's reason 2 (0 where it had sealed bids)" */
+static uint32_t automatic_reason(const struct application *application, enum reason reason)
+{
+    return application->sealed_bids == 0 ? reason : 0;
+}
+
+/* "In outcome 0 every clearing price is none, the totals are those at
+ * administrative prices, and each application has won with bid 65,535 and its
+ * administrative price." */
+static void all_win_at_administrative_prices(const struct round *round, unsigned pot,
+                                             const struct row *row, struct clearing *clearing)
+{
+    set_pot_result(round, &clearing->pots[pot], ADMINISTRATIVE, row);
+    set_reasons_of_pot(round, pot, IN_OUTCOME_0, clearing);
+    for (unsigned i = 0; i < round->application_count; i++)
+        if (in_pot(round, i, pot)) {
+            struct application_result *result = &clearing->applications[i];
+            result->won = 1;
+            result->bid = NO_BID;
+            result->automatic_reason = automatic_reason(&round->applications[i], IN_OUTCOME_0);
+            result->price = automatic_bid(round, i).price;
+        }
+}
+
+/* ---- the auction ---- */
+
+/* The state of one pot. */
+struct auction {
+    const struct round *round;
+    const struct pot *pot;
+    unsigned bid_count;
+    struct bid bids[MAX_POT_BIDS];
+    enum reason reasons[MAX_POT_BIDS];
+    bool application_won[MAX_APPLICATIONS];
+    bool open[MAX_DELIVERY_YEARS];
+    unsigned winner_count;
+    unsigned winners[MAX_APPLICATIONS]; /* places in bids */
+    struct row row;                     /* of the winners */
+};
+
+/* Some bids of the pot looked at together: at most one of an application, for
+ * they have one price and 8 forbids an application to bid a price twice. */
+struct taken {
+    unsigned count;
+    unsigned bids[MAX_APPLICATIONS]; /* places in auction.bids */
+};
+
+static void open_auction(const struct round *round, unsigned pot, struct auction *a)
+{
+    memset(a, 0, sizeof *a);
+    a->round = round;
+    a->pot = &round->pots[pot];
+    a->row = empty_row();
+    for (unsigned d = 0; d < round->delivery_years; d++)
+        a->open[d] = true;
+    for (unsigned i = 0; i < round->bid_count; i++)
+        if (in_pot(round, round->bids[i].application, pot))
+            a->bids[a->bid_count++] = round->bids[i];
+    for (unsigned i = 0; i < round->application_count; i++)
+        if (in_pot(round, i, pot) && round->applications[i].sealed_bids == 0)
+            a->bids[a->bid_count++] = automatic_bid(round, i);
+}
+
+/* "Live bids are those not yet looked at, of an application that has not won,
+ * in an open year." */
+static bool live(const struct auction *a, unsigned i)
+{
+    const struct bid *bid = &a->bids[i];
+    return a->reasons[i] == NOT_YET_LOOKED_AT && !a->application_won[bid->application]
+        && a->open[bid->year];
+}
+
+/* "Take all live bids at the lowest live price." */
+static struct taken take_lowest_live(const struct auction *a)
+{
+    struct taken taken = { 0 };
+    uint32_t lowest = NO_PRICE;
+    for (unsigned i = 0; i < a->bid_count; i++) {
+        if (!live(a, i) || a->bids[i].price > lowest)
+            continue;
+        if (a->bids[i].price < lowest)
+            taken.count = 0;
+        lowest = a->bids[i].price;
+        taken.bids[taken.count++] = i;
+    }
+    return taken;
+}
+
+/* "A trial adds bids to the winners, sets the clearing price of their years to
+ * their price, revalues every winner" */
+static struct row trial(const struct auction *a, const struct taken *taken)
+{
+    struct row row = a->row;
+    for (unsigned i = 0; i < taken->count; i++) {
+        const struct bid *bid = &a->bids[taken->bids[i]];
+        row.price[bid->year] = bid->price;
+    }
+    for (unsigned y = 0; y < a->round->year_count; y++)
+        row.total[y] = 0;
+    for (unsigned i = 0; i < a->winner_count; i++) {
+        const struct bid *bid = &a->bids[a->winners[i]];
+        add_value(a->round, bid, row.price[bid->year], &row);
+    }
+    for (unsigned i = 0; i < taken->count; i++) {
+        const struct bid *bid = &a->bids[taken->bids[i]];
+        add_value(a->round, bid, row.price[bid->year], &row);
+    }
+    return row;
+}
+
+static bool trial_fits(const struct auction *a, const struct row *row)
+{
+    return fits(a->round, a->pot, row);
+}
+
+/* The bids win, and what the trial set is kept. */
+static void win(struct auction *a, const struct taken *taken, const struct row *row)
+{
+    for (unsigned i = 0; i < taken->count; i++) {
+        unsigned bid = taken->bids[i];
+        COUNT(uint32_t before = a->row.price[a->bids[bid].year];
+              if (before != NO_PRICE && before < a->bids[bid].price)
+                  judge_counts.revalued_winner++);
+        a->reasons[bid] = WON;
+        a->application_won[a->bids[bid].application] = true;
+        a->winners[a->winner_count++] = bid;
+    }
+    a->row = *row;
+}
+
+#ifdef JUDGE_COUNT
+/* Why the chain after the bid turned down last went no further. */
+static void count_end_of_chain(const struct auction *a, unsigned turned_down,
+                               const struct taken *next)
+{
+    const struct bid *bid = &a->bids[turned_down];
+    unsigned own = MAX_POT_BIDS;
+    for (unsigned i = 0; i < a->bid_count; i++)
+        if (live(a, i) && a->bids[i].application == bid->application
+            && a->bids[i].year == bid->year
+            && (own == MAX_POT_BIDS || a->bids[i].price < a->bids[own].price))
+            own = i;
+    if (own == MAX_POT_BIDS)
+        judge_counts.chain_ended++;
+    else if (a->bids[next->bids[0]].price == a->bids[own].price)
+        judge_counts.chain_broken_same_price++;
+    else if (next->count == 1 && a->bids[next->bids[0]].application == bid->application)
+        judge_counts.chain_broken_other_year++;
+    else
+        judge_counts.chain_broken_other_application++;
+}
+#endif
+
+/* "the sole next lowest live bid of the whole pot is of the same application
+ * and year" */
+static bool sole_and_of_same_application_and_year(const struct auction *a,
+                                                  const struct taken *next, unsigned turned_down)
+{
+    if (next->count != 1)
+        return false;
+    const struct bid *bid = &a->bids[next->bids[0]];
+    return bid->application == a->bids[turned_down].application
+        && bid->year == a->bids[turned_down].year;
+}
+
+/* 2. "If one bid alone was taken and does not fit, it is turned down. While the
+ * sole next lowest live bid of the whole pot is of the same application and
+ * year, look at it: if it fits it wins and the year closes; if not it is turned
+ * down, and look again. Otherwise the year closes." */
+static void turn_down_and_look_further(struct auction *a, unsigned bid)
+{
+    unsigned further_looks = 0;
+    bool won = false;
+    a->reasons[bid] = TURNED_DOWN_ALONE;
+    while (!won) {
+        struct taken next = take_lowest_live(a);
+        if (!sole_and_of_same_application_and_year(a, &next, bid)) {
+            COUNT(count_end_of_chain(a, bid, &next));
+            break;
+        }
+        further_looks++;
+        struct row row = trial(a, &next);
+        won = trial_fits(a, &row);
+        if (won)
+            win(a, &next, &row);
+        else
+            a->reasons[next.bids[0]] = TURNED_DOWN_ALONE;
+    }
+    a->open[a->bids[bid].year] = false;
+    COUNT(judge_counts.further_looks[further_looks < 3 ? further_looks : 3]++;
+          judge_counts.chain_won_at[won ? further_looks : 0]++);
+}
+
+static uint32_t draw_of(const struct auction *a, unsigned bid)
+{
+    return a->round->applications[a->bids[bid].application].draw;
+}
+
+/* 3. "drop those that do not fit alone."  Those that remain are handed back in
+ * the order of their draws, the lowest first. */
+static struct taken remaining_of(const struct auction *a, const struct taken *taken)
+{
+    struct taken remaining = { 0 };
+    for (unsigned i = 0; i < taken->count; i++) {
+        struct taken alone = { 1, { taken->bids[i] } };
+        struct row row = trial(a, &alone);
+        if (!trial_fits(a, &row))
+            continue;
+        unsigned place = remaining.count++;
+        while (place > 0 && draw_of(a, remaining.bids[place - 1]) > draw_of(a, taken->bids[i])) {
+            remaining.bids[place] = remaining.bids[place - 1];
+            place--;
+        }
+        remaining.bids[place] = taken->bids[i];
+    }
+    return remaining;
+}
+
+/* "Each combination has a number: one binary place for each remaining bid, the
+ * lowest draw highest." */
+static struct taken combination(const struct taken *remaining, unsigned number)
+{
+    struct taken chosen = { 0 };
+    for (unsigned i = 0; i < remaining->count; i++)
+        if ((number >> (remaining->count - 1 - i)) & 1)
+            chosen.bids[chosen.count++] = remaining->bids[i];
+    return chosen;
+}
+
+/* "choose the fitting combination whose total in the last year of the file is
+ * greatest; if none remain, none is chosen. Among equals, the one holding the
+ * lowest-draw bid on which they differ", that is the largest number. */
+static struct taken choose_combination(struct auction *a, const struct taken *remaining)
+{
+    unsigned last = a->round->year_count - 1;
+    struct taken best = { 0 };
+    uint64_t best_total = 0;
+    COUNT(judge_counts.tie_none_remain += remaining->count == 0);
+#ifdef JUDGE_COUNT
+    bool equals = false;
+#endif
+    for (unsigned number = 1; number < 1u << remaining->count; number++) {
+        struct taken chosen = combination(remaining, number);
+        struct row row = trial(a, &chosen);
+        if (!trial_fits(a, &row) || row.total[last] < best_total)
+            continue;
+        COUNT(equals = best.count > 0 && row.total[last] == best_total);
+        best = chosen;
+        best_total = row.total[last];
+    }
+    COUNT(judge_counts.tie_equal_totals += equals);
+    return best;
+}
+
+#ifdef JUDGE_COUNT
+static void count_tie(const struct auction *a, const struct taken *taken, unsigned remaining)
+{
+    judge_counts.tie[taken->count][remaining]++;
+    judge_counts.tie_with_earlier_winners += a->winner_count > 0;
+    for (unsigned i = 1; i < taken->count; i++)
+        if (a->bids[taken->bids[i]].year != a->bids[taken->bids[0]].year) {
+            judge_counts.tie_across_years++;
+            return;
+        }
+}
+
+static void count_open_after_tie(const struct auction *a, const struct taken *taken)
+{
+    for (unsigned i = 0; i < taken->count; i++)
+        if (a->open[a->bids[taken->bids[i]].year]) {
+            judge_counts.tie_left_a_taken_year_open++;
+            return;
+        }
+}
+#endif
+
+/* 3. "If several were taken and do not fit, ... If more than 10 remain, outcome
+ * 2" (answered as false) "... All others taken are turned down and their years
+ * close." */
+static bool break_tie(struct auction *a, const struct taken *taken)
+{
+    struct taken remaining = remaining_of(a, taken);
+    COUNT(count_tie(a, taken, remaining.count));
+    if (remaining.count > MAX_REMAINING)
+        return false;
+    struct taken chosen = choose_combination(a, &remaining);
+    if (chosen.count > 0) {
+        struct row row = trial(a, &chosen);
+        win(a, &chosen, &row);
+    }
+    for (unsigned i = 0; i < taken->count; i++) {
+        unsigned bid = taken->bids[i];
+        if (a->reasons[bid] == WON)
+            continue;
+        a->reasons[bid] = TURNED_DOWN_IN_TIE;
+        a->open[a->bids[bid].year] = false;
+    }
+    COUNT(count_open_after_tie(a, taken));
+    return true;
+}
+
+/* 1. "Take all live bids at the lowest live price. If together they fit, all
+ * win."  "The pot ends when no bid is live". */
+static enum outcome hold_auction(struct auction *a)
+{
+    for (;;) {
+        struct taken taken = take_lowest_live(a);
+        if (taken.count == 0)
+            return AUCTION;
+        struct row row = trial(a, &taken);
+        if (trial_fits(a, &row)) {
+            COUNT(judge_counts.ties_that_fit[taken.count]++);
+            win(a, &taken, &row);
+        } else if (taken.count == 1) {
+            turn_down_and_look_further(a, taken.bids[0]);
+        } else if (!break_tie(a, &taken)) {
+            return TIE;
+        }
+    }
+}
+
+/* "4 not looked at, its application won; 5 not looked at, otherwise" */
+static enum reason final_reason(const struct auction *a, unsigned i)
+{
+    if (a->reasons[i] != NOT_YET_LOOKED_AT)
+        return a->reasons[i];
+    return a->application_won[a->bids[i].application] ? NOT_LOOKED_AT_APPLICATION_WON
+                                                      : NOT_LOOKED_AT_OTHERWISE;
+}
+
+static struct application_result lost(const struct round *round, unsigned application,
+                                      enum reason reason)
+{
+    struct application_result result = { 0, NO_BID, 0, 0 };
+    result.automatic_reason = automatic_reason(&round->applications[application], reason);
+    return result;
+}
+
+/* "If more than 10 remain, outcome 2: no price, totals 0, no winner in this
+ * pot."  "An application without sealed bids has automatic reason ... 7 in
+ * outcome 2." */
+static void none_wins(const struct round *round, unsigned pot, struct clearing *clearing)
+{
+    struct row row = empty_row();
+    set_pot_result(round, &clearing->pots[pot], TIE, &row);
+    set_reasons_of_pot(round, pot, IN_OUTCOME_2, clearing);
+    for (unsigned i = 0; i < round->application_count; i++)
+        if (in_pot(round, i, pot))
+            clearing->applications[i] = lost(round, i, IN_OUTCOME_2);
+}
+
+#ifdef JUDGE_COUNT
+static void count_winner(const struct auction *a, const struct bid *bid)
+{
+    const struct round *round = a->round;
+    const struct technology *technology = technology_of(round, bid);
+    struct row row = empty_row();
+    add_value(round, bid, a->row.price[bid->year], &row);
+    bool zero = true, other_cap = false;
+    for (unsigned y = 0; y < round->year_count; y++)
+        zero = zero && row.total[y] == 0;
+    for (unsigned d = bid->year + 1; d < round->delivery_years; d++)
+        other_cap = other_cap || technology->administrative[d] != technology->administrative[bid->year];
+    bool capped = technology->administrative[bid->year] < a->row.price[bid->year];
+    judge_counts.zero_cost_winner += zero;
+    judge_counts.capped_winner += capped;
+    judge_counts.capped_winner_other_cap_later += capped && other_cap;
+    judge_counts.won_in_later_year += bid->year > round->applications[bid->application].year;
+    for (unsigned i = 0; i < a->bid_count; i++)
+        if (a->bids[i].application == bid->application
+            && (a->reasons[i] == TURNED_DOWN_ALONE || a->reasons[i] == TURNED_DOWN_IN_TIE)) {
+            judge_counts.won_after_turned_down++;
+            break;
+        }
+}
+
+static void count_years_closed(const struct auction *a)
+{
+    unsigned open = 0;
+    for (unsigned d = 0; d < a->round->delivery_years; d++)
+        open += a->open[d];
+    judge_counts.closed_some_but_not_all += open > 0 && open < a->round->delivery_years;
+}
+#endif
+
+/* "A winner is paid its year's clearing price capped at its administrative
+ * price." */
+static void set_winner(const struct auction *a, const struct bid *bid, struct clearing *clearing)
+{
+    struct application_result *result = &clearing->applications[bid->application];
+    result->won = 1;
+    result->bid = bid->number;
+    result->price = capped_price(a->round, bid, a->row.price[bid->year]);
+    COUNT(count_winner(a, bid));
+}
+
+static void set_auction_result(const struct auction *a, unsigned pot, struct clearing *clearing)
+{
+    set_pot_result(a->round, &clearing->pots[pot], AUCTION, &a->row);
+    COUNT(count_years_closed(a));
+    for (unsigned i = 0; i < a->bid_count; i++) {
+        const struct bid *bid = &a->bids[i];
+        enum reason reason = final_reason(a, i);
+        if (bid->number != AUTOMATIC_BID)
+            clearing->bid_reasons[bid->number] = reason;
+        if (!a->application_won[bid->application])
+            clearing->applications[bid->application] = lost(a->round, bid->application, reason);
+        else
+            clearing->applications[bid->application].automatic_reason =
+                automatic_reason(&a->round->applications[bid->application], reason);
+    }
+    for (unsigned i = 0; i < a->winner_count; i++)
+        set_winner(a, &a->bids[a->winners[i]], clearing);
+}
+
+#ifdef JUDGE_COUNT
+static void count_first_test(const struct round *round, unsigned p, const struct row *row)
+{
+    unsigned over = 0, over_by_one = 0;
+    for (unsigned y = 0; y < round->year_count; y++) {
+        over += row->total[y] > round->pots[p].budget[y];
+        over_by_one += row->total[y] == round->pots[p].budget[y] + 1;
+    }
+    judge_counts.one_over_administrative += over > 0 && over == over_by_one;
+}
+#endif
+
+/* "Pots are cleared apart. If all a pot's applications, at their administrative
+ * prices, fit its budget in every year, all win at those prices (outcome 0) and
+ * no bid is looked at. A pot with no application is such a pot. Otherwise
+ * outcome 1, by these steps." */
+static void clear_pot(const struct round *round, unsigned pot, struct clearing *clearing)
+{
+    struct row row = administrative_row(round, pot);
+    COUNT(count_first_test(round, pot, &row));
+    if (fits(round, &round->pots[pot], &row)) {
+        all_win_at_administrative_prices(round, pot, &row, clearing);
+        return;
+    }
+    struct auction a;
+    open_auction(round, pot, &a);
+    if (hold_auction(&a) == TIE)
+        none_wins(round, pot, clearing);
+    else
+        set_auction_result(&a, pot, clearing);
+}
+
+#ifdef JUDGE_COUNT
+static void count_clearing(const struct round *round, const struct clearing *clearing)
+{
+    for (unsigned p = 0; p < round->pot_count; p++) {
+        const struct pot_result *result = &clearing->pots[p];
+        bool zero = false, equal = false, empty = true;
+        for (unsigned i = 0; i < round->application_count; i++)
+            empty = empty && !in_pot(round, i, p);
+        for (unsigned y = 0; y < round->year_count; y++) {
+            zero = zero || round->pots[p].budget[y] == 0;
+            equal = equal || (result->total[y] == round->pots[p].budget[y] && result->total[y] > 0);
+        }
+        judge_counts.outcome[result->outcome]++;
+        judge_counts.outcome_of_empty_pot += empty;
+        judge_counts.budget_0_administrative += zero && !empty && result->outcome == ADMINISTRATIVE;
+        judge_counts.budget_0_auction += zero && result->outcome == AUCTION;
+        judge_counts.budget_equals_total_administrative += equal && result->outcome == ADMINISTRATIVE;
+        judge_counts.budget_equals_total_auction += equal && result->outcome == AUCTION;
+    }
+    for (unsigned i = 0; i < round->bid_count; i++)
+        judge_counts.sealed_reason[clearing->bid_reasons[i]]++;
+    for (unsigned i = 0; i < round->application_count; i++)
+        judge_counts.automatic_reason[clearing->applications[i].automatic_reason]++;
+}
+#endif
+
+static void clear_round(const struct round *round, struct clearing *clearing)
+{
+    memset(clearing, 0, sizeof *clearing);
+    for (unsigned p = 0; p < round->pot_count; p++)
+        clear_pot(round, p, clearing);
+    COUNT(count_clearing(round, clearing));
+}
+
+/* ---- the result ---- */
+
+static void put(uint8_t **p, unsigned bytes, uint64_t n)
+{
+    for (unsigned i = 0; i < bytes; i++)
+        *(*p)++ = (uint8_t)(n >> (8 * i));
+}
+
+/* "Pots: outcome 2, clearing price 4 for each delivery year (4,294,967,295 for
+ * none), total 8 for each year." */
+static void put_pots(const struct round *round, const struct clearing *clearing, uint8_t **p)
+{
+    put(p, 2, round->pot_count);
+    for (unsigned i = 0; i < round->pot_count; i++) {
+        put(p, 2, clearing->pots[i].outcome);
+        for (unsigned d = 0; d < round->delivery_years; d++)
+            put(p, 4, clearing->pots[i].price[d]);
+        for (unsigned y = 0; y < round->year_count; y++)
+            put(p, 8, clearing->pots[i].total[y]);
+    }
+}
+
+/* "Applications: won 2 (1 or 0), bid 2 (65,534 automatic, 65,535 none),
+ * automatic bid's reason 2 (0 where it had sealed bids), price paid 4 (0 if
+ * lost)." */
+static void put_applications(const struct round *round, const struct clearing *clearing,
+                             uint8_t **p)
+{
+    put(p, 2, round->application_count);
+    for (unsigned i = 0; i < round->application_count; i++) {
+        put(p, 2, clearing->applications[i].won);
+        put(p, 2, clearing->applications[i].bid);
+        put(p, 2, clearing->applications[i].automatic_reason);
+        put(p, 4, clearing->applications[i].price);
+    }
+}
+
+/* "Bids: reason 2." */
+static void put_bids(const struct round *round, const struct clearing *clearing, uint8_t **p)
+{
+    put(p, 2, round->bid_count);
+    for (unsigned i = 0; i < round->bid_count; i++)
+        put(p, 2, clearing->bid_reasons[i]);
+}
+
+uint64_t judge_result_len(const uint8_t *file, uint64_t file_len)
+{
+    struct round round;
+    return read_round(file, file_len, &round) == 0 ? result_needs(&round) : 0;
+}
+
+/* "Then 10, 11 (first such bid in the file), 12."
+ * 12: "the lent result is too short"; "A refusal writes nothing." */
+uint64_t judge_clear(const uint8_t *file, uint64_t file_len,
+                     uint8_t *result, uint64_t result_len)
+{
+    struct round round;
+    struct clearing clearing;
+    uint64_t refused = read_round(file, file_len, &round);
+    if (refused != 0)
+        return refused;
+    if (result_len < result_needs(&round))
+        return refusal(12, 0);
+    clear_round(&round, &clearing);
+    put_pots(&round, &clearing, &result);
+    put_applications(&round, &clearing, &result);
+    put_bids(&round, &clearing, &result);
+    return 0;
+}
+
+/* ---- the listing ---- */
+
+struct listing {
+    char *out;
+    size_t cap, len;
+    bool too_small;
+};
+
+__attribute__((format(printf, 2, 3)))
+static void print(struct listing *l, const char *format, ...)
+{
+    char line[128];
+    va_list arguments;
+    va_start(arguments, format);
+    int n = vsnprintf(line, sizeof line, format, arguments);
+    va_end(arguments);
+    if (n < 0 || (size_t)n >= sizeof line || l->cap - l->len < (size_t)n) {
+        l->too_small = true;
+        return;
+    }
+    memcpy(l->out + l->len, line, (size_t)n);
+    l->len += (size_t)n;
+}
+
+/* "no price or bid as `-`" */
+static void print_price(struct listing *l, uint32_t price)
+{
+    if (price == NO_PRICE)
+        print(l, "-");
+    else
+        print(l, "%u", price);
+}
+
+/* "Year lines follow their pot line, one for each year of the file, with the
+ * year's number, clearing price and total; a valuation-only year has no price."
+ * "Outcomes print as administrative, auction, tie" */
+static void print_pot(struct listing *l, const struct round *round, unsigned pot,
+                      const struct pot_result *result)
+{
+    static const char *const outcomes[] = { "administrative", "auction", "tie" };
+    print(l, "pot %u %s\n", pot, outcomes[result->outcome]);
+    for (unsigned y = 0; y < round->year_count; y++) {
+        print(l, "year %u price ", y);
+        print_price(l, y < round->delivery_years ? result->price[y] : NO_PRICE);
+        print(l, " total %llu\n", (unsigned long long)result->total[y]);
+    }
+}
+
+/* "An application line has its number and, if it won, the price paid and the
+ * bid."  "no price or bid as `-`; an automatic bid as `auto`" */
+static void print_application(struct listing *l, unsigned number,
+                              const struct application_result *result)
+{
+    if (!result->won)
+        print(l, "application %u lost\n", number);
+    else if (result->bid == NO_BID)
+        print(l, "application %u won %u bid -\n", number, result->price);
+    else if (result->bid == AUTOMATIC_BID)
+        print(l, "application %u won %u bid auto\n", number, result->price);
+    else
+        print(l, "application %u won %u bid %u\n", number, result->price, result->bid);
+}
+
+static void print_clearing(struct listing *l, const struct round *round,
+                           const struct clearing *clearing)
+{
+    for (unsigned p = 0; p < round->pot_count; p++)
+        print_pot(l, round, p, &clearing->pots[p]);
+    for (unsigned i = 0; i < round->application_count; i++)
+        print_application(l, i, &clearing->applications[i]);
+    for (unsigned i = 0; i < round->bid_count; i++)
+        print(l, "bid %u reason %u\n", i, clearing->bid_reasons[i]);
+}
+
+/* "A refusal prints only `refused 7 at 120`, its number and offset." */
+int judge_listing(const uint8_t *file, uint64_t file_len, char *out, size_t cap)
+{
+    struct round round;
+    struct clearing clearing;
+    struct listing l = { out, cap, 0, false };
+    uint64_t refused = read_round(file, file_len, &round);
+    if (refused != 0) {
+        print(&l, "refused %u at %u\n", (unsigned)(refused >> 32), (unsigned)refused);
+    } else {
+        clear_round(&round, &clearing);
+        print_clearing(&l, &round, &clearing);
+    }
+    return l.too_small ? -1 : (int)l.len;
+}

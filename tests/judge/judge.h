@@ -1,0 +1,104 @@
+/* A judge of the clearing: document 01 ("What the clearing build is and its
+ * rules") read a second time, in plain C, apart from the crates. */
+#ifndef JUDGE_H
+#define JUDGE_H
+
+#include <stdbool.h>
+#include <stddef.h>
+#include <stdint.h>
+
+enum {
+    JUDGE_MAX_YEARS = 8,
+    JUDGE_MAX_DELIVERY_YEARS = 4,
+    JUDGE_MAX_POTS = 4,
+    JUDGE_MAX_TECHNOLOGIES = 32,
+    JUDGE_MAX_APPLICATIONS = 64,
+    JUDGE_MAX_BIDS = 256,
+    JUDGE_MAX_FILE = 7866,
+    /* 6 + P(2 + 4D + 8Y) + 10N + 2B at the limits */
+    JUDGE_MAX_RESULT = 6 + 4 * (2 + 4 * 4 + 8 * 8) + 10 * 64 + 2 * 256,
+    /* enough for the longest listing */
+    JUDGE_LISTING_CAP = 32768
+};
+
+/* 0 when cleared: exactly the result's bytes are written, those after stay.
+ * Otherwise refusal number * 2^32 + offset, and result is untouched. */
+uint64_t judge_clear(const uint8_t *file, uint64_t file_len,
+                     uint8_t *result, uint64_t result_len);
+
+/* The length the result needs, or 0 for a file refused by 1 to 11. */
+uint64_t judge_result_len(const uint8_t *file, uint64_t file_len);
+
+/* Writes the listing (not 0-ended) and answers its length, or -1 if cap is
+ * too small for it (what then stands in out is not promised). */
+int judge_listing(const uint8_t *file, uint64_t file_len, char *out, size_t cap);
+
+/* Value of one bid in one year, in whole pounds; every argument at its scale
+ * in the file, price already capped. */
+uint64_t judge_value(uint32_t price, uint32_t reference, uint32_t load_factor,
+                     uint32_t hours, uint32_t capacity, uint32_t tlm, uint32_t rqm);
+
+#ifdef JUDGE_COUNT
+/* What happened so far while judge_counting was set.  Only the clause that
+ * decided counts. */
+extern bool judge_counting;
+
+#define JUDGE_CLAUSES(X) \
+    X(3, year_days) X(3, year_kind) X(3, year_tlm) X(3, year_0_not_delivery) \
+    X(3, delivery_after_valuation_only) X(3, fifth_delivery_year) \
+    X(4, budget_above) \
+    X(5, pot_not_in_file) X(5, rqm_above) X(5, load_factor_above) X(5, reference_above) \
+    X(5, administrative_below_10) X(5, administrative_above) \
+    X(5, administrative_not_multiple) X(5, administrative_not_0) \
+    X(6, technology_not_in_file) X(6, application_year) X(6, application_days_0) \
+    X(6, application_days_above) X(6, application_capacity_0) \
+    X(6, application_capacity_above) X(6, draw_used) \
+    X(7, application_not_in_file) X(7, bid_year) X(7, bid_days_0) X(7, bid_days_above) \
+    X(7, bid_capacity_0) X(7, bid_capacity_above) X(7, bid_year_earlier) \
+    X(7, bid_more_days) X(7, bid_price_above) \
+    X(8, price_of_earlier_bid) \
+    X(9, eleventh_bid) X(9, fourth_bid_in_year) \
+    X(10, bytes_after) \
+    X(11, lowest_not_multiple)
+
+#define JUDGE_CLAUSE_NAME(number, name) JUDGE_CLAUSE_##name,
+enum judge_clause { JUDGE_CLAUSES(JUDGE_CLAUSE_NAME) JUDGE_CLAUSE_COUNT };
+
+struct judge_counts {
+    uint64_t accepted;
+    uint64_t refusal[13];
+    uint64_t clause[JUDGE_CLAUSE_COUNT];
+    uint64_t cut_count[5], cut_record[5];      /* refusal 1 by section */
+    uint64_t count_low[5], count_high[5];      /* refusal 2 by section */
+    uint64_t outcome[3];
+    uint64_t outcome_of_empty_pot;
+    uint64_t sealed_reason[8], automatic_reason[8];
+    uint64_t further_looks[4];                 /* looks of one chain; 3 = 3 or more */
+    uint64_t chain_won_at[4];                  /* 0: none won */
+    uint64_t chain_ended;                      /* no later bid of that application and year */
+    uint64_t chain_broken_same_price;          /* its next bid is tied with another */
+    uint64_t chain_broken_other_application;   /* another's bid in between */
+    uint64_t chain_broken_other_year;          /* its own bid of another year in between */
+    uint64_t ties_that_fit[65];                /* by taken */
+    uint64_t tie[65][65];                      /* by taken, remaining */
+    uint64_t tie_across_years;
+    uint64_t tie_left_a_taken_year_open;       /* of the years taken, one stayed open */
+    uint64_t tie_equal_totals;                 /* the largest number decided */
+    uint64_t tie_none_remain;
+    uint64_t tie_with_earlier_winners;
+    uint64_t zero_cost_winner;                 /* outcome 1 */
+    uint64_t capped_winner;                    /* paid less than the clearing price */
+    uint64_t capped_winner_other_cap_later;    /* and a later year's price differs */
+    uint64_t revalued_winner;                  /* clearing price of a year raised */
+    uint64_t won_in_later_year;                /* than the application's */
+    uint64_t won_after_turned_down;
+    uint64_t budget_0_administrative, budget_0_auction;
+    uint64_t budget_equals_total_administrative, budget_equals_total_auction;
+    uint64_t one_over_administrative;          /* the first test failed by one pound */
+    uint64_t closed_some_but_not_all;          /* pots ending with open and closed years */
+};
+
+extern struct judge_counts judge_counts;
+#endif
+
+#endif

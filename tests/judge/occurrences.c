@@ -1,0 +1,180 @@
+#include "occurrences.h"
+
+#include <stdio.h>
+
+#ifndef JUDGE_COUNT
+#error "occurrences.c needs -DJUDGE_COUNT"
+#endif
+
+static unsigned wrong;
+static struct judge_counts rounds, all;
+
+static void line(const char *name, uint64_t of_rounds, uint64_t of_damaged, const char *verdict)
+{
+    printf("  %-46s %10llu %10llu%s\n", name, (unsigned long long)of_rounds,
+           (unsigned long long)of_damaged, verdict);
+}
+
+static void must_occur(const char *name, uint64_t of_rounds, uint64_t of_all)
+{
+    wrong += of_all == 0;
+    line(name, of_rounds, of_all - of_rounds, of_all == 0 ? "   NEVER OCCURRED" : "");
+}
+
+static void must_not_occur(const char *name, uint64_t of_rounds, uint64_t of_all)
+{
+    wrong += of_all != 0;
+    line(name, of_rounds, of_all - of_rounds, of_all != 0 ? "   IMPOSSIBLE" : "   (cannot occur)");
+}
+
+#define OCCURS(field) must_occur(#field, rounds.field, all.field)
+
+static void occurs(const char *format, unsigned n, uint64_t of_rounds, uint64_t of_all)
+{
+    char name[64];
+    snprintf(name, sizeof name, format, n);
+    must_occur(name, of_rounds, of_all);
+}
+
+static void occurs_in_section(const char *format, unsigned section, uint64_t of_rounds,
+                              uint64_t of_all)
+{
+    static const char *const sections[] = { "years", "pots", "technologies", "applications", "bids" };
+    char name[64];
+    snprintf(name, sizeof name, format, sections[section]);
+    must_occur(name, of_rounds, of_all);
+}
+
+static void print_refusals(void)
+{
+    printf("files\n");
+    OCCURS(accepted);
+    for (unsigned n = 1; n <= 11; n++)
+        occurs("refusal %u", n, rounds.refusal[n], all.refusal[n]);
+    occurs("refusal %u (results lent too short)", 12, rounds.refusal[12], all.refusal[12]);
+    printf("refusals 1 and 2 by place\n");
+    for (unsigned s = 0; s < 5; s++) {
+        occurs_in_section("1: count of %s", s, rounds.cut_count[s], all.cut_count[s]);
+        occurs_in_section("1: record of %s", s, rounds.cut_record[s], all.cut_record[s]);
+        occurs_in_section("2: too many %s", s, rounds.count_high[s], all.count_high[s]);
+        if (s < 3)
+            occurs_in_section("2: too few %s", s, rounds.count_low[s], all.count_low[s]);
+    }
+    printf("refusals 3 to 11 by clause\n");
+#define CLAUSE_LINE(number, name) \
+    must_occur(#number ": " #name, rounds.clause[JUDGE_CLAUSE_##name], all.clause[JUDGE_CLAUSE_##name]);
+    JUDGE_CLAUSES(CLAUSE_LINE)
+}
+
+static void print_outcomes(void)
+{
+    printf("pots\n");
+    for (unsigned n = 0; n < 3; n++)
+        occurs("outcome %u", n, rounds.outcome[n], all.outcome[n]);
+    must_occur("outcome 0 of a pot with no application", rounds.outcome_of_empty_pot,
+               all.outcome_of_empty_pot);
+    OCCURS(budget_0_administrative);
+    OCCURS(budget_0_auction);
+    OCCURS(budget_equals_total_administrative);
+    OCCURS(budget_equals_total_auction);
+    OCCURS(one_over_administrative);
+    OCCURS(closed_some_but_not_all);
+    printf("winners of auctions\n");
+    OCCURS(zero_cost_winner);
+    OCCURS(capped_winner);
+    OCCURS(capped_winner_other_cap_later);
+    OCCURS(revalued_winner);
+    OCCURS(won_in_later_year);
+    OCCURS(won_after_turned_down);
+}
+
+static void print_reasons(void)
+{
+    printf("reasons\n");
+    must_not_occur("sealed bid, reason 0", rounds.sealed_reason[0], all.sealed_reason[0]);
+    for (unsigned n = 1; n <= 7; n++)
+        occurs("sealed bid, reason %u", n, rounds.sealed_reason[n], all.sealed_reason[n]);
+    occurs("automatic reason %u (had sealed bids)", 0, rounds.automatic_reason[0],
+           all.automatic_reason[0]);
+    for (unsigned n = 1; n <= 7; n++)
+        if (n == 4) /* it is its application's only bid */
+            must_not_occur("automatic reason 4", rounds.automatic_reason[n], all.automatic_reason[n]);
+        else
+            occurs("automatic reason %u", n, rounds.automatic_reason[n], all.automatic_reason[n]);
+}
+
+static void print_chains(void)
+{
+    printf("chains (a bid turned down alone)\n");
+    for (unsigned n = 0; n <= 2; n++)
+        occurs("%u further looks", n, rounds.further_looks[n], all.further_looks[n]);
+    /* an application has three bids in a year at most */
+    must_not_occur("3 or more further looks", rounds.further_looks[3], all.further_looks[3]);
+    occurs("won at further look %u (0: none won)", 0, rounds.chain_won_at[0], all.chain_won_at[0]);
+    for (unsigned n = 1; n <= 2; n++)
+        occurs("won at further look %u", n, rounds.chain_won_at[n], all.chain_won_at[n]);
+    OCCURS(chain_ended);
+    OCCURS(chain_broken_same_price);
+    OCCURS(chain_broken_other_application);
+    OCCURS(chain_broken_other_year);
+}
+
+static uint64_t ties_in(const struct judge_counts *counts, unsigned taken_low, unsigned taken_high,
+                        unsigned remaining_low, unsigned remaining_high)
+{
+    uint64_t sum = 0;
+    for (unsigned t = taken_low; t <= taken_high; t++)
+        for (unsigned r = remaining_low; r <= remaining_high; r++)
+            sum += counts->tie[t][r];
+    return sum;
+}
+
+static void print_tie_widths(void)
+{
+    printf("ties, rounds and damaged together; a row for each number taken,\n"
+           "a column for each number remaining, 'fit' where all fitted together\n  taken   fit");
+    for (unsigned r = 0; r <= 10; r++)
+        printf(" %6u", r);
+    printf("    11+\n");
+    for (unsigned t = 2; t <= 13; t++) {
+        unsigned most = t == 13 ? 64 : t;
+        uint64_t fit = 0;
+        for (unsigned u = t; u <= most; u++)
+            fit += all.ties_that_fit[u];
+        printf("  %4u%s %5llu", t, t == 13 ? "+" : " ", (unsigned long long)fit);
+        for (unsigned r = 0; r <= 10; r++)
+            printf(" %6llu", (unsigned long long)ties_in(&all, t, most, r, r));
+        printf(" %6llu\n", (unsigned long long)ties_in(&all, t, most, 11, 64));
+    }
+}
+
+static void print_ties(void)
+{
+    print_tie_widths();
+    for (unsigned t = 2; t <= 12; t++)
+        occurs("%u taken in a tie that does not fit", t, ties_in(&rounds, t, t, 0, 64),
+               ties_in(&all, t, t, 0, 64));
+    occurs("%u or more taken", 13, ties_in(&rounds, 13, 64, 0, 64), ties_in(&all, 13, 64, 0, 64));
+    for (unsigned r = 0; r <= 12; r++)
+        occurs("%u remaining", r, ties_in(&rounds, 2, 64, r, r), ties_in(&all, 2, 64, r, r));
+    occurs("%u or more remaining", 13, ties_in(&rounds, 2, 64, 13, 64), ties_in(&all, 2, 64, 13, 64));
+    OCCURS(tie_across_years);
+    OCCURS(tie_left_a_taken_year_open);
+    OCCURS(tie_equal_totals);
+    OCCURS(tie_none_remain);
+    OCCURS(tie_with_earlier_winners);
+}
+
+unsigned print_occurrences(const struct judge_counts *of_rounds, const struct judge_counts *of_all)
+{
+    wrong = 0;
+    rounds = *of_rounds;
+    all = *of_all;
+    printf("  %-46s %10s %10s\n", "occurred", "in rounds", "in others");
+    print_refusals();
+    print_outcomes();
+    print_reasons();
+    print_chains();
+    print_ties();
+    return wrong;
+}

@@ -1,0 +1,4 @@
+#ifndef STDLIB_H
+#define STDLIB_H
+unsigned long long strtoull(const char *, char **, int);
+#endif

@@ -1,0 +1,31 @@
+# Sourced from the repository's folder: C programs for x86-64 that link the library, built and run on x86-64 or, with the kit's emulator, on Arm.
+kit=$(dirname "$(dirname "$(rt doc)")")/on/$(uname -m)
+tools=$kit/toolchain
+
+# library: proves and writes target/staticlib/libcapi.a
+library() {
+    rt staticlib capi >target/library.log 2>&1 || { cat target/library.log; return 1; }
+}
+
+# compile OBJECT FILE [WORDS...]
+compile() {
+    object=$1 file=$2
+    shift 2
+    clang --target=x86_64-linux-gnu -std=c11 -Wall -Wextra -Werror -O2 -fPIC -fno-stack-protector -nostdlibinc -isystem tests/libc -I include \
+        "$@" -c "$file" -o "$object"
+}
+
+# link PROGRAM OBJECT...: with the library
+link() {
+    program=$1
+    shift
+    "$kit/bin/rattle-link" --target x86_64-unknown-linux-gnu --toolchain "$tools" -o "$program" "$@" target/staticlib/libcapi.a 2>target/link.log \
+        || { cat target/link.log; return 1; }
+}
+
+# run PROGRAM [WORDS...]
+run() {
+    emulator=$tools/bin/qemu-x86_64
+    [ -x "$emulator" ] || emulator=
+    $emulator "$tools/lib/ld-linux-x86-64.so.2" --library-path "$tools/lib" "$@"
+}
