@@ -1,11 +1,13 @@
--- Equal numbers are judged alike; and the rules that read nothing but the bids. Assumes nothing.
-use Prim.Native.Nat.{ℕ, _+_, _*_, _≤_, _<_}
-use mathlib.Core.Path.{_≡_, refl, _∙_}
+-- Equal numbers are judged alike; the rules that read nothing but the bids; and records judged from the last to the first. Assumes nothing.
+use Prim.Native.Nat.{ℕ, suc, _+_, _-_, _*_, _≤_, _<_}
+use mathlib.Core.Path.{_≡_, refl, sym, _∙_}
 use native.Mathlib.Omega.{arith}
 use native.Mathlib.Nat.{mul-le-mul-right}
 use Rattle.rules.specs.File.{Round, yearAt, techAt, appAt, bidAt}
-use Rattle.rules.specs.Refusals.{orFault, sevenOf, eightOf, nineOf, bidFault}
-use Rattle.laws.specs.Walk.{same-rule}
+use Rattle.rules.specs.Refusals.{orElse, orFault, scan, sevenOf, eightOf, nineOf, bidFault}
+use Rattle.rules.specs.declared.Reading.{Reading}
+use Rattle.rules.specs.declared.Reading.the-variants.{Refused}
+use Rattle.laws.specs.Walk.{refuses, same-rule}
 use Rattle.bids.specs.Bids.{judgeOf, heldOf, alone}
 
 -- the rule of the numbers that were read is the rule of the bid
@@ -37,15 +39,49 @@ pub record-whole : (x t w : ℕ) {l : ℕ} → x < t → t * w ≤ l → x * w +
 record-whole x t w h e = omega (arith, mul-le-mul-right w h)
 
 -- "for bids 7, then 8, then 9"; the last two read nothing but the bids
-pub in-order : (R : Round) (i : ℕ) {r w a b c : ℕ} → r ≡ orFault a w → w ≡ orFault b c → a ≡ sevenOf R i → b ≡ eightOf (alone (R .bids) i) i → c ≡ nineOf (alone (R .bids) i) i → r ≡ bidFault R i
+pub in-order : (R : Round) (i : ℕ) {r a b : ℕ} → r ≡ orFault a b → a ≡ sevenOf R i → b ≡ orFault (eightOf (alone (R .bids) i) i) (nineOf (alone (R .bids) i) i)
+    → r ≡ bidFault R i
 unfolding bidFault eightOf nineOf
-in-order R i p q e f g =
-    let f′ = f ∙ eight-alone in
-    let g′ = g ∙ nine-alone in
+in-order R i p e f =
+    let f′ = f ∙ both-alone in
     cc
   where
-    eight-alone : eightOf (alone (R .bids) i) i ≡ eightOf R i
-    eight-alone = refl
+    both-alone : orFault (eightOf (alone (R .bids) i) i) (nineOf (alone (R .bids) i) i) ≡ orFault (eightOf R i) (nineOf R i)
+    both-alone = refl
 
-    nine-alone : nineOf (alone (R .bids) i) i ≡ nineOf R i
-    nine-alone = refl
+-- ---- records judged from the last to the first
+
+-- none is judged yet, and none is at fault
+pub back-none : (f : ℕ → ℕ) (w base n at : ℕ) (r : Reading) → scan f w base n (n - n) r ≡ orElse 0 at r
+unfolding scan orElse
+back-none f w base n at r = let q : n - n ≡ 0 = omega arith in rw q
+
+-- fault m at `at` is the answer of those from `left` on
+module _ (f : ℕ → ℕ) (w base n left : ℕ) (r : Reading) (m at : ℕ) (inv : scan f w base left (n - left) r ≡ orElse m at r) where
+  pub back-at-fault : {x : ℕ} → 0 < left → left ≤ n → x ≡ f (left - 1) → (x ≡ 0 → ⊥)
+      → scan f w base (left - 1) (n - (left - 1)) r ≡ orElse x (base + (left - 1) * w) r
+  unfolding scan
+  back-at-fault {x} h l e z =
+      let q : n - (left - 1) ≡ suc (n - left) = omega arith in
+      rw (q, sym e) (refuses x (base + (left - 1) * w) _ z ∙ sym (refuses x (base + (left - 1) * w) r z))
+
+  pub back-passed : {x : ℕ} → 0 < left → left ≤ n → x ≡ f (left - 1) → x ≡ 0 → scan f w base (left - 1) (n - (left - 1)) r ≡ orElse m at r
+  unfolding scan orElse
+  back-passed {x} h l e z =
+      let q : n - (left - 1) ≡ suc (n - left) = omega arith in
+      let p : left - 1 + 1 ≡ left = omega arith in
+      let y : f (left - 1) ≡ 0 = sym e ∙ z in
+      rw (q, y, p) inv
+
+  pub back-refused : left ≤ 0 → (m ≡ 0 → ⊥) → Refused m at ≡ scan f w base 0 n r
+  back-refused h z =
+      let q : left ≡ 0 = omega arith in
+      let p : n - 0 ≡ n = omega arith in
+      sym (refuses m at r z) ∙ sym (rw (q, p) at inv)
+
+  pub back-accepted : left ≤ 0 → m ≡ 0 → r ≡ scan f w base 0 n r
+  unfolding orElse
+  back-accepted h z =
+      let q : left ≡ 0 = omega arith in
+      let p : n - 0 ≡ n = omega arith in
+      sym (rw (q, p, z) at inv)

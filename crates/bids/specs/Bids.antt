@@ -1,12 +1,13 @@
 -- What the checks of the bids' records answer. Assumes nothing.
 use Prim.Native.Nat.{ℕ, _*_, _≤_, _<_}
+use mathlib.Core.Path.{_≡_}
 use mathlib.Core.List.{List, []}
-use lib.ListN.{length}
+use lib.ListN.{length, getD}
 use native.Mathlib.Decide.{decLe, decLt, ℕ-discrete}
 use Rattle.rules.specs.Names.{bidBroken, yearWidth, techWidth, appWidth, bidWidth, mostYears}
 use Rattle.rules.specs.Lists.{given, both, when}
 use Rattle.rules.specs.File.{Round, yearAt, techAt, appAt, bidAt}
-use Rattle.rules.specs.Refusals.{scan, recordFault, bidFault, elevenOf}
+use Rattle.rules.specs.Refusals.{scan, recordFault, bidFault, sameApp?, elevenOf}
 use Rattle.rules.specs.declared.Sections.{Sections}
 use Rattle.rules.specs.declared.Reading.{Reading}
 use Rattle.rules.specs.declared.Reading.the-variants.{Accepted}
@@ -59,6 +60,10 @@ bidsOf years techs apps recs base g =
 abbrev pub alone : (recs : List ℕ) → (n : ℕ) → Round
 alone recs n = record { years = []; pots = []; techs = []; apps = []; bids = recs; y = 0; d = 0; p = 0; t = 0; n = 0; b = n }
 
+-- are bids k and i of one application and at one price?
+abbrev pub samePrice? : (recs : List ℕ) → (k i : ℕ) → Dec ((bidAt recs k .app ≡ bidAt recs i .app) × (bidAt recs k .price ≡ bidAt recs i .price))
+samePrice? recs k i = both (sameApp? (alone recs i) k i) (ℕ-discrete (bidAt recs k .price) (bidAt recs i .price))
+
 unfoldable pub lowestOf : (recs : List ℕ) → (base : ℕ) → Sections → Reading
 lowestOf recs base g = scan (elevenOf (alone recs (g .bids))) bidWidth base 0 (g .bids) (Accepted g)
 
@@ -70,3 +75,18 @@ pub record Looked (R : Round) : Type 0 where
   pub techs-whole : R .t * techWidth (R .y) ≤ length (R .techs)
   pub apps-whole : R .n * appWidth ≤ length (R .apps)
   pub tech : (a : ℕ) → a < R .n → appAt (R .apps) a .tech < R .t
+
+-- ---- the earlier bids of an application, chained from the latest to the first
+
+-- the bids from r to k are not of application a
+pub record Free (recs : List ℕ) (a r k : ℕ) : Type 0 where
+  pub within : r ≤ k
+  pub none : (j : ℕ) → r ≤ j → j < k → bidAt recs j .app ≡ a → ⊥
+
+-- the link of each application leads to its latest bid before bid i
+pub record Latest (recs latest : List ℕ) (i : ℕ) : Type 0 where
+  pub each : (a : ℕ) → Free recs a (getD latest a i) i
+
+-- the link of each bid before bid i leads to the previous bid of its application
+pub record Previous (recs previous : List ℕ) (i : ℕ) : Type 0 where
+  pub each : (k : ℕ) → k < i → Free recs (bidAt recs k .app) (getD previous k k) k

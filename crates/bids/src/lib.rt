@@ -5,7 +5,7 @@ ghost use Prim.Native.Nat.{_+_, _*_, _≤_, _<_, _^_};
 ghost use lib.ListN.{length};
 ghost use Rattle.rules.specs.Names.{bidWidth};
 ghost use Rattle.rules.specs.Refusals.{recordFault, orFault, bidFault};
-ghost use Rattle.bids.specs.Bids.{tablesOf, Looked, bidsOf};
+ghost use Rattle.bids.specs.Bids.{tablesOf, Looked, bidsOf, Latest, Previous};
 
 mod earlier;
 pub mod lowest;
@@ -22,9 +22,18 @@ fn first(a: u64, b: u64) -> u64
 }
 
 // What is wrong with bid i: 0 if nothing is. "For bids 7, then 8, then 9".
-fn bid_fault(years: &[u8], techs: &[u8], apps: &[u8], recs: &[u8], done: Sections, i: usize) -> u64
+fn bid_fault(
+    years: &[u8],
+    techs: &[u8],
+    apps: &[u8],
+    recs: &[u8],
+    done: Sections,
+    latest: &[usize],
+    previous: &[usize],
+    i: usize,
+) -> u64
     requires { ⌜ Looked (tablesOf (now years) (now techs) (now apps) (now recs) done) ⌝ }
-    requires { ⌜ i * bidWidth ≤ length (now recs) ⌝ }
+    requires { ⌜ (i * bidWidth ≤ length (now recs)) × Latest (now recs) (now latest) i × Previous (now recs) (now previous) i ⌝ }
     ensures { λ r. ⌜ r ≡ recordFault (now (recs .entry)) bidWidth (bidFault (tablesOf (now (years .entry)) (now (techs .entry)) (now (apps .entry)) (now (recs .entry)) done)) i ⌝ }
 {
     let at = i * names::BID_WIDTH;
@@ -32,9 +41,39 @@ fn bid_fault(years: &[u8], techs: &[u8], apps: &[u8], recs: &[u8], done: Section
         return names::ENDS_EARLY;
     }
     let s = seven::seven(years, techs, apps, recs, done, i);
-    let e = earlier::eight(recs, i);
-    let n = earlier::nine(recs, i);
-    first(s, first(e, n))
+    let e = earlier::eight_nine(recs, latest, previous, i);
+    first(s, e)
+}
+
+// The bids' records, where no bid is chained yet.
+fn judged(
+    years: &[u8],
+    techs: &[u8],
+    apps: &[u8],
+    recs: &[u8],
+    base: usize,
+    done: Sections,
+    latest: &mut [usize],
+    previous: &mut [usize],
+) -> Reading
+    requires { ⌜ Looked (tablesOf (now years) (now techs) (now apps) (now recs) done) ⌝ }
+    requires { ⌜ (base + length (now recs) < 2 ^ 63) × Latest (now recs) (now latest) 0 × Previous (now recs) (now previous) 0 ⌝ }
+    ensures { λ r. ⌜ r ≡ bidsOf (now (years .entry)) (now (techs .entry)) (now (apps .entry)) (now (recs .entry)) base done ⌝ }
+{
+    let n = done.bids;
+    let mut i: usize = 0;
+    while i < n {
+        let f = bid_fault(years, techs, apps, recs, done, latest, previous, i);
+        if f != 0 {
+            return Reading::Refused {
+                number: f,
+                at: base + i * names::BID_WIDTH,
+            };
+        }
+        earlier::accept(recs, latest, previous, i);
+        i += 1;
+    }
+    Reading::Accepted { sections: done }
 }
 
 // The bids' records, in the part of the file that they occupy and that starts at `base`. If nothing is wrong, `done` is the answer.
@@ -50,17 +89,16 @@ pub fn bids(
     requires { ⌜ base + length (now recs) < 2 ^ 63 ⌝ }
     ensures { λ r. ⌜ r ≡ bidsOf (now (years .entry)) (now (techs .entry)) (now (apps .entry)) (now (recs .entry)) base done ⌝ }
 {
-    let n = done.bids;
-    let mut i: usize = 0;
-    while i < n {
-        let f = bid_fault(years, techs, apps, recs, done, i);
-        if f != 0 {
-            return Reading::Refused {
-                number: f,
-                at: base + i * names::BID_WIDTH,
-            };
-        }
-        i += 1;
-    }
-    Reading::Accepted { sections: done }
+    let mut latest = [0usize; names::MOST_APPS as usize];
+    let mut previous = [0usize; names::MOST_BIDS as usize];
+    judged(
+        years,
+        techs,
+        apps,
+        recs,
+        base,
+        done,
+        &mut latest,
+        &mut previous,
+    )
 }

@@ -30,22 +30,29 @@ fn eleven(recs: &[u8], n: usize, i: usize) -> u64
     names::LOWEST_UNEVEN
 }
 
-// Rule 11 of the bids' records, in file order.
+// Rule 11 of the bids' records, from the last to the first: the first of those at fault is what remains.
 pub fn lowest(recs: &[u8], base: usize, done: Sections) -> Reading
     requires { ⌜ (done .bids * bidWidth ≤ length (now recs)) × (base + length (now recs) < 2 ^ 63) ⌝ }
     ensures { λ r. ⌜ r ≡ lowestOf (now (recs .entry)) base done ⌝ }
 {
     let n = done.bids;
-    let mut i: usize = 0;
-    while i < n {
+    let mut number: u64 = 0;
+    let mut at: usize = 0;
+    let mut left: usize = n;
+    while 0 < left {
+        let i = left - 1;
         let f = eleven(recs, n, i);
+        left -= 1;
         if f != 0 {
-            return Reading::Refused {
-                number: f,
-                at: base + i * names::BID_WIDTH,
-            };
+            number = f;
+            at = base + i * names::BID_WIDTH;
         }
-        i += 1;
+    }
+    if number != 0 {
+        return Reading::Refused {
+            number: number,
+            at: at,
+        };
     }
     Reading::Accepted { sections: done }
 }

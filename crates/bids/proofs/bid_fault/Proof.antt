@@ -15,12 +15,9 @@ returns c = sym (given-no _ _ _ (λ h. omega arith))
 returns-2 : tie.Need-returns-2
 unfolding recordFault
 returns-2 c =
-    let w = c .before in
-    let n = w .before in
-    let e = n .before in
-    in-order _ _ (c .first2 .ensures) (w .first .ensures) (e .before .seven .ensures) (e .eight .ensures) (n .nine .ensures) ∙ sym (given-yes _ _ _ (omega arith))
+    let e = c .before in
+    in-order _ _ (c .first .ensures) (e .before .seven .ensures) (e .eight-nine .ensures) ∙ sym (given-yes _ _ _ (omega arith))
 
 pub bid-fault-spec : {M : Type 1} → statement M
 bid-fault-spec =
-    tie.close (tie.spec (λ c. search needs) (λ c. search needs) returns (λ c κs. search needs) (λ c κs. search needs) (λ c κs. search needs)
-    (λ c κs. search needs) (λ c κs. search needs) returns-2)
+    tie.close (tie.spec (λ c. search needs) (λ c. search needs) returns (λ c κs. search needs) (λ c κs. search needs) (λ c κs. search needs) returns-2)

@@ -1,43 +1,11 @@
--- `bids::bids` meets its contract: what is left to judge from bid i on is the answer. Assumes nothing.
+-- `bids::bids` meets its contract: no bid is chained yet. Assumes nothing.
 use borrow.Author.Needs.{needs}
-use native.Mathlib.Omega.{arith}
-use native.Mathlib.Nat.{sub-zero}
-use mathlib.Core.Path.{_≡_, sym, _∙_}
-use Prim.Native.Nat.{_-_, _*_, _≤_}
-use lib.ListN.{length}
-use Rattle.rules.specs.Names.{bidWidth}
-use Rattle.rules.specs.Refusals.{recordFault, bidFault, scan}
-use Rattle.rules.specs.declared.Reading.the-variants.{Accepted}
-use Rattle.laws.specs.Walk.{at-fault, goes-on, at-end}
-use Rattle.laws.specs.Fault.{no-fault}
-use Rattle.bids.specs.Bids.{tablesOf, bidsOf}
+use Rattle.bids.proofs.Chains.{latest-blank, previous-blank}
 use Rattle.bids.proofs.bids.Statement.{statement}
 use Rattle.bids.proofs.bids.Tie as tie
 
-abbrev Inv-loop : tie.InvT-loop
-Inv-loop years techs apps recs base done n i₀ i =
-    (i ≤ n) × (i * bidWidth ≤ length recs) × (scan (recordFault recs bidWidth (bidFault (tablesOf years techs apps recs done))) bidWidth base i (n - i) (Accepted done) ≡ bidsOf years techs apps recs base done)
-
-abbrev μ-loop : tie.MeasureT-loop
-μ-loop years techs apps recs base done n i₀ i = n - i
-
-loop-holds : tie.Need-loop-holds Inv-loop μ-loop
-unfolding bidsOf
-loop-holds c = (omega arith, omega arith, rw (sub-zero (c .before .before .before .before .args .done .bids)))
-
-returns : tie.Need-returns Inv-loop μ-loop
-returns c = at-fault _ _ _ _ _ _ (c .before .before .before .loop .inv .2) (omega arith) (c .before .bid-fault .ensures) (c .if1 .taken)
-
-loop-again : tie.Need-loop-again Inv-loop μ-loop
-loop-again c =
-    let z = sym (c .before .bid-fault .ensures) ∙ c .if1 .left in
-    let w = no-fault _ _ (bidFault _) _ z .0 in
-    (omega arith, omega arith, goes-on _ _ _ _ _ _ (c .before .before .before .loop .inv .2) (omega arith) z)
-
-returns-2 : tie.Need-returns-2 Inv-loop μ-loop
-returns-2 c = at-end _ _ _ _ _ _ (c .before .loop .inv .2) (omega arith)
+judged-requires : tie.Need-judged-requires
+judged-requires c κs = let p = c .before .before .before .before .before .before .pre in (p .0, (p .1, latest-blank _ 64, previous-blank _ _))
 
 pub bids-spec : {M : Type 1} → statement M
-bids-spec =
-    tie.close (tie.spec Inv-loop μ-loop loop-holds (λ c κs. search needs) (λ c. search needs) (λ c. search needs) returns
-    (λ c. search needs) (λ c. search needs) loop-again returns-2)
+bids-spec = tie.close (tie.spec (λ c. search needs) (λ c. search needs) judged-requires (λ c. search needs))
