@@ -10,6 +10,7 @@ pub mod Steps
 pub mod Tie
 pub mod Runs
 pub mod Demand
+pub mod Pots
 pub mod Once
 pub mod Lowered
 pub mod Lower

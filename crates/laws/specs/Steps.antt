@@ -9,7 +9,7 @@ use lib.ListN.{length}
 use lib.Dec.{ltb}
 use Rattle.rules.specs.Lists.{memb}
 use Rattle.rules.specs.Names.{widestTie}
-use Rattle.laws.specs.Lists.{split, case, clash, not-is-true, In, here, memb-in, in-none, in-one, in-left, in-right, in-cases, map-in, sift-in, in-sift}
+use Rattle.laws.specs.Lists.{split, case, clash, not-is-true, In, here, memb-in, in-none, in-one, in-left, in-right, in-cases, in-map, map-in, sift-in, in-sift}
 use Rattle.rules.specs.Pot.{Pot, Event, Trace, winners, hanging, clearing, fits, live, taken, won, down, follows, remaining, choose, others, shared, endedWide, tied, alone, lost, look}
 use Rattle.laws.specs.Taken.{Lows}
 use Rattle.laws.specs.Mono.{Lawful, fits-less, clearing-below, total-more}
@@ -32,7 +32,8 @@ module _ (P : Pot) where
     -- those that win fit, and none that is turned down fits with them
     pub fit : fits P (e .wins ++ winners s) ≡ true
     pub over : (c : ℕ) → In c (e .downs) → fits P (c ∷ (e .wins ++ winners s)) ≡ false
-    -- a year closes, or is left open for a further look, only where a bid was turned down
+    -- the year of a bid that is turned down closes, or is left open for a further look; and no other year does, but for one that was left open
+    pub shut : (c : ℕ) → In c (e .downs) → In (P .yr c) (e .closes) ⊎ In (P .yr c) (e .hangs)
     pub closed-by : (y : ℕ) → In y (e .closes) → In y (hanging s) ⊎ ((c : ℕ) × In c (e .downs) × (P .yr c ≡ y))
     pub hung-by : (y : ℕ) → In y (e .hangs) → (c : ℕ) × In c (e .downs) × (P .yr c ≡ y)
 
@@ -47,20 +48,22 @@ module _ (P : Pot) where
     some = λ c n v. let r = h .some c n v in (r .0, in-left [] (r .1));
     fit = t;
     over = λ c i. in-none i;
+    shut = λ c i. in-none i;
     closed-by = λ y i. inl i;
     hung-by = λ y i. in-none i;
   }
 
   -- one bid turned down alone, whose year either closes or hangs
   down-step : (s : Trace) (b : ℕ) (close hang : List ℕ) → Lows P s (b ∷ []) → fits P (winners s) ≡ true → fits P (b ∷ winners s) ≡ false
-      → ((y : ℕ) → In y close ⊎ In y hang → P .yr b ≡ y) → Step s (down P b close hang)
-  down-step s b close hang h w f k = record {
+      → In (P .yr b) close ⊎ In (P .yr b) hang → ((y : ℕ) → In y close ⊎ In y hang → P .yr b ≡ y) → Step s (down P b close hang)
+  down-step s b close hang h w f o k = record {
     low = h .low;
     sound = h .sound;
     whole = h .whole;
     some = h .some;
     fit = w;
     over = λ c i. rw (in-one i) f;
+    shut = λ c i. rw (in-one i) o;
     closed-by = λ y i. inr (b, here refl, k y (inl i));
     hung-by = λ y i. (b, here refl, k y (inr i));
   }
@@ -89,6 +92,7 @@ module _ (P : Pot) where
               (λ f. f)
               (C .most (winners s) l (h .low) c w (λ a j. (h .sound a j .0, h .sound a j .2))
               (λ d. clearing-below P (h .low) (winners s) d (λ v k. omega (arith, up v c k (r .0), h .sound c (r .0) .2))) (r .0) (not-is-true _ (r .1)));
+          shut = λ c i. inl (in-map (P .yr) i);
           closed-by = λ y i. let r = map-in (P .yr) (others P l ch) i in inr (r .0, r .1, sym (r .2));
           hung-by = λ y i. in-none i;
         }
@@ -103,8 +107,8 @@ module _ (P : Pot) where
     unfolding alone
     alone-step s b h w f =
         case (follows P b (taken P (down P b [] [] ∷ s)))
-        (λ t. rw t (down-step s b [] (P .yr b ∷ []) h w f (λ y i. ⊎-elim (λ j. in-none j) (λ j. sym (in-one j)) i)))
-        (λ t. rw t (down-step s b (P .yr b ∷ []) [] h w f (λ y i. ⊎-elim (λ j. sym (in-one j)) (λ j. in-none j) i)))
+        (λ t. rw t (down-step s b [] (P .yr b ∷ []) h w f (inr (here refl)) (λ y i. ⊎-elim (λ j. in-none j) (λ j. sym (in-one j)) i)))
+        (λ t. rw t (down-step s b (P .yr b ∷ []) [] h w f (inl (here refl)) (λ y i. ⊎-elim (λ j. sym (in-one j)) (λ j. in-none j) i)))
 
     lost-step : (s : Trace) (l : List ℕ) → Lows P s l → fits P (winners s) ≡ true → ((w b : ℕ) → In w (winners s) → In b l → P .price w ≤ P .price b)
         → fits P (l ++ winners s) ≡ false → lost P s l .wide ≡ false → Step s (lost P s l)
