@@ -4,19 +4,22 @@ use mathlib.Core.Path.{_≡_, refl, sym, ap, _∙_}
 use mathlib.Core.Bool.{Bool, true, false, _&&_}
 use mathlib.Core.List.{List, [], _∷_}
 use native.Mathlib.Numerals.{add-one}
-use native.Mathlib.Nat.{le-antisymm}
+use native.Mathlib.Nat.{le-antisymm, add-suc}
 use native.Mathlib.Omega.{arith}
+use lib.Bits.{bitOr}
 use lib.ListN.{length, getD, set}
-use lib.Dec.{leb, ltb}
-use borrow.Author.Tests.{lt-ltb, le-ltb, lt-leb, le-leb}
+use lib.Dec.{eqb, leb, ltb}
+use borrow.Author.Tests.{eqb-true, eqb-false, ne-eqb, ltb-true, ltb-false, lt-ltb, le-ltb, lt-leb, le-leb}
 use Rattle.rules.specs.Lists.{pick, sift}
 use Rattle.rules.specs.Pot.{has, best}
-use Rattle.laws.specs.Bits.{has-none, add-lt}
-use Rattle.sets.specs.Sets.{members}
+use Rattle.laws.specs.Lists.{case}
+use Rattle.laws.specs.Bits.{add-lt}
+use Rattle.sets.specs.Sets.{fill, members}
+use Rattle.sets.proofs.Arrays.{put-is, fill-length, fill-at, zeros}
 use Rattle.sheet.specs.Sheet.{rowYear, rowDraw}
-use Rattle.totals.specs.Totals.{worthOf, totalOf, fitsTo}
+use Rattle.totals.specs.Totals.{worthOf, totalOf, noRow, filled, fitsTo}
 use Rattle.ties.specs.declared.Best.{Best}
-use Rattle.ties.specs.Ties.{raisedTo, baseAt, aloneTotal, aloneFits, keepsOf, listed, compactOf, aboveOf, rankOf, startOf, ownAt, touchOf, touchedOf, maskTotal, figure, okMask, lastMask, bestOf, considered, bestMask, combinationOf, ranksOf, startsOf, ownsOf, choiceAt, choiceOf}
+use Rattle.ties.specs.Ties.{raisedTo, baseAt, noBase, laidTo, aloneTotal, aloneFits, keepsOf, listed, compactOf, aboveOf, rankOf, startOf, ownAt, touchOf, touchedOf, bestOf, considered, bestMask, combinationOf, addedOf, oneAt, oneYearAt, jointOf, unionOf, okBy, lastBy, lookedAt, bestBy, ranksOf, startsOf, ownsOf, choiceAt, choiceOf}
 
 -- ---- the present winners
 module _ (prices : List ℕ) (p t d : ℕ) {b : Bool} {row : List ℕ} (eb : b ≡ has t d) (er : row ≡ raisedTo prices p t d) where
@@ -28,14 +31,56 @@ module _ (prices : List ℕ) (p t d : ℕ) {b : Bool} {row : List ℕ} (eb : b �
   unfolding raisedTo
   raised-miss h = rw (add-one d, er, sym eb ∙ h)
 
-module _ (rows figures marks prices : List ℕ) (p m y i : ℕ) where
-  pub base-in : {row : List ℕ} {r : ℕ} → i % 8 < y → row ≡ raisedTo prices p (i / 8) 4 → r ≡ totalOf rows figures marks row (i % 8) m → r ≡ baseAt rows figures marks prices p m y i
-  unfolding baseAt
-  base-in h er e = rw (e, er, lt-ltb (i % 8) y h)
+-- a table is laid row by row
+pub laid-next : (table row : List ℕ) (t z : ℕ) {l : List ℕ} → l ≡ laidTo table row t z → set l (t * 8 + z) (getD row z 0) ≡ laidTo table row t (z + 1)
+unfolding laidTo
+laid-next table row t z e = rw (add-one z, e)
 
-  pub base-out : y ≤ i % 8 → 0 ≡ baseAt rows figures marks prices p m y i
-  unfolding baseAt
-  base-out h = rw (le-ltb (i % 8) y h)
+-- a place past those that are filled
+fill-past : (l : List ℕ) (f : ℕ → ℕ) (n z : ℕ) → n ≤ length l → n ≤ z → getD (fill l f n) z 0 ≡ getD l z 0
+unfolding fill
+fill-past l f zero z g h = refl
+fill-past l f (suc n) z g h =
+    put-is (fill l f n) n z (f n) 0 (omega (arith, fill-length l f n))
+    ∙ rw (ne-eqb z n (λ e. let q : ⊥ = omega arith in q)) (fill-past l f n z (omega arith) (omega arith))
+
+-- a row of totals at the prices of the set t is that set's row of the table
+row-is : (rows figures marks prices : List ℕ) (p m y t z : ℕ) → y ≤ 8 → z < 8
+    → getD (filled (λ z. totalOf rows figures marks (raisedTo prices p t 4) z m) y) z 0 ≡ baseAt rows figures marks prices p m y (t * 8 + z)
+unfolding baseAt noRow
+row-is rows figures marks prices p m y t z h g =
+    rw (q, w)
+    (case (ltb z y)
+    (λ u. rw u (fill-at noRow f y z 0 h (ltb-true z y u)))
+    (λ u. rw u (fill-past noRow f y z h (ltb-false z y u) ∙ zeros 8 z)))
+  where
+    f : ℕ → ℕ
+    f z = totalOf rows figures marks (raisedTo prices p t 4) z m
+
+    q : (t * 8 + z) / 8 ≡ t
+    q = omega arith
+
+    w : (t * 8 + z) % 8 ≡ z
+    w = omega arith
+
+laid-fill : (l : List ℕ) (f : ℕ → ℕ) (row : List ℕ) (t n : ℕ) → ((z : ℕ) → z < n → getD row z 0 ≡ f (t * 8 + z)) → laidTo (fill l f (t * 8)) row t n ≡ fill l f (t * 8 + n)
+unfolding laidTo fill
+laid-fill l f row t zero h = let e : t * 8 ≡ t * 8 + 0 = omega arith in ap (fill l f) e
+laid-fill l f row t (suc n) h = rw (laid-fill l f row t n (λ z g. h z (omega arith)), h n (omega arith), add-suc (t * 8) n)
+
+pub bases-next : (rows figures marks prices : List ℕ) (p m y t : ℕ) {trial row base r : List ℕ} → y ≤ 8 → trial ≡ raisedTo prices p t 4
+    → row ≡ filled (λ z. totalOf rows figures marks trial z m) y → base ≡ fill noBase (baseAt rows figures marks prices p m y) (t * 8) → r ≡ laidTo base row t 8
+    → r ≡ fill noBase (baseAt rows figures marks prices p m y) ((t + 1) * 8)
+bases-next rows figures marks prices p m y t {trial} {row} {base} {r} h et ew eb er =
+    er ∙ ap (λ (l : List ℕ). laidTo l row t 8) eb
+    ∙ laid-fill noBase (baseAt rows figures marks prices p m y) row t 8 (λ z g. ap (λ (l : List ℕ). getD l z 0) ew′ ∙ row-is rows figures marks prices p m y t z h g)
+    ∙ ap (fill noBase (baseAt rows figures marks prices p m y)) next
+  where
+    ew′ : row ≡ filled (λ z. totalOf rows figures marks (raisedTo prices p t 4) z m) y
+    ew′ = ew ∙ ap (λ (u : List ℕ). filled (λ z. totalOf rows figures marks u z m) y) et
+
+    next : t * 8 + 8 ≡ (t + 1) * 8
+    next = omega arith
 
 -- ---- a bid alone
 pub pow-low : (d : ℕ) → d < 4 → 2 ^ d ≤ 8
@@ -121,14 +166,14 @@ module _ (ranks : List ℕ) (mask j : ℕ) {b : Bool} (eb : b ≡ has mask (getD
     unfolding touchedOf
     touched-miss h = rw (add-one j, sym eb ∙ h, et)
 
-  module _ (base own : List ℕ) (t z : ℕ) {s : ℕ} (es : s ≡ maskTotal base own ranks mask t z j) where
-    pub sum-hit : b ≡ true → s + getD own (j * 8 + z) 0 ≡ maskTotal base own ranks mask t z (j + 1)
-    unfolding maskTotal
-    sum-hit h = rw (add-one j, sym eb ∙ h, es)
+  module _ (own : List ℕ) (z : ℕ) {s : ℕ} (es : s ≡ addedOf own ranks mask z j) where
+    pub added-hit : b ≡ true → s + getD own (j * 8 + z) 0 ≡ addedOf own ranks mask z (j + 1)
+    unfolding addedOf
+    added-hit h = rw (add-one j, sym eb ∙ h, es)
 
-    pub sum-miss : b ≡ false → s ≡ maskTotal base own ranks mask t z (j + 1)
-    unfolding maskTotal
-    sum-miss h = rw (add-one j, sym eb ∙ h, es) (omega arith)
+    pub added-miss : b ≡ false → s ≡ addedOf own ranks mask z (j + 1)
+    unfolding addedOf
+    added-miss h = rw (add-one j, sym eb ∙ h, es) (omega arith)
 
   module _ (list : List ℕ) {a : List Bool} (ea : a ≡ combinationOf list ranks mask j) where
     pub combination-hit : b ≡ true → set a (getD list j 0) true ≡ combinationOf list ranks mask (j + 1)
@@ -139,34 +184,57 @@ module _ (ranks : List ℕ) (mask j : ℕ) {b : Bool} (eb : b ≡ has mask (getD
     unfolding combinationOf
     combination-miss h = rw (add-one j, sym eb ∙ h, ea)
 
-pub figure-is : (base own ranks : List ℕ) (k mask t z : ℕ) {s : ℕ} → s ≡ maskTotal base own ranks mask t z k → s ≡ figure base own ranks k mask t z
-unfolding figure
-figure-is base own ranks k mask t z e = e
+-- ---- the tables
+pub one-is : (own ranks : List ℕ) (k s i : ℕ) {w r : ℕ} → w ≡ 2 ^ (s + i / 8) → r ≡ addedOf own ranks w (i % 8) k → r ≡ oneAt own ranks k s i
+unfolding oneAt
+one-is own ranks k s i ew er = rw (er, ew)
+
+pub one-year-is : (ranks starts : List ℕ) (k s i : ℕ) {w r : ℕ} → w ≡ 2 ^ (s + i) → r ≡ touchedOf ranks starts w k → r ≡ oneYearAt ranks starts k s i
+unfolding oneYearAt
+one-year-is ranks starts k s i ew er = rw (er, ew)
+
+-- ---- the search
+pub joint-is : (base low high : List ℕ) (mask t z : ℕ) {l h : ℕ} → l ≡ mask % 32 * 8 + z → h ≡ mask / 32 * 8 + z
+    → getD base (t * 8 + z) 0 + getD low l 0 + getD high h 0 ≡ jointOf base low high mask t z
+unfolding jointOf
+joint-is base low high mask t z el eh = rw (el, eh)
+
+-- a year above its budget, whatever the others
+pub fits-stops : (f : ℕ → ℕ) (budgets : List ℕ) (z y : ℕ) {x : ℕ} → x ≡ f z → getD budgets z 0 < x → z < y → false ≡ fitsTo f budgets y
+unfolding fitsTo
+fits-stops f budgets z zero e h g = absurd (omega arith)
+fits-stops f budgets z (suc y) e h g =
+    case (eqb z y) (λ t. rw (← (eqb-true z y t), ← e, lt-leb _ _ h))
+    (λ u. let d = eqb-false z y u in rw (← (fits-stops f budgets z y e h (omega arith))) (no (leb (f y) (getD budgets y 0))))
+  where
+    no : (b : Bool) → false ≡ (b && false)
+    no true = refl
+    no false = refl
 
 -- the ways that a look at a combination goes
-module _ (base own ranks starts budgets : List ℕ) (k y mask : ℕ) (b : Best) {t : ℕ} {f : Bool} (et : t ≡ touchedOf ranks starts mask k) (ef : f ≡ fitsTo (figure base own ranks k mask t) budgets y) where
-  pub consider-not : f ≡ false → b ≡ considered (okMask base own ranks starts budgets k y) (lastMask base own ranks starts k y) mask b
-  unfolding considered okMask
-  consider-not h = rw (← et, ← ef, h)
+module _ (base low high budgets : List ℕ) (y mask t : ℕ) (b : Best) {f : Bool} (ef : f ≡ fitsTo (jointOf base low high mask t) budgets y) where
+  pub looked-not : f ≡ false → b ≡ lookedAt base low high budgets y mask t b
+  unfolding lookedAt
+  looked-not h = rw (← ef, h)
 
-  module _ {w : ℕ} (h : f ≡ true) (ew : w ≡ figure base own ranks k mask t (y - 1)) where
-    pub consider-less : w < b .total → b ≡ considered (okMask base own ranks starts budgets k y) (lastMask base own ranks starts k y) mask b
-    unfolding considered okMask lastMask
-    consider-less g = rw (← et, ← ef, h, ← ew, lt-leb (b .total) w g)
+  module _ {w : ℕ} (h : f ≡ true) (ew : w ≡ jointOf base low high mask t (y - 1)) where
+    pub looked-less : w < b .total → b ≡ lookedAt base low high budgets y mask t b
+    unfolding lookedAt
+    looked-less g = rw (← ef, h, ← ew, lt-leb (b .total) w g)
 
-    pub consider-more : b .total ≤ w → _≡_ {A = Best} (record { mask = mask; total = w }) (considered (okMask base own ranks starts budgets k y) (lastMask base own ranks starts k y) mask b)
-    unfolding considered okMask lastMask
-    consider-more g = rw (← et, ← ef, h, ← ew, le-leb (b .total) w g)
+    pub looked-more : b .total ≤ w → _≡_ {A = Best} (record { mask = mask; total = w }) (lookedAt base low high budgets y mask t b)
+    unfolding lookedAt
+    looked-more g = rw (← ef, h, ← ew, le-leb (b .total) w g)
 
--- the combination of none
-touched-none : (ranks starts : List ℕ) (k : ℕ) → 0 ≡ touchedOf ranks starts 0 k
-unfolding touchedOf
-touched-none ranks starts zero = refl
-touched-none ranks starts (suc k) = rw (has-none (getD ranks k 0)) (touched-none ranks starts k)
+pub looked-is : (base low high lows highs budgets : List ℕ) (y mask : ℕ) (b : Best) {t : ℕ} {r : Best} → t ≡ bitOr (getD lows (mask % 32) 0) (getD highs (mask / 32) 0)
+    → r ≡ lookedAt base low high budgets y mask t b → r ≡ considered (okBy base low high lows highs budgets y) (lastBy base low high lows highs y) mask b
+unfolding lookedAt considered okBy lastBy unionOf
+looked-is base low high lows highs budgets y mask b et er = rw (er, et)
 
-pub last-none : (base own ranks starts : List ℕ) (k y : ℕ) {w : ℕ} → w ≡ figure base own ranks k 0 0 (y - 1) → w ≡ lastMask base own ranks starts k y 0
-unfolding lastMask
-last-none base own ranks starts k y e = rw (← (touched-none ranks starts k)) e
+pub last-first : (base low high lows highs : List ℕ) (y : ℕ) {t w : ℕ} → t ≡ bitOr (getD lows 0 0) (getD highs 0 0)
+    → w ≡ jointOf base low high 0 t (y - 1) → w ≡ lastBy base low high lows highs y 0
+unfolding lastBy unionOf
+last-first base low high lows highs y et ew = rw (ew, et)
 
 pub best-none : (ok : ℕ → Bool) (tot : ℕ → ℕ) {w : ℕ} → w ≡ tot 0 → _≡_ {A = Best} (record { mask = 0; total = w }) (bestOf ok tot 0)
 unfolding best
@@ -181,11 +249,11 @@ best-next ok tot n eb er = rw (er, eb, add-one n) (go (ok n && leb (tot (best ok
     go true = refl
     go false = refl
 
-pub best-ends : (base own ranks starts budgets : List ℕ) (k y : ℕ) {n e : ℕ} {b : Best} → b ≡ bestOf (okMask base own ranks starts budgets k y) (lastMask base own ranks starts k y) n → n ≤ e → e ≤ n → e ≡ 2 ^ k
-    → b .mask ≡ bestMask base own ranks starts budgets k y
-unfolding bestMask
-best-ends base own ranks starts budgets k y eb h g ee =
-    ap (λ (x : Best). x .mask) eb ∙ ap (best (okMask base own ranks starts budgets k y) (lastMask base own ranks starts k y)) (le-antisymm h g ∙ ee)
+pub best-ends : (base low high lows highs budgets : List ℕ) (k y : ℕ) {n e : ℕ} {b : Best}
+    → b ≡ bestOf (okBy base low high lows highs budgets y) (lastBy base low high lows highs y) n → n ≤ e → e ≤ n → e ≡ 2 ^ k → b .mask ≡ bestBy base low high lows highs budgets k y
+unfolding bestBy
+best-ends base low high lows highs budgets k y eb h g ee =
+    ap (λ (x : Best). x .mask) eb ∙ ap (best (okBy base low high lows highs budgets y) (lastBy base low high lows highs y)) (le-antisymm h g ∙ ee)
 
 -- the parts of a choice
 pub choice-is : (rows figures base budgets : List ℕ) (l : List Bool) (k p m y : ℕ) {list ranks starts own : List ℕ} {mask : ℕ} {r : List Bool} → list ≡ compactOf l m → ranks ≡ ranksOf rows list k

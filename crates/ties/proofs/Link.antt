@@ -12,7 +12,7 @@ use Rattle.rules.specs.Names.{noPrice}
 use Rattle.rules.specs.Lists.{pick, memb, keep, sift, below, sum}
 use Rattle.rules.specs.Pot.{Pot, has, best, value, priceFrom, clearing, tally, total, within, fits, remaining, rank, combination, chosen, choose}
 use Rattle.laws.specs.Lists.{case, clash, and-true, In, here, there, memb-in, in-memb, in-one, in-map, in-sift, sift-in, sift-same, sift-both, memb-join, in-below, below-in}
-use Rattle.laws.specs.Bits.{has-none, add-lt, add-adds, add-other}
+use Rattle.laws.specs.Bits.{has-none, add-adds, add-other}
 use Rattle.laws.specs.Tie.{tally-same, best-same, combination-in}
 use Rattle.sets.specs.Sets.{fill, none, built, members}
 use Rattle.sets.proofs.Arrays.{put-is, at-start, fill-at, members-built}
@@ -22,6 +22,7 @@ use Rattle.totals.proofs.Link as link
 use Rattle.totals.proofs.Link.{Marked}
 use Rattle.ties.specs.Ties.{raisedTo, baseAt, noBase, basesOf, aloneTotal, aloneFits, keepsOf, listed, compactOf, aboveOf, rankOf, ranksOf, startOf, startsOf, ownAt, noOwn, ownsOf, Numbers, touchOf, touchedOf, maskTotal, figure, okMask, lastMask, bestMask, combinationOf, choiceAt, choiceOf}
 use Rattle.ties.proofs.Laws.{pow-low}
+use Rattle.ties.proofs.Halves.{touch-low}
 use Rattle.ties.proofs.Lists.{listed-is, numbers, rank-at, start-at, in-listed}
 use Rattle.ties.proofs.Sums.{sum-same, price-won, price-one, tally-split, tally-sum, Part, part-sift, part-in}
 
@@ -71,10 +72,6 @@ touch-has t d e =
     case (has t d)
     (λ u. rw u (case (eqb e d) (λ q. rw (q, eqb-true e d q, u)) (λ q. rw q)))
     (λ u. rw u (case (eqb e d) (λ q. rw (q, eqb-true e d q) (add-adds t d u)) (λ q. rw q (add-other t d e u (eqb-false e d q)))))
-
-touch-low : (t d : ℕ) → t < 16 → d < 4 → touchOf t d < 16
-unfolding touchOf
-touch-low t d h g = case (has t d) (λ u. rw u h) (λ u. rw u (add-lt t d 4 u g h))
 
 module _ (rows figures budgets : List ℕ) (b m y : ℕ) (ok : Ready rows figures budgets b m y) where
   abbrev P : Pot

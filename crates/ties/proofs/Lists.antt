@@ -138,10 +138,9 @@ module _ (rows figures list : List ℕ) (p k m y : ℕ) (v : Valued rows figures
     starts-small = λ j g. rw (start-at j g) (start-low j g);
   })
 
-  pub summed : {base own ranks : List ℕ} → Base base → own ≡ ownsOf rows figures list p k y → ranks ≡ ranksOf rows list k → Summed base own ranks k
-  summed B eo er = rw (eo, er) (record {
-    few = omega arith;
-    base-ok = B;
+  pub summed : {own ranks : List ℕ} → own ≡ ownsOf rows figures list p k y → ranks ≡ ranksOf rows list k → Summed own ranks k
+  summed eo er = rw (eo, er) (record {
+    few = h;
     own-room = omega (arith, own-length);
     own-small = own-ok;
     ranks-room = ranks-room;

@@ -3,6 +3,7 @@ use Prim.Native.Nat.{ℕ, zero, suc, _+_, _-_, _*_, _/_, _%_, _^_, _≤_, _<_}
 use mathlib.Core.Bool.{Bool, true, false, _&&_}
 use mathlib.Core.List.{List, [], _∷_}
 use mathlib.Core.Path.{_≡_}
+use lib.Bits.{bitOr}
 use lib.ListN.{length, getD, set, replicate}
 use lib.Dec.{leb, ltb}
 use Rattle.rules.specs.Lists.{pick, sift}
@@ -28,6 +29,11 @@ noBase = replicate 128 0
 
 abbrev pub basesOf : (rows figures marks prices : List ℕ) (p m y : ℕ) → List ℕ
 basesOf rows figures marks prices p m y = fill noBase (baseAt rows figures marks prices p m y) 128
+
+-- the first n places of a row, laid at place t of a table of rows of 8
+unfoldable pub laidTo : (table row : List ℕ) (t : ℕ) → ℕ → List ℕ
+laidTo table row t zero = table
+laidTo table row t (suc z) = set (laidTo table row t z) (t * 8 + z) (getD row z 0)
 
 -- no winner is dearer than the dearest
 pub record Base (base : List ℕ) : Type 0 where
@@ -110,11 +116,8 @@ maskTotal base own ranks mask t z (suc j) = maskTotal base own ranks mask t z j 
 unfoldable pub figure : (base own ranks : List ℕ) (k mask t z : ℕ) → ℕ
 figure base own ranks k mask t z = maskTotal base own ranks mask t z k
 
-abbrev pub maskFits : (base own ranks budgets : List ℕ) (k y mask t : ℕ) → Bool
-maskFits base own ranks budgets k y mask t = fitsTo (figure base own ranks k mask t) budgets y
-
 unfoldable pub okMask : (base own ranks starts budgets : List ℕ) (k y mask : ℕ) → Bool
-okMask base own ranks starts budgets k y mask = maskFits base own ranks budgets k y mask (touchedOf ranks starts mask k)
+okMask base own ranks starts budgets k y mask = fitsTo (figure base own ranks k mask (touchedOf ranks starts mask k)) budgets y
 
 unfoldable pub lastMask : (base own ranks starts : List ℕ) (k y mask : ℕ) → ℕ
 lastMask base own ranks starts k y mask = figure base own ranks k mask (touchedOf ranks starts mask k) (y - 1)
@@ -135,9 +138,8 @@ combinationOf list ranks mask zero = none
 combinationOf list ranks mask (suc j) = pick (has mask (getD ranks j 0)) (set (combinationOf list ranks mask j) (getD list j 0) true) (combinationOf list ranks mask j)
 
 -- what the sums read, and what the years are read off
-pub record Summed (base own ranks : List ℕ) (k : ℕ) : Type 0 where
-  pub few : k < 32
-  pub base-ok : Base base
+pub record Summed (own ranks : List ℕ) (k : ℕ) : Type 0 where
+  pub few : k ≤ 10
   pub own-room : k * 8 ≤ length own
   pub own-small : (i : ℕ) → getD own i 0 ≤ dearest
   pub ranks-room : k ≤ length ranks
@@ -148,6 +150,87 @@ pub record Placed (ranks starts : List ℕ) (k : ℕ) : Type 0 where
   pub ranks-small : (j : ℕ) → j < k → getD ranks j 0 < 32
   pub starts-in : k ≤ length starts
   pub starts-small : (j : ℕ) → j < k → getD starts j 0 < 4
+
+-- ---- the same by halves: the number v + 32 * u of a combination is that of its five low places and that of its five high ones
+
+-- what the bids of a combination cost in year z
+unfoldable pub addedOf : (own ranks : List ℕ) (mask z k : ℕ) → ℕ
+addedOf own ranks mask z zero = 0
+addedOf own ranks mask z (suc j) = addedOf own ranks mask z j + pick (has mask (getD ranks j 0)) (getD own (j * 8 + z) 0) 0
+
+-- of the combination of one place alone, and of each combination of five places, from place s on: 8 years to each
+unfoldable pub oneAt : (own ranks : List ℕ) (k s i : ℕ) → ℕ
+oneAt own ranks k s i = addedOf own ranks (2 ^ (s + i / 8)) (i % 8) k
+
+unfoldable pub noOnes : List ℕ
+noOnes = replicate 40 0
+
+abbrev pub onesOf : (own ranks : List ℕ) (k s : ℕ) → List ℕ
+onesOf own ranks k s = fill noOnes (oneAt own ranks k s) 40
+
+unfoldable pub costAt : (own ranks : List ℕ) (k s i : ℕ) → ℕ
+costAt own ranks k s i = addedOf own ranks (i / 8 * 2 ^ s) (i % 8) k
+
+unfoldable pub noCosts : List ℕ
+noCosts = replicate 256 0
+
+abbrev pub costsOf : (own ranks : List ℕ) (k s : ℕ) → List ℕ
+costsOf own ranks k s = fill noCosts (costAt own ranks k s) 256
+
+-- and the years that they touch
+unfoldable pub oneYearAt : (ranks starts : List ℕ) (k s i : ℕ) → ℕ
+oneYearAt ranks starts k s i = touchedOf ranks starts (2 ^ (s + i)) k
+
+unfoldable pub noOneYears : List ℕ
+noOneYears = replicate 5 0
+
+abbrev pub oneYearsOf : (ranks starts : List ℕ) (k s : ℕ) → List ℕ
+oneYearsOf ranks starts k s = fill noOneYears (oneYearAt ranks starts k s) 5
+
+unfoldable pub yearAt : (ranks starts : List ℕ) (k s v : ℕ) → ℕ
+yearAt ranks starts k s v = touchedOf ranks starts (v * 2 ^ s) k
+
+unfoldable pub noYears : List ℕ
+noYears = replicate 32 0
+
+abbrev pub yearsOf : (ranks starts : List ℕ) (k s : ℕ) → List ℕ
+yearsOf ranks starts k s = fill noYears (yearAt ranks starts k s) 32
+
+-- tables of halves: the total of a combination, the years that it touches, whether it fits, and its total in the last year
+unfoldable pub jointOf : (base low high : List ℕ) (mask t z : ℕ) → ℕ
+jointOf base low high mask t z = getD base (t * 8 + z) 0 + getD low (mask % 32 * 8 + z) 0 + getD high (mask / 32 * 8 + z) 0
+
+unfoldable pub unionOf : (lows highs : List ℕ) (mask : ℕ) → ℕ
+unionOf lows highs mask = bitOr (getD lows (mask % 32) 0) (getD highs (mask / 32) 0)
+
+unfoldable pub okBy : (base low high lows highs budgets : List ℕ) (y mask : ℕ) → Bool
+okBy base low high lows highs budgets y mask = fitsTo (jointOf base low high mask (unionOf lows highs mask)) budgets y
+
+unfoldable pub lastBy : (base low high lows highs : List ℕ) (y mask : ℕ) → ℕ
+lastBy base low high lows highs y mask = jointOf base low high mask (unionOf lows highs mask) (y - 1)
+
+-- a look at one of them, which touches the years t; and the best of those of k bids
+unfoldable pub lookedAt : (base low high budgets : List ℕ) (y mask t : ℕ) → Best → Best
+lookedAt base low high budgets y mask t b =
+    pick (fitsTo (jointOf base low high mask t) budgets y && leb (b .total) (jointOf base low high mask t (y - 1)))
+    (record { mask = mask; total = jointOf base low high mask t (y - 1) }) b
+
+unfoldable pub bestBy : (base low high lows highs budgets : List ℕ) (k y : ℕ) → ℕ
+bestBy base low high lows highs budgets k y = best (okBy base low high lows highs budgets y) (lastBy base low high lows highs y) (2 ^ k)
+
+-- what the tables hold: no combination is dearer than its bids, and there are four delivery years
+pub record Tabled (base low high : List ℕ) : Type 0 where
+  pub base-ok : Base base
+  pub low-room : 256 ≤ length low
+  pub low-small : (i : ℕ) → getD low i 0 ≤ dearest * 10
+  pub high-room : 256 ≤ length high
+  pub high-small : (i : ℕ) → getD high i 0 ≤ dearest * 10
+
+pub record Dated (lows highs : List ℕ) : Type 0 where
+  pub low-room : 32 ≤ length lows
+  pub low-small : (v : ℕ) → getD lows v 0 < 16
+  pub high-room : 32 ≤ length highs
+  pub high-small : (v : ℕ) → getD highs v 0 < 16
 
 -- ---- the combination that is chosen among the k bids of a set
 unfoldable pub choiceAt : (rows figures base budgets list : List ℕ) (p k y : ℕ) → List Bool

@@ -1,14 +1,14 @@
 // Ties: several bids at one price p that do not fit together. A trial of some of them changes the clearing price of the years in which these start, and of
-// no other; so the totals of the present winners are taken once for each set of delivery years, and a combination adds what its own bids cost.
-// specs/Ties.antt says what each function computes.
+// no other; so the totals of the present winners are taken once for each set of delivery years, and a combination adds what its own bids cost,
+// which tables have for the lower and the upper half of its number. specs/Ties.antt says what each function computes.
 ghost use mathlib.Core.Path.{_≡_};
 ghost use mathlib.Core.Bool.{_&&_};
 ghost use Prim.Native.Nat.{ℕ, _+_, _-_, _*_, _/_, _^_, _≤_, _<_};
 ghost use lib.ListN.{length, getD};
 ghost use Rattle.rules.specs.Pot.{has};
 ghost use Rattle.sets.specs.Sets.{built, members};
-ghost use Rattle.totals.specs.Totals.{Checked, Valued, Priced};
-ghost use Rattle.ties.specs.Ties.{raisedTo, baseAt, basesOf, Base, aloneTotal, aloneFits, keepsOf, compactOf, aboveOf, ranksOf, startsOf, ownAt, ownsOf, Numbers, touchOf, touchedOf, figure, maskFits, okMask, lastMask, considered, bestMask, combinationOf, Summed, Placed, choiceOf};
+ghost use Rattle.totals.specs.Totals.{Checked, Valued, Priced, fitsTo};
+ghost use Rattle.ties.specs.Ties.{raisedTo, laidTo, basesOf, Base, aloneTotal, aloneFits, keepsOf, compactOf, aboveOf, ranksOf, startsOf, ownAt, ownsOf, Numbers, touchOf, touchedOf, bestMask, combinationOf, Summed, Placed, addedOf, onesOf, costsOf, oneYearsOf, yearsOf, jointOf, lookedAt, bestBy, Tabled, Dated, choiceOf};
 
 // The most bids that are searched.
 pub const WIDEST: usize = 10;
@@ -16,7 +16,12 @@ pub const WIDEST: usize = 10;
 // Years to a row of totals, and sets of delivery years.
 const YEARS: usize = 8;
 
-const ROWS: usize = 128;
+const SETS: usize = 16;
+
+// A combination's number has ten binary places, in two halves of five: so many numbers to a half.
+const HALF_PLACES: usize = 5;
+
+const HALF: usize = 32;
 
 // A combination, with its total in the last year.
 pub struct Best {
@@ -55,26 +60,18 @@ fn raised(prices: [u64; 4], p: u64, t: u32) -> [u64; 4]
     row
 }
 
-// One place of `bases`.
-fn base_at(
-    rows: &[u64],
-    figures: &[u64],
-    marks: [u16; 320],
-    prices: [u64; 4],
-    p: u64,
-    m: usize,
-    y: usize,
-    i: usize,
-) -> u64
-    requires { ⌜ Valued (now rows) (now figures) m y × (i < 128) ⌝ }
-    ensures { λ r. ⌜ r ≡ baseAt (now (rows .entry)) (now (figures .entry)) marks prices p m y i ⌝ }
+// A row of years, laid at place t of the rows of a table.
+fn laid(table: [u64; 128], row: [u64; 8], t: usize) -> [u64; 128]
+    requires { ⌜ t < 16 ⌝ }
+    ensures { λ r. ⌜ r ≡ laidTo table row t 8 ⌝ }
 {
-    let z = i % YEARS;
-    if z < y {
-        let row = raised(prices, p, (i / YEARS) as u32);
-        return totals::total(rows, figures, marks, row, m, y, z);
+    let mut out = table;
+    let mut z: usize = 0;
+    while z < YEARS {
+        out[t * YEARS + z] = row[z];
+        z += 1;
     }
-    0
+    out
 }
 
 // What the present winners cost, a row of years for each set of delivery years that has the price p.
@@ -91,10 +88,13 @@ pub fn bases(
     ensures { λ r. ⌜ r ≡ basesOf (now (rows .entry)) (now (figures .entry)) marks prices p m y ⌝ }
 {
     let mut base = [0u64; 128];
-    let mut i: usize = 0;
-    while i < ROWS {
-        base[i] = base_at(rows, figures, marks, prices, p, m, y, i);
-        i += 1;
+    let mut t: usize = 0;
+    while t < SETS {
+        let trial = raised(prices, p, t as u32);
+        let row = totals::revalued(rows, figures, marks, trial, m, y);
+        let next = laid(base, row, t);
+        base = next;
+        t += 1;
     }
     base
 }
@@ -297,20 +297,12 @@ fn touched(ranks: &[u32], starts: &[u32], k: usize, mask: u32) -> u32
     t
 }
 
-// The total in year z where a combination, which touches the years t, is added to the winners.
-fn mask_total(
-    base: &[u64],
-    own: &[u64],
-    ranks: &[u32],
-    k: usize,
-    mask: u32,
-    t: u32,
-    z: usize,
-) -> u64
-    requires { ⌜ Summed (now base) (now own) (now ranks) k × (t < 16) × (z < 8) ⌝ }
-    ensures { λ r. ⌜ r ≡ figure (now (base .entry)) (now (own .entry)) (now (ranks .entry)) k mask t z ⌝ }
+// What the bids of a combination cost in year z.
+fn added(own: &[u64], ranks: &[u32], k: usize, mask: u32, z: usize) -> u64
+    requires { ⌜ Summed (now own) (now ranks) k × (z < 8) ⌝ }
+    ensures { λ r. ⌜ r ≡ addedOf (now (own .entry)) (now (ranks .entry)) mask z k ⌝ }
 {
-    let mut sum = base[t as usize * YEARS + z];
+    let mut sum: u64 = 0;
     let mut j: usize = 0;
     while j < k {
         if member(mask, ranks[j]) {
@@ -321,49 +313,138 @@ fn mask_total(
     sum
 }
 
+// The same for each of five binary places from s on alone: a row of years to a place.
+fn ones(own: &[u64], ranks: &[u32], k: usize, s: u32) -> [u64; 40]
+    requires { ⌜ Summed (now own) (now ranks) k × (s ≤ 5) ⌝ }
+    ensures { λ r. ⌜ r ≡ onesOf (now (own .entry)) (now (ranks .entry)) k s ⌝ }
+{
+    let mut out = [0u64; 40];
+    let mut i: usize = 0;
+    while i < HALF_PLACES * YEARS {
+        let place = power(s + (i / YEARS) as u32);
+        out[i] = added(own, ranks, k, place, i % YEARS);
+        i += 1;
+    }
+    out
+}
+
+// The highest binary place of a number.
+fn top(v: usize) -> u32
+    requires { ⌜ (0 < v) × (v < 32) ⌝ }
+    ensures { λ r. ⌜ (r < 5) × (2 ^ r ≤ v) × (v < 2 * 2 ^ r) ⌝ }
+{
+    if v < 2 {
+        return 0;
+    }
+    if v < 4 {
+        return 1;
+    }
+    if v < 8 {
+        return 2;
+    }
+    if v < 16 {
+        return 3;
+    }
+    4
+}
+
+// What the bids of each combination of five places from s on cost: that without its highest place, and that place.
+fn costs(own: &[u64], ranks: &[u32], k: usize, s: u32) -> [u64; 256]
+    requires { ⌜ Summed (now own) (now ranks) k × (s ≤ 5) ⌝ }
+    ensures { λ r. ⌜ r ≡ costsOf (now (own .entry)) (now (ranks .entry)) k s ⌝ }
+{
+    let one = ones(own, ranks, k, s);
+    let mut out = [0u64; 256];
+    let mut i: usize = YEARS;
+    while i < HALF * YEARS {
+        let r = top(i / YEARS);
+        let less = power(r) as usize;
+        out[i] = out[i - less * YEARS] + one[r as usize * YEARS + i % YEARS];
+        i += 1;
+    }
+    out
+}
+
+// The delivery years that each of five binary places from s on touches.
+fn one_years(ranks: &[u32], starts: &[u32], k: usize, s: u32) -> [u32; 5]
+    requires { ⌜ Placed (now ranks) (now starts) k × (s ≤ 5) ⌝ }
+    ensures { λ r. ⌜ r ≡ oneYearsOf (now (ranks .entry)) (now (starts .entry)) k s ⌝ }
+{
+    let mut out = [0u32; 5];
+    let mut i: usize = 0;
+    while i < HALF_PLACES {
+        out[i] = touched(ranks, starts, k, power(s + i as u32));
+        i += 1;
+    }
+    out
+}
+
+// The delivery years that each combination of five places from s on touches.
+fn years(ranks: &[u32], starts: &[u32], k: usize, s: u32) -> [u32; 32]
+    requires { ⌜ Placed (now ranks) (now starts) k × (s ≤ 5) ⌝ }
+    ensures { λ r. ⌜ r ≡ yearsOf (now (ranks .entry)) (now (starts .entry)) k s ⌝ }
+{
+    let one = one_years(ranks, starts, k, s);
+    let mut out = [0u32; 32];
+    let mut v: usize = 1;
+    while v < HALF {
+        let r = top(v);
+        let less = power(r) as usize;
+        out[v] = out[v - less] | one[r as usize];
+        v += 1;
+    }
+    out
+}
+
+// The total in year z where a combination, which touches the years t, is added to the winners.
+fn joint(base: &[u64], low: &[u64], high: &[u64], mask: u32, t: u32, z: usize) -> u64
+    requires { ⌜ Tabled (now base) (now low) (now high) × (mask < 1024) × (t < 16) × (z < 8) ⌝ }
+    ensures { λ r. ⌜ r ≡ jointOf (now (base .entry)) (now (low .entry)) (now (high .entry)) mask t z ⌝ }
+{
+    let l = mask as usize % HALF * YEARS + z;
+    let h = mask as usize / HALF * YEARS + z;
+    base[t as usize * YEARS + z] + low[l] + high[h]
+}
+
 // Does the combination fit?
-fn mask_fits(
+fn joint_fits(
     base: &[u64],
-    own: &[u64],
-    ranks: &[u32],
+    low: &[u64],
+    high: &[u64],
     budgets: &[u64],
-    k: usize,
     y: usize,
     mask: u32,
     t: u32,
 ) -> bool
-    requires { ⌜ Summed (now base) (now own) (now ranks) k × (t < 16) × (y ≤ 8) × (y ≤ length (now budgets)) ⌝ }
-    ensures { λ r. ⌜ r ≡ maskFits (now (base .entry)) (now (own .entry)) (now (ranks .entry)) (now (budgets .entry)) k y mask t ⌝ }
+    requires { ⌜ Tabled (now base) (now low) (now high) × (mask < 1024) × (t < 16) × (y ≤ 8) × (y ≤ length (now budgets)) ⌝ }
+    ensures { λ r. ⌜ r ≡ fitsTo (jointOf (now (base .entry)) (now (low .entry)) (now (high .entry)) mask t) (now (budgets .entry)) y ⌝ }
 {
-    let mut ok = true;
     let mut z: usize = 0;
     while z < y {
-        if mask_total(base, own, ranks, k, mask, t, z) > budgets[z] {
-            ok = false;
+        if joint(base, low, high, mask, t, z) > budgets[z] {
+            return false;
         }
         z += 1;
     }
-    ok
+    true
 }
 
 // Looks at one combination: it takes the place of the best so far where it fits and its total in the last year is no smaller.
 fn consider(
     base: &[u64],
-    own: &[u64],
-    ranks: &[u32],
-    starts: &[u32],
+    low: &[u64],
+    high: &[u64],
     budgets: &[u64],
-    k: usize,
     y: usize,
     mask: u32,
+    t: u32,
     b: Best,
 ) -> Best
-    requires { ⌜ Summed (now base) (now own) (now ranks) k × Placed (now ranks) (now starts) k × (0 < y) × (y ≤ 8) × (y ≤ length (now budgets)) ⌝ }
-    ensures { λ r. ⌜ r ≡ considered (okMask (now (base .entry)) (now (own .entry)) (now (ranks .entry)) (now (starts .entry)) (now (budgets .entry)) k y) (lastMask (now (base .entry)) (now (own .entry)) (now (ranks .entry)) (now (starts .entry)) k y) mask b ⌝ }
+    requires { ⌜ Tabled (now base) (now low) (now high) × (mask < 1024) × (t < 16) × (0 < y) × (y ≤ 8) × (y ≤ length (now budgets)) ⌝ }
+    ensures { λ r. ⌜ r ≡ lookedAt (now (base .entry)) (now (low .entry)) (now (high .entry)) (now (budgets .entry)) y mask t b ⌝ }
 {
-    let t = touched(ranks, starts, k, mask);
-    if mask_fits(base, own, ranks, budgets, k, y, mask, t) {
-        let w = mask_total(base, own, ranks, k, mask, t, y - 1);
+    if joint_fits(base, low, high, budgets, y, mask, t) {
+        let w = joint(base, low, high, mask, t, y - 1);
         if w < b.total {
             return b;
         }
@@ -373,7 +454,35 @@ fn consider(
     }
 }
 
-// The best combination of k bids, by looking at each: of equals the largest number.
+// The best combination of k bids, by looking at each: of equals the largest number. Its halves cost `low` and `high` and touch the years `lows` and `highs`.
+fn search(
+    base: &[u64],
+    low: &[u64],
+    high: &[u64],
+    lows: &[u32],
+    highs: &[u32],
+    budgets: &[u64],
+    k: usize,
+    y: usize,
+) -> u32
+    requires { ⌜ Tabled (now base) (now low) (now high) × Dated (now lows) (now highs) × (k ≤ 10) × (0 < y) × (y ≤ 8) × (y ≤ length (now budgets)) ⌝ }
+    ensures { λ r. ⌜ r ≡ bestBy (now (base .entry)) (now (low .entry)) (now (high .entry)) (now (lows .entry)) (now (highs .entry)) (now (budgets .entry)) k y ⌝ }
+{
+    let end = power(k as u32);
+    let mut b = Best {
+        mask: 0,
+        total: joint(base, low, high, 0, lows[0] | highs[0], y - 1),
+    };
+    let mut mask: u32 = 0;
+    while mask < end {
+        let t = lows[mask as usize % HALF] | highs[mask as usize / HALF];
+        b = consider(base, low, high, budgets, y, mask, t, b);
+        mask += 1;
+    }
+    b.mask
+}
+
+// The same, by tables of its two halves.
 fn best_mask(
     base: &[u64],
     own: &[u64],
@@ -383,20 +492,14 @@ fn best_mask(
     k: usize,
     y: usize,
 ) -> u32
-    requires { ⌜ Summed (now base) (now own) (now ranks) k × Placed (now ranks) (now starts) k × (0 < y) × (y ≤ 8) × (y ≤ length (now budgets)) ⌝ }
+    requires { ⌜ Base (now base) × Summed (now own) (now ranks) k × Placed (now ranks) (now starts) k × (0 < y) × (y ≤ 8) × (y ≤ length (now budgets)) ⌝ }
     ensures { λ r. ⌜ r ≡ bestMask (now (base .entry)) (now (own .entry)) (now (ranks .entry)) (now (starts .entry)) (now (budgets .entry)) k y ⌝ }
 {
-    let end = power(k as u32);
-    let mut b = Best {
-        mask: 0,
-        total: mask_total(base, own, ranks, k, 0, 0, y - 1),
-    };
-    let mut mask: u32 = 0;
-    while mask < end {
-        b = consider(base, own, ranks, starts, budgets, k, y, mask, b);
-        mask += 1;
-    }
-    b.mask
+    let low = costs(own, ranks, k, 0);
+    let high = costs(own, ranks, k, HALF_PLACES as u32);
+    let lows = years(ranks, starts, k, 0);
+    let highs = years(ranks, starts, k, HALF_PLACES as u32);
+    search(base, &low, &high, &lows, &highs, budgets, k, y)
 }
 
 // The bids of a combination, as a set.

@@ -1,38 +1,30 @@
--- The invariant: `b` is the best of the combinations passed.
+-- `ties::best_mask` meets its contract.
 use borrow.Author.Needs.{needs}
-use native.Mathlib.Omega.{arith}
-use Prim.Native.Nat.{_≤_, _-_}
-use mathlib.Core.Path.{_≡_}
-use Rattle.ties.specs.Ties.{okMask, lastMask, bestOf}
-use Rattle.ties.proofs.Laws.{last-none, best-none, best-next, best-ends}
+use Rattle.ties.proofs.Halves.{tabled, dated, best-is}
 use Rattle.ties.proofs.best_mask.Statement.{statement}
 use Rattle.ties.proofs.best_mask.Tie as tie
 
-abbrev Inv-loop : tie.InvT-loop
-Inv-loop base own ranks starts budgets k y end b₀ mask₀ b mask = (mask ≤ end) × (b ≡ bestOf (okMask base own ranks starts budgets k y) (lastMask base own ranks starts k y) mask)
+search-requires : tie.Need-search-requires
+search-requires c κs =
+    let g = c .before .before .before .before .before .before .before .before .before .before .before .before .before .pre in (
+      tabled _ _ _ (g .0) (g .1) (c .before .before .before .before .before .before .before .costs .ensures) (c .before .before .before .before .before .before .costs2 .ensures),
+      dated _ _ _ (g .2) (c .before .before .before .before .before .years .ensures) (c .before .before .before .before .years2 .ensures),
+      g .1 .few,
+      g .3,
+      g .4,
+      g .5,
+    )
 
-abbrev μ-loop : tie.MeasureT-loop
-μ-loop base own ranks starts budgets k y end b₀ mask₀ b mask = end - mask
-
-power-requires : tie.Need-power-requires Inv-loop μ-loop
-power-requires c κs = c .before .before .before .before .before .pre .0 .few
-
-mask-total-requires : tie.Need-mask-total-requires Inv-loop μ-loop
-mask-total-requires c κs = (c .before .before .before .before .before .before .pre .0, omega arith, omega (arith, c .before .before .before .before .before .before .pre .2, c .before .before .before .before .before .before .pre .3))
-
-loop-holds : tie.Need-loop-holds Inv-loop μ-loop
-loop-holds c = (omega arith, best-none _ _ (last-none _ _ _ _ _ _ (c .mask-total .ensures)))
-
-consider-requires : tie.Need-consider-requires Inv-loop μ-loop
-consider-requires c κs = c .before .before .before .before .before .before .before .before .before .pre
-
-loop-again : tie.Need-loop-again Inv-loop μ-loop
-loop-again c = (omega arith, best-next _ _ _ (c .before .before .loop .inv .1) (c .consider .ensures))
-
-returns : tie.Need-returns Inv-loop μ-loop
-returns c = best-ends _ _ _ _ _ _ _ (c .before .loop .inv .1) (c .before .loop .inv .0) (c .loop-test .left) (c .before .before .before .power .ensures)
+returns : tie.Need-returns
+returns c =
+    let g = c .before .before .before .before .before .before .before .before .before .before .before .before .before .before .pre in
+    let low = c .before .before .before .before .before .before .before .before .costs .ensures in
+    let high = c .before .before .before .before .before .before .before .costs2 .ensures in
+    let lows = c .before .before .before .before .before .before .years .ensures in
+    let highs = c .before .before .before .before .before .years2 .ensures in
+    best-is _ _ _ _ _ _ _ (g .1 .few) (g .3) (g .4) low high lows highs (c .search .ensures)
 
 pub best-mask-spec : {M : Type 1} → statement M
 best-mask-spec =
-    tie.close (tie.spec Inv-loop μ-loop (λ c. search needs) power-requires (λ c. search needs) mask-total-requires loop-holds consider-requires
-    (λ c. omega arith) (λ c. omega arith) loop-again returns)
+    tie.close (tie.spec (λ c κs. search needs) (λ c. search needs) (λ c κs. search needs) (λ c κs. search needs) (λ c. search needs) (λ c κs. search needs)
+    (λ c. search needs) (λ c. search needs) (λ c. search needs) (λ c. search needs) search-requires returns)

@@ -20,7 +20,8 @@ owns-requires c κs = (c .before .before .before .before .before .before .before
 
 best-mask-requires : tie.Need-best-mask-requires
 best-mask-requires c κs = (
-  summed _ _ _ _ _ _ _ (c .before .before .before .before .before .before .before .before .before .before .before .before .before .before .pre .0 .0) (numbers _ _ (c .before .before .before .before .before .before .before .before .before .before .before .before .before .before .pre .1 .0) (c .before .before .before .before .before .before .before .before .before .before .before .before .before .before .pre .1 .1) (c .before .before .before .before .before .before .before .before .before .compact .ensures)) (c .before .before .before .before .before .before .before .before .before .before .before .before .before .before .pre .1 .1) (c .before .before .before .before .before .before .before .before .before .before .before .before .before .before .pre .0 .1) (c .before .before .before .owns .ensures) (c .before .before .before .before .before .before .before .ranks .ensures),
+  c .before .before .before .before .before .before .before .before .before .before .before .before .before .before .pre .0 .1,
+  summed _ _ _ _ _ _ _ (c .before .before .before .before .before .before .before .before .before .before .before .before .before .before .pre .0 .0) (numbers _ _ (c .before .before .before .before .before .before .before .before .before .before .before .before .before .before .pre .1 .0) (c .before .before .before .before .before .before .before .before .before .before .before .before .before .before .pre .1 .1) (c .before .before .before .before .before .before .before .before .before .compact .ensures)) (c .before .before .before .before .before .before .before .before .before .before .before .before .before .before .pre .1 .1) (c .before .before .before .owns .ensures) (c .before .before .before .before .before .before .before .ranks .ensures),
   placed _ _ _ (c .before .before .before .before .before .before .before .before .before .before .before .before .before .before .args .p) _ _ _ (c .before .before .before .before .before .before .before .before .before .before .before .before .before .before .pre .0 .0) (numbers _ _ (c .before .before .before .before .before .before .before .before .before .before .before .before .before .before .pre .1 .0) (c .before .before .before .before .before .before .before .before .before .before .before .before .before .before .pre .1 .1) (c .before .before .before .before .before .before .before .before .before .compact .ensures)) (c .before .before .before .before .before .before .before .before .before .before .before .before .before .before .pre .1 .1) (c .before .before .before .before .before .before .before .ranks .ensures) (c .before .before .before .before .before .starts .ensures),
   c .before .before .before .before .before .before .before .before .before .before .before .before .before .before .pre .0 .2,
   c .before .before .before .before .before .before .before .before .before .before .before .before .before .before .pre .0 .0 .years,
