@@ -52,12 +52,27 @@ unfoldable pub totalOf : (rows figures marks prices : List ℕ) (z n : ℕ) → 
 totalOf rows figures marks prices z zero = 0
 totalOf rows figures marks prices z (suc i) = totalOf rows figures marks prices z i + pick (eqb (getD marks i 0) becauseWon) (costOf rows figures prices z i) 0
 
+-- of these the ones that start in year d, all at one price
+unfoldable pub partOf : (rows figures marks : List ℕ) (price d z n : ℕ) → ℕ
+partOf rows figures marks price d z zero = 0
+partOf rows figures marks price d z (suc i) =
+    partOf rows figures marks price d z i + pick (eqb (getD marks i 0) becauseWon && eqb (rowYear rows i) d) (worthOf rows figures i price z) 0
+
 -- a row of 8 places, the first n filled
 unfoldable pub noRow : List ℕ
 noRow = replicate 8 0
 
 abbrev pub filled : (ℕ → ℕ) → ℕ → List ℕ
 filled f n = fill noRow f n
+
+-- a row with what f gives added in each of the first n places; and what of the row and of bid k this needs
+abbrev pub raised : (ℕ → ℕ) → (row : List ℕ) → ℕ → List ℕ
+raised f row n = fill row (λ z. getD row z 0 + f z) n
+
+pub record Adding (rows figures row : List ℕ) (k y : ℕ) : Type 0 where
+  pub years : y ≤ mostYears
+  pub priced : (z : ℕ) → z < y → Priced rows figures k z
+  pub low : (z : ℕ) → z < y → getD row z 0 ≤ dearest * (mostBids + mostApps)
 
 -- no figure of the first n years is above its budget; and of a row
 unfoldable pub fitsTo : (ℕ → ℕ) → (budgets : List ℕ) → ℕ → Bool

@@ -1,10 +1,13 @@
 // What bids cost on the sheet of a pot: the value of one of them in a year, the year totals of those that have won, whether these fit, and the
 // totals of the first test. specs/Totals.antt says what each function computes.
 ghost use mathlib.Core.Path.{_≡_};
+ghost use mathlib.Core.Bool.{_&&_};
 ghost use Prim.Native.Nat.{_+_, _*_, _≤_, _<_};
 ghost use lib.ListN.{length};
+ghost use lib.Dec.{eqb};
+ghost use Rattle.rules.specs.Names.{becauseWon};
 ghost use Rattle.sheet.specs.Sheet.{inTest};
-ghost use Rattle.totals.specs.Totals.{Checked, Valued, Priced, dearest, worthOf, costOf, totalOf, filled, rowFits, autoTotal};
+ghost use Rattle.totals.specs.Totals.{Checked, Valued, Priced, Adding, dearest, worthOf, costOf, totalOf, partOf, filled, raised, rowFits, autoTotal};
 
 // The mark of a bid that has won.
 pub const WON: u16 = 1;
@@ -53,6 +56,27 @@ pub fn total(
     sum
 }
 
+// A row of totals, with the value of bid k at a price added in each of the first y years.
+fn added(
+    rows: &[u64],
+    figures: &[u64],
+    price: u64,
+    before: [u64; 8],
+    k: usize,
+    y: usize,
+) -> [u64; 8]
+    requires { ⌜ Adding (now rows) (now figures) before k y ⌝ }
+    ensures { λ r. ⌜ r ≡ raised (λ z. worthOf (now (rows .entry)) (now (figures .entry)) k price z) before y ⌝ }
+{
+    let mut row = before;
+    let mut z: usize = 0;
+    while z < y {
+        row[z] += worth(rows, figures, k, price, z);
+        z += 1;
+    }
+    row
+}
+
 // Every winner revalued: the row of year totals.
 pub fn revalued(
     rows: &[u64],
@@ -66,10 +90,46 @@ pub fn revalued(
     ensures { λ r. ⌜ r ≡ filled (λ z. totalOf (now (rows .entry)) (now (figures .entry)) marks prices z m) y ⌝ }
 {
     let mut row = [0u64; 8];
-    let mut z: usize = 0;
-    while z < y {
-        row[z] = total(rows, figures, marks, prices, m, y, z);
-        z += 1;
+    let mut i: usize = 0;
+    while i < m {
+        if marks[i] == WON {
+            let d = sheet::year(rows, i);
+            let next = added(rows, figures, prices[d], row, i, y);
+            row = next;
+        }
+        i += 1;
+    }
+    row
+}
+
+// Has a bid, by its mark and the year in which it starts, won in year d?
+fn won_in(mark: u16, start: usize, d: usize) -> bool
+    ensures { λ r. ⌜ r ≡ (eqb mark becauseWon && eqb start d) ⌝ }
+{
+    if mark == WON { start == d } else { false }
+}
+
+// The winners that start in year d, all at one price: their row of year totals.
+pub fn part(
+    rows: &[u64],
+    figures: &[u64],
+    marks: [u16; 320],
+    price: u64,
+    m: usize,
+    y: usize,
+    d: usize,
+) -> [u64; 8]
+    requires { ⌜ Valued (now rows) (now figures) m y ⌝ }
+    ensures { λ r. ⌜ r ≡ filled (λ z. partOf (now (rows .entry)) (now (figures .entry)) marks price d z m) y ⌝ }
+{
+    let mut row = [0u64; 8];
+    let mut i: usize = 0;
+    while i < m {
+        if won_in(marks[i], sheet::year(rows, i), d) {
+            let next = added(rows, figures, price, row, i, y);
+            row = next;
+        }
+        i += 1;
     }
     row
 }
