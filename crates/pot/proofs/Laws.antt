@@ -1,21 +1,21 @@
 -- Laws of the arrays' functions over plain variables: each answers one need of a proof. Assumes nothing.
-use Prim.Native.Nat.{ℕ, zero, suc, _+_, min, _<_, _≤_}
-use mathlib.Core.Path.{_≡_, refl, sym, ap, _∙_}
+use Prim.Native.Nat.{ℕ, zero, suc, _+_, _<_, _≤_}
+use mathlib.Core.Path.{_≡_, refl}
 use mathlib.Core.Bool.{Bool, true, false, not, _&&_}
 use mathlib.Core.List.{List, [], _∷_}
 use native.Mathlib.Numerals.{add-one}
-use native.Mathlib.Omega.{arith}
-use lib.ListN.{getD, length, set}
-use lib.Dec.{eqb, ltb}
+use native.Mathlib.Nat.{le-antisymm}
+use lib.ListN.{getD, length, set, replicate}
+use lib.Dec.{eqb}
 use borrow.Author.Tests.{eq-eqb, ne-eqb, lt-ltb, le-ltb}
 use Rattle.rules.specs.Names.{noPrice, widestTie, downTied}
-use Rattle.rules.specs.Lists.{pick, sift, below}
-use Rattle.sets.specs.Sets.{built, members, headOr, without}
-use Rattle.sheet.specs.Sheet.{rowStanding, rowApp, rowYear, rowPrice, inAuction}
+use Rattle.sets.specs.Sets.{fill, built, members, without}
+use Rattle.sheet.specs.Sheet.{rowStanding, rowApp, rowYear, rowPrice}
 use Rattle.totals.specs.Totals.{Checked}
 use Rattle.ties.specs.Ties.{basesOf, keepsOf, choiceOf}
 use Rattle.pot.specs.declared.PotState.{PotState}
-use Rattle.pot.specs.Marks.{leastOr, liveOf, lowestOf, atOf, winOf, turnOf, winAll, turnAll, turnedOf, hungOf, shutOf, settledOf, widened, takenOf, soleOf, followsOf, aloneOf, sharedOf, restOf, choiceIn, tieOf, goingOf, reopened, startedOf}
+use Rattle.pot.specs.declared.Look.{Look}
+use Rattle.pot.specs.Marks.{liveOf, atOf, winOf, turnOf, winAll, turnAll, turnedOf, hungOf, shutOf, settledOf, widened, soleOf, followsOf, aloneOf, sharedOf, restOf, choiceIn, tieOf, Others, Looked, firstMark, noMarks, startedOf}
 
 -- the bounds of a bid's application and year, at what the accessors return
 pub app-ok : {rows : List ℕ} {m : ℕ} (i : ℕ) {a : ℕ} → Checked rows m → i < m → a ≡ rowApp rows i → a < 64
@@ -29,14 +29,6 @@ module _ (rows : List ℕ) (s : PotState) (i : ℕ) {a d : ℕ} {b : Bool} (ea :
   pub live-is : b ≡ liveOf rows s i
   unfolding liveOf
   live-is = rw (eb, ea, ed)
-
-  pub lowest-hit : {q best r : ℕ} → b ≡ true → q ≡ rowPrice rows i → best ≡ lowestOf rows s i → r ≡ min q best → r ≡ lowestOf rows s (i + 1)
-  unfolding lowestOf leastOr
-  lowest-hit h eq e er = rw (add-one i, sym live-is ∙ h, er, eq, e)
-
-  pub lowest-miss : {best : ℕ} → b ≡ false → best ≡ lowestOf rows s i → best ≡ lowestOf rows s (i + 1)
-  unfolding lowestOf
-  lowest-miss h e = rw (add-one i, sym live-is ∙ h, e)
 
   pub at-is : (p : ℕ) {q : ℕ} {r : Bool} → q ≡ rowPrice rows i → r ≡ (b && eqb q p) → r ≡ atOf rows s p i
   unfolding atOf
@@ -79,38 +71,31 @@ unfolding settledOf
 settled-none s h e = rw (le-ltb (s .hang) 4 h) e
 
 -- ---- one bid alone
-module _ (rows : List ℕ) (m i : ℕ) (s : PotState) {q c : ℕ} {a : List Bool} (eq : q ≡ lowestOf rows s m) (ea : a ≡ built (atOf rows s q) m) (ec : c ≡ length (members a m)) where
-  taken-is : a ≡ takenOf rows m s
-  unfolding takenOf
-  taken-is = rw (ea, eq)
+module _ (rows : List ℕ) (m i : ℕ) (s : PotState) {l : Look} (K : Looked rows m s l) where
+  pub follows-not : (l .count ≡ 1 → ⊥) → false ≡ followsOf rows m i s
+  unfolding followsOf soleOf
+  follows-not h = rw (← K .count, ne-eqb (l .count) 1 h)
 
-  sole : soleOf rows i (members a m) ≡ followsOf rows m i s
-  unfolding followsOf
-  sole = rw taken-is
-
-  pub follows-not : (c ≡ 1 → ⊥) → false ≡ followsOf rows m i s
-  follows-not h = parted ∙ sole
-    where
-      parted : false ≡ soleOf rows i (members a m)
-      parted = unfold soleOf in rw (← ec, ne-eqb c 1 h)
-
-  module _ {j x y : ℕ} (h : c ≡ 1) (ej : j ≡ headOr 0 (members a m)) (ex : x ≡ rowApp rows i) (ey : y ≡ rowApp rows j) where
+  module _ {x y : ℕ} (h : l .count ≡ 1) (ex : x ≡ rowApp rows i) (ey : y ≡ rowApp rows (l .last)) where
     pub follows-other : (y ≡ x → ⊥) → false ≡ followsOf rows m i s
-    follows-other g = parted ∙ sole
-      where
-        parted : false ≡ soleOf rows i (members a m)
-        parted = unfold soleOf in rw (← ec, eq-eqb c 1 h, ← ej, ← ex, ← ey, ne-eqb y x g)
+    unfolding followsOf soleOf
+    follows-other g = rw (← K .count, eq-eqb (l .count) 1 h, ← K .last, ← ex, ← ey, ne-eqb y x g)
 
-    pub follows-year : {z w : ℕ} → y ≡ x → z ≡ rowYear rows i → w ≡ rowYear rows j → eqb w z ≡ followsOf rows m i s
-    follows-year {z} {w} g ez ew = parted ∙ sole
-      where
-        parted : eqb w z ≡ soleOf rows i (members a m)
-        parted = unfold soleOf in rw (← ec, eq-eqb c 1 h, ← ej, ← ex, ← ey, eq-eqb y x g, ez, ew)
+    pub follows-year : {z w : ℕ} → y ≡ x → z ≡ rowYear rows i → w ≡ rowYear rows (l .last) → eqb w z ≡ followsOf rows m i s
+    unfolding followsOf soleOf
+    follows-year {z} {w} g ez ew = rw (← K .count, eq-eqb (l .count) 1 h, ← K .last, ← ex, ← ey, eq-eqb y x g, ez, ew)
 
-pub some-bid : (l : List Bool) (m : ℕ) {c : ℕ} → c ≡ length (members l m) → c ≡ 1 → 0 < m
-unfolding members
-some-bid l zero ec h = absurd (let z : ⊥ = omega arith in z)
-some-bid l (suc m) ec h = omega arith
+-- a bid that is turned down is not fresh, and no other gets so
+not-fresh : (l : List ℕ) (i k : ℕ) → eqb (getD l k 0) 0 ≡ false → eqb (getD (set l i 2) k 0) 0 ≡ false
+not-fresh [] i k h = h
+not-fresh (x ∷ l) zero zero h = refl
+not-fresh (x ∷ l) zero (suc k) h = h
+not-fresh (x ∷ l) (suc i) zero h = h
+not-fresh (x ∷ l) (suc i) (suc k) h = not-fresh l i k h
+
+pub others-turned : (rows : List ℕ) (m i : ℕ) (s : PotState) {t : PotState} → t ≡ turnedOf i s → Others rows m s → Others rows m t
+unfolding turnedOf
+others-turned rows m i s e o = rw e (λ k g f. not-fresh (s .reasons) i k (o k g f))
 
 module _ (rows : List ℕ) (m i : ℕ) (s : PotState) {t r : PotState} {d : ℕ} {g : Bool} (et : t ≡ turnedOf i s) (ed : d ≡ rowYear rows i) (eg : g ≡ followsOf rows m i t) where
   pub alone-hung : g ≡ true → r ≡ hungOf d t → r ≡ aloneOf rows m i s
@@ -140,20 +125,16 @@ module _ (rows figures budgets : List ℕ) (m y : ℕ) (l : List Bool) (p : ℕ)
   unfolding tieOf choiceIn
   tie-shared h ew er = rw (← rest-is, ← ek, le-ltb widestTie k h, ← eb, ← ew) er
 
--- ---- to the end
-pub going-wide : (rows : List ℕ) (m : ℕ) (s : PotState) → s .wide ≡ true → false ≡ goingOf rows m s
-unfolding goingOf
-going-wide rows m s h = rw h
+-- ---- the start
+pub first-yes : {q : ℕ} → q ≡ 1 → 0 ≡ firstMark q
+unfolding firstMark
+first-yes {q} h = rw (eq-eqb q 1 h)
 
-pub going-on : (rows : List ℕ) (m : ℕ) (s : PotState) {q : ℕ} → s .wide ≡ false → q ≡ lowestOf rows s m → ltb q noPrice ≡ goingOf rows m s
-unfolding goingOf
-going-on rows m s h e = ap (λ (x : ℕ). ltb x noPrice) e ∙ ap (λ (w : Bool). pick w false (ltb (lowestOf rows s m) noPrice)) (sym h)
+pub first-no : {q : ℕ} → (q ≡ 1 → ⊥) → 9 ≡ firstMark q
+unfolding firstMark
+first-no {q} h = rw (ne-eqb q 1 h)
 
-module _ (rows : List ℕ) (k : ℕ) {s : PotState} {q : ℕ} (es : s ≡ startedOf rows k) (eq : q ≡ rowStanding rows k) where
-  pub started-hit : {r : PotState} → q ≡ 1 → r ≡ reopened k s → r ≡ startedOf rows (k + 1)
-  unfolding startedOf
-  started-hit h er = rw (er, es, add-one k, eq-eqb (rowStanding rows k) 1 (sym eq ∙ h))
-
-  pub started-miss : (q ≡ 1 → ⊥) → s ≡ startedOf rows (k + 1)
-  unfolding startedOf
-  started-miss h = rw (es, add-one k, ne-eqb (rowStanding rows k) 1 (λ e. h (eq ∙ e)))
+pub started-done : (rows : List ℕ) (m : ℕ) {l : List ℕ} {i : ℕ} → l ≡ fill noMarks (λ k. firstMark (rowStanding rows k)) i → i ≤ m → m ≤ i
+    → _≡_ {A = PotState} (record { reasons = l; won = replicate 64 false; opened = replicate 4 true; prices = replicate 4 noPrice; hang = 4; wide = false }) (startedOf rows m)
+unfolding startedOf
+started-done rows m e h g = rw (e, le-antisymm h g)

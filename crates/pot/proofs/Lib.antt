@@ -1,5 +1,6 @@
 pub mod Laws
 pub mod Arrays
+pub mod Seen
 pub mod Link
 pub mod Looks
 pub mod Ties

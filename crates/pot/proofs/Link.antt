@@ -1,13 +1,13 @@
 -- From the arrays to the trace: what is live, what is taken, what fits; and an event that the arrays have followed. Assumes nothing.
-use Prim.Native.Nat.{ℕ, zero, suc, _≤_, _<_, min}
+use Prim.Native.Nat.{ℕ, _≤_, _<_, min}
 use mathlib.Core.Path.{_≡_, refl, sym, ap, _∙_}
 use mathlib.Core.Bool.{Bool, true, false, not, _&&_, _||_}
 use mathlib.Core.List.{List, [], _∷_, _++_, map}
 use native.Mathlib.Omega.{arith}
 use native.Mathlib.Nat.{mul-le-mul-right}
-use lib.ListN.{length, getD}
+use lib.ListN.{getD}
 use lib.Dec.{eqb, ltb}
-use borrow.Author.Tests.{eqb-true, ne-eqb}
+use borrow.Author.Tests.{eqb-true}
 use Rattle.rules.specs.Names.{noPrice, noReason, becauseWon, highestPrice}
 use Rattle.rules.specs.Lists.{pick, memb, sift, below}
 use Rattle.rules.specs.Pot.{Pot, Event, Trace, winners, downs, seen, closed, hanging, mark, priceFrom, clearing, total, within, fits, live, least, lowest, taken}
@@ -21,7 +21,7 @@ use Rattle.totals.proofs.Link as link
 use Rattle.totals.proofs.Link.{Marked}
 use Rattle.ties.proofs.Sums.{price-won, Part, part-all, part-sift}
 use Rattle.pot.specs.declared.PotState.{PotState}
-use Rattle.pot.specs.Marks.{leastOr, liveOf, lowestOf, atOf, winOf, winAll, notHere}
+use Rattle.pot.specs.Marks.{leastOr, liveOf, lowestOf, atOf, winOf, winAll}
 use Rattle.pot.specs.Rep.{hangs, Sizes, Rep}
 use Rattle.pot.proofs.Arrays.{price-join, win-sizes, win-reasons}
 

@@ -1,28 +1,28 @@
 -- The ways that a look goes: the arrays follow the trace. Assumes nothing.
-use Prim.Native.Nat.{ℕ, _≤_, _<_}
+use Prim.Native.Nat.{ℕ, _<_}
 use mathlib.Core.Path.{_≡_, refl, sym, ap, _∙_}
 use mathlib.Core.Bool.{Bool, true, false, not, _&&_}
-use mathlib.Core.List.{List, [], _∷_, _++_, map}
+use mathlib.Core.List.{List, [], _∷_, _++_}
 use native.Mathlib.Omega.{arith}
 use lib.ListN.{length, getD, set, length-set}
 use lib.Dec.{eqb, ltb}
 use borrow.Author.Tests.{ne-eqb, lt-ltb, ltb-true}
-use Rattle.rules.specs.Names.{noPrice, becauseWon, downAlone, downTied, widestTie}
-use Rattle.rules.specs.Lists.{pick, memb, sift, below}
-use Rattle.rules.specs.Pot.{Pot, Trace, winners, hanging, wideEnd, priceFrom, live, taken, fits, won, down, follows, remaining, choose, others, shared, endedWide, alone, tied, lost, look}
-use Rattle.laws.specs.Lists.{case, clash, not-is-true, In, here, memb-in, in-memb, in-none, in-one, sift-in, sift-same, sift-both, below-in}
+use Rattle.rules.specs.Names.{downAlone}
+use Rattle.rules.specs.Lists.{pick, memb}
+use Rattle.rules.specs.Pot.{Pot, Trace, winners, priceFrom, live, taken, fits, won, down, follows, alone, look}
+use Rattle.laws.specs.Lists.{case, clash, In, memb-in, in-memb, in-none, in-one}
 use Rattle.laws.specs.Taken as taken
 use Rattle.laws.specs.Runs.{won-seen}
-use Rattle.sets.specs.Sets.{built, members, headOr, without}
-use Rattle.sets.proofs.Arrays.{put-is, members-built}
+use Rattle.sets.specs.Sets.{members, headOr}
+use Rattle.sets.proofs.Arrays.{put-is}
 use Rattle.sheet.specs.Sheet.{potIn, Ready, rowApp, rowYear, rowPrice}
 use Rattle.totals.specs.Totals.{totalOf, filled, rowFits}
 use Rattle.pot.specs.declared.PotState.{PotState}
-use Rattle.pot.specs.Marks.{lowestOf, atOf, winAll, turnAll, turnedOf, hungOf, shutOf, settledOf, widened, takenOf, soleOf, followsOf, aloneOf, sharedOf, restOf, choiceIn, tieOf}
-use Rattle.pot.specs.Rep.{hangs, Sizes, Rep, Stands}
-use Rattle.pot.proofs.Arrays.{win-sizes, win-reasons, win-won, win-opened, win-hang, win-wide, turn-sizes, turn-reasons, turn-opened, turn-won, turn-prices, turn-wide}
+use Rattle.pot.specs.Marks.{lowestOf, winAll, turnedOf, hungOf, shutOf, settledOf, takenOf, soleOf, followsOf, aloneOf}
+use Rattle.pot.specs.Rep.{hangs, Sizes, Rep}
+use Rattle.pot.proofs.Arrays.{win-sizes, win-reasons, win-won, win-opened, win-hang, win-wide}
 use Rattle.pot.proofs.Link as link
-use Rattle.pot.proofs.Link.{Did, rep-did, Holds, holds-rep}
+use Rattle.pot.proofs.Link.{Did, rep-did, holds-rep}
 
 -- `follows` by length and head
 follows-is : (P : Pot) (i : ℕ) (l : List ℕ) → follows P i l ≡ (eqb (length l) 1 && (eqb (P .app (headOr 0 l)) (P .app i) && eqb (P .yr (headOr 0 l)) (P .yr i)))

@@ -11,8 +11,9 @@ use Rattle.sets.specs.Sets.{built, members, headOr}
 use Rattle.sheet.specs.Sheet.{potIn, Ready}
 use Rattle.totals.specs.Totals.{totalOf, filled, rowFits}
 use Rattle.pot.specs.declared.PotState.{PotState}
-use Rattle.pot.specs.Marks.{lowestOf, atOf, winAll, settledOf, takenOf, aloneOf, tieOf}
-use Rattle.pot.specs.Rep.{Rep, Stands, Stepped}
+use Rattle.pot.specs.declared.Look.{Look}
+use Rattle.pot.specs.Marks.{lowestOf, atOf, winOf, winAll, Looked, settledOf, takenOf, aloneOf, tieOf}
+use Rattle.pot.specs.Rep.{Rep, Stepped}
 use Rattle.pot.proofs.Looks as looks
 use Rattle.pot.proofs.Ties as ties
 
@@ -54,12 +55,25 @@ lost-one : (P : Pot) (t : Trace) (i : ℕ) → lost P t (i ∷ []) ≡ alone P t
 unfolding lost
 lost-one P t i = refl
 
--- ---- a step
-module _ (rows figures budgets : List ℕ) (m y : ℕ) (ok : Ready rows figures budgets 0 m y) (s : PotState) {p : ℕ} {a : List Bool} {v : PotState} {row : List ℕ} {f : Bool} (ep : p ≡ lowestOf rows s m) (ea : a ≡ built (atOf rows s p) m) (ev : v ≡ winAll rows p s (members a m)) (er : row ≡ filled (λ z. totalOf rows figures (v .reasons) (v .prices) z m) y) (ef : f ≡ rowFits row budgets y) where
-  taken-a : a ≡ takenOf rows m s
-  unfolding takenOf
-  taken-a = rw (ea, ep)
+-- a look that sees one bid, and the trial with it
+module _ {rows : List ℕ} {m : ℕ} {s : PotState} {l : Look} (K : Looked rows m s l) (h : l .count ≡ 1) where
+  pub one-taken : members (takenOf rows m s) m ≡ l .last ∷ []
+  one-taken = only (members (takenOf rows m s) m) (K .count) h (K .last)
 
+  pub one-tried : {v : PotState} → v ≡ winOf rows (l .price) (l .last) s → v ≡ winAll rows (l .price) s (members (takenOf rows m s) m)
+  unfolding winAll
+  one-tried e = rw one-taken e
+
+-- the live bids at the lowest live price are those taken
+pub taken-is : (rows : List ℕ) (m : ℕ) {p : ℕ} (s : PotState) {a : List Bool} → p ≡ lowestOf rows s m → a ≡ built (atOf rows s p) m → a ≡ takenOf rows m s
+unfolding takenOf
+taken-is rows m s ep ea = rw (ea, ep)
+
+pub many-tried : (rows : List ℕ) (m p : ℕ) (s : PotState) {v : PotState} {a : List Bool} → a ≡ takenOf rows m s → v ≡ winAll rows p s (members a m) → v ≡ winAll rows p s (members (takenOf rows m s) m)
+many-tried rows m p s ea ev = rw (← ea) ev
+
+-- ---- a step
+module _ (rows figures budgets : List ℕ) (m y : ℕ) (ok : Ready rows figures budgets 0 m y) (s : PotState) {p : ℕ} {v : PotState} {row : List ℕ} {f : Bool} (ep : p ≡ lowestOf rows s m) (ev : v ≡ winAll rows p s (members (takenOf rows m s) m)) (er : row ≡ filled (λ z. totalOf rows figures (v .reasons) (v .prices) z m) y) (ef : f ≡ rowFits row budgets y) where
   module _ (b : ℕ) (h : b ≤ m) (t : Trace) where
     abbrev P : Pot
     P = potIn rows figures budgets b m y
@@ -67,8 +81,8 @@ module _ (rows figures budgets : List ℕ) (m y : ℕ) (ok : Ready rows figures 
     ok-b : Ready rows figures budgets b m y
     ok-b = ready-at b h ok
 
-    of-set : Rep P t s → members a m ≡ taken P t
-    of-set R = ap (λ (x : List Bool). members x m) taken-a ∙ looks.of-set rows figures budgets b m y ok-b t s R
+    of-set : Rep P t s → members (takenOf rows m s) m ≡ taken P t
+    of-set R = looks.of-set rows figures budgets b m y ok-b t s R
 
     tried : Rep P t s → v ≡ winAll rows (lowestOf rows s m) s (taken P t)
     tried R = ev ∙ ap (winAll rows p s) (of-set R) ∙ ap (λ (x : ℕ). winAll rows x s (taken P t)) ep
@@ -88,18 +102,18 @@ module _ (rows figures budgets : List ℕ) (m y : ℕ) (ok : Ready rows figures 
         rep = λ q. looks.won-rep rows figures budgets b m y (ready-at b h ok) t s R;
       })
 
-  module _ (g : f ≡ false) {c : ℕ} (ec : c ≡ length (members a m)) where
+  module _ (g : f ≡ false) where
     look-lost : (b : ℕ) (h : b ≤ m) (t : Trace) → Rep (potIn rows figures budgets b m y) t s → look (potIn rows figures budgets b m y) t (taken (potIn rows figures budgets b m y) t) ≡ lost (potIn rows figures budgets b m y) t (taken (potIn rows figures budgets b m y) t)
     unfolding look
     look-lost b h t R = rw (sym (fits-is b h t R) ∙ g)
 
     -- one alone does not
-    pub step-alone : {i : ℕ} {r : PotState} → c ≡ 1 → i ≡ headOr 0 (members a m) → r ≡ aloneOf rows m i s → (b : ℕ) → b ≤ m → Stepped (potIn rows figures budgets b m y) s r
+    pub step-alone : {i : ℕ} {r : PotState} → members (takenOf rows m s) m ≡ i ∷ [] → r ≡ aloneOf rows m i s → (b : ℕ) → b ≤ m → Stepped (potIn rows figures budgets b m y) s r
     unfolding wideEnd
-    step-alone {i} q ei e b h t x S n j =
+    step-alone {i} q e b h t x S n j =
         let P = potIn rows figures budgets b m y in
         let R = S .rep n in
-        let z : taken P t ≡ i ∷ [] = only (taken P t) (ec ∙ ap length (of-set b h t R)) q (ei ∙ ap (headOr 0) (of-set b h t R)) in
+        let z : taken P t ≡ i ∷ [] = sym (of-set b h t R) ∙ q in
         let w : In i (taken P t) = rw z (here refl) in
         rw (look-lost b h t R ∙ ap (lost P t) z ∙ lost-one P t i, e) (record {
           wide = looks.alone-wide rows figures budgets b m y (ready-at b h ok) t s R i ∙ S .wide ∙ n ∙ sym (not-wide P t i);
@@ -110,9 +124,9 @@ module _ (rows figures budgets : List ℕ) (m y : ℕ) (ok : Ready rows figures 
         not-wide P t i = unfold alone in case (follows P i (taken P (down P i [] [] ∷ t))) (λ u. rw u) (λ u. rw u)
 
     -- several do not
-    pub step-tie : {r : PotState} → (c ≡ 1 → ⊥) → r ≡ tieOf rows figures budgets m y a p s → (b : ℕ) → b ≤ m → Stepped (potIn rows figures budgets b m y) s r
-    step-tie q e b h t x S n j =
+    pub step-tie : {a : List Bool} {r : PotState} → a ≡ takenOf rows m s → (length (members (takenOf rows m s) m) ≡ 1 → ⊥) → r ≡ tieOf rows figures budgets m y a p s → (b : ℕ) → b ≤ m → Stepped (potIn rows figures budgets b m y) s r
+    step-tie ea q e b h t x S n j =
         let P = potIn rows figures budgets b m y in
         let R = S .rep n in
-        rw (look-lost b h t R ∙ several P t (taken P t) (ec ∙ ap length (of-set b h t R)) q j, e, taken-a, ep)
+        rw (look-lost b h t R ∙ several P t (taken P t) (ap length (of-set b h t R)) q j, e, ea, ep)
         (ties.tied-stands rows figures budgets b m y (ready-at b h ok) t s R (S .wide ∙ n))

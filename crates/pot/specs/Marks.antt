@@ -1,16 +1,18 @@
 -- What the functions over a pot's arrays compute, as functions of the arrays. No rule of document 01 is stated here: crate rules has the rules, and
 -- specs/Rep.antt says what the arrays stand for. Assumes nothing.
-use Prim.Native.Nat.{ℕ, zero, suc, min, _<_, _≤_}
+use Prim.Native.Nat.{ℕ, _+_, min, _<_, _≤_}
+use mathlib.Core.Path.{_≡_}
 use mathlib.Core.Bool.{Bool, true, false, not, _&&_}
 use mathlib.Core.List.{List, [], _∷_}
 use lib.ListN.{getD, set, replicate, length}
 use lib.Dec.{eqb, ltb}
 use Rattle.rules.specs.Names.{noPrice, noReason, becauseWon, downAlone, downTied, widestTie}
 use Rattle.rules.specs.Lists.{pick, sift, below}
-use Rattle.sets.specs.Sets.{built, members, headOr, without}
-use Rattle.sheet.specs.Sheet.{rowApp, rowYear, rowPrice, inAuction}
-use Rattle.ties.specs.Ties.{basesOf, keepsOf, choiceOf}
+use Rattle.sets.specs.Sets.{fill, built, members, headOr, without}
+use Rattle.sheet.specs.Sheet.{rowStanding, rowApp, rowYear, rowPrice, inAuction, entered}
+use Rattle.ties.specs.Ties.{listed, basesOf, keepsOf, choiceOf}
 use Rattle.pot.specs.declared.PotState.{PotState}
+use Rattle.pot.specs.declared.Look.{Look}
 
 -- the mark of a bid that is not of this auction; the number that is no delivery year
 abbrev pub notHere : ℕ
@@ -70,6 +72,31 @@ widened s = record { reasons = s .reasons; won = s .won; opened = s .opened; pri
 unfoldable pub takenOf : (rows : List ℕ) (m : ℕ) → PotState → List Bool
 takenOf rows m s = built (atOf rows s (lowestOf rows s m)) m
 
+-- ---- one pass over the bids that entered the auction
+
+-- the first c of the list are these bids
+pub record Listed (rows : List ℕ) (m : ℕ) (list : List ℕ) (c : ℕ) : Type 0 where
+  pub room : c ≤ length list
+  pub bids : listed list c ≡ sift (inAuction rows) (below m)
+
+-- no other bid is marked as not yet looked at
+abbrev pub Others : (rows : List ℕ) (m : ℕ) → PotState → Type 0
+Others rows m s = (i : ℕ) → i < m → inAuction rows i ≡ false → eqb (getD (s .reasons) i 0) noReason ≡ false
+
+-- a look that sees one more bid, i at price q; and of a list of bids
+unfoldable pub joinedOf : Look → (q i : ℕ) → Look
+joinedOf l q i = pick (ltb (l .price) q) l (pick (ltb q (l .price)) (record { price = q; count = 1; last = i }) (record { price = q; count = l .count + 1; last = i }))
+
+unfoldable pub lookOf : (rows : List ℕ) → List ℕ → Look
+lookOf rows [] = record { price = noPrice; count = 0; last = 0 }
+lookOf rows (i ∷ l) = joinedOf (lookOf rows l) (rowPrice rows i) i
+
+-- what a look has seen: the lowest live price, how many bids carry it, and the last of these
+pub record Looked (rows : List ℕ) (m : ℕ) (s : PotState) (l : Look) : Type 0 where
+  pub price : l .price ≡ lowestOf rows s m
+  pub count : l .count ≡ length (members (takenOf rows m s) m)
+  pub last : l .last ≡ headOr 0 (members (takenOf rows m s) m)
+
 -- a set's only bid is of bid i's application and year
 unfoldable pub soleOf : (rows : List ℕ) (i : ℕ) → List ℕ → Bool
 soleOf rows i l = eqb (length l) 1 && (eqb (rowApp rows (headOr 0 l)) (rowApp rows i) && eqb (rowYear rows (headOr 0 l)) (rowYear rows i))
@@ -97,17 +124,21 @@ unfoldable pub tieOf : (rows figures budgets : List ℕ) (m y : ℕ) (l : List B
 tieOf rows figures budgets m y l p s =
     pick (ltb widestTie (length (members (restOf rows figures budgets m y l p s) m))) (widened s) (sharedOf rows m l (choiceIn rows figures budgets m y l p s) p s)
 
--- a bid is live, and no tie was too wide
-unfoldable pub goingOf : (rows : List ℕ) (m : ℕ) → PotState → Bool
-goingOf rows m s = pick (s .wide) false (ltb (lowestOf rows s m) noPrice)
+-- ---- no bid has been looked at
 
--- no bid has been looked at
-unfoldable pub reopened : ℕ → PotState → PotState
-reopened i s = record { reasons = set (s .reasons) i noReason; won = s .won; opened = s .opened; prices = s .prices; hang = s .hang; wide = s .wide }
+unfoldable pub firstMark : (standing : ℕ) → ℕ
+firstMark q = pick (eqb q entered) noReason notHere
 
-unfoldable pub blankState : PotState
-blankState = record { reasons = replicate 320 notHere; won = replicate 64 false; opened = replicate 4 true; prices = replicate 4 noPrice; hang = noYear; wide = false }
+-- the marks of no bid
+unfoldable pub noMarks : List ℕ
+noMarks = replicate 320 notHere
 
 unfoldable pub startedOf : (rows : List ℕ) → ℕ → PotState
-startedOf rows zero = blankState
-startedOf rows (suc k) = pick (inAuction rows k) (reopened k (startedOf rows k)) (startedOf rows k)
+startedOf rows n = record {
+  reasons = fill noMarks (λ i. firstMark (rowStanding rows i)) n;
+  won = replicate 64 false;
+  opened = replicate 4 true;
+  prices = replicate 4 noPrice;
+  hang = noYear;
+  wide = false;
+}

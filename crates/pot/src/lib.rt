@@ -3,13 +3,14 @@
 ghost use mathlib.Core.Path.{_≡_};
 ghost use mathlib.Core.Bool.{not, _&&_};
 ghost use mathlib.Core.List.{[]};
-ghost use Prim.Native.Nat.{ℕ, _≤_, _<_, min};
+ghost use Prim.Native.Nat.{ℕ, _≤_, _<_};
 ghost use lib.Dec.{eqb};
+ghost use lib.ListN.{length};
 ghost use Rattle.rules.specs.Pot.{auction};
 ghost use Rattle.sets.specs.Sets.{built, members};
 ghost use Rattle.sheet.specs.Sheet.{potIn, Ready};
 ghost use Rattle.totals.specs.Totals.{Checked, Valued, totalOf, filled};
-ghost use Rattle.pot.specs.Marks.{lowestOf, atOf, winOf, turnOf, winAll, turnAll, turnedOf, hungOf, shutOf, settledOf, widened, followsOf, aloneOf, sharedOf, tieOf, goingOf, reopened, blankState, startedOf};
+ghost use Rattle.pot.specs.Marks.{lowestOf, takenOf, joinedOf, Listed, Others, Looked, atOf, firstMark, winOf, turnOf, winAll, turnAll, turnedOf, hungOf, shutOf, settledOf, widened, followsOf, aloneOf, sharedOf, tieOf, startedOf};
 ghost use Rattle.pot.specs.Rep.{Stands, Stepped};
 
 // The marks of a bid: not looked at, won, turned down alone, turned down in a tie, not of this auction.
@@ -38,6 +39,19 @@ pub struct PotState {
     pub wide: bool,
 }
 
+// What a look at the live bids sees: the lowest price, none where no bid is live; how many bids carry it, and the last of these in the order of the file.
+pub struct Look {
+    pub price: u64,
+    pub count: usize,
+    pub last: usize,
+}
+
+// The first `count` places of the list are the bids that entered the auction, in the order of the file.
+pub struct Entrants {
+    pub list: [usize; 320],
+    pub count: usize,
+}
+
 // Not yet looked at, of an application that has not won, in an open year.
 fn live(reason: u16, won: bool, opened: bool) -> bool
     ensures { λ r. ⌜ r ≡ (eqb reason 0 && (not won && opened)) ⌝ }
@@ -51,13 +65,6 @@ fn live(reason: u16, won: bool, opened: bool) -> bool
     opened
 }
 
-// The lower of two prices.
-fn lower(a: u64, b: u64) -> u64
-    ensures { λ r. ⌜ r ≡ min a b ⌝ }
-{
-    if a < b { a } else { b }
-}
-
 // Is a bid live, and its price p?
 fn at(alive: bool, price: u64, p: u64) -> bool
     ensures { λ r. ⌜ r ≡ (alive && eqb price p) ⌝ }
@@ -65,23 +72,51 @@ fn at(alive: bool, price: u64, p: u64) -> bool
     if alive { price == p } else { false }
 }
 
+// A look that sees one more live bid, i at a price.
+fn joined(l: Look, price: u64, i: usize) -> Look
+    requires { ⌜ l .count < 320 ⌝ }
+    ensures { λ r. ⌜ r ≡ joinedOf l price i ⌝ }
+{
+    if l.price < price {
+        return l;
+    }
+    if price < l.price {
+        return Look {
+            price,
+            count: 1,
+            last: i,
+        };
+    }
+    let count = l.count + 1;
+    Look {
+        price,
+        count,
+        last: i,
+    }
+}
+
 impl PotState {
-    // The lowest live price, and none where no bid is live.
-    pub fn lowest(self, rows: &[u64], m: usize) -> u64
-        requires { ⌜ Checked (now rows) m ⌝ }
-        ensures { λ r. ⌜ r ≡ lowestOf (now (rows .entry)) self m ⌝ }
+    // One pass over the bids that entered the auction.
+    pub fn look(self, rows: &[u64], list: &[usize], m: usize, c: usize) -> Look
+        requires { ⌜ Checked (now rows) m × Listed (now rows) m (now list) c × Others (now rows) m self ⌝ }
+        ensures { λ r. ⌜ Looked (now (rows .entry)) m self r ⌝ }
     {
-        let mut best: u64 = names::NO_PRICE;
-        let mut i: usize = 0;
-        while i < m {
+        let mut l = Look {
+            price: names::NO_PRICE,
+            count: 0,
+            last: 0,
+        };
+        let mut j: usize = 0;
+        while j < c {
+            let i = list[j];
             let a = sheet::app(rows, i);
             let d = sheet::year(rows, i);
             if live(self.reasons[i], self.won[a], self.opened[d]) {
-                best = lower(sheet::price(rows, i), best);
+                l = joined(l, sheet::price(rows, i), i);
             }
-            i += 1;
+            j += 1;
         }
-        best
+        l
     }
 
     // The live bids at price p.
@@ -208,16 +243,15 @@ impl PotState {
     }
 
     // Is the sole next lowest live bid of bid i's application and year?
-    fn follows(self, rows: &[u64], m: usize, i: usize) -> bool
-        requires { ⌜ Checked (now rows) m × (i < m) ⌝ }
+    fn follows(self, rows: &[u64], list: &[usize], m: usize, c: usize, i: usize) -> bool
+        requires { ⌜ Checked (now rows) m × (i < m) × Listed (now rows) m (now list) c × Others (now rows) m self ⌝ }
         ensures { λ r. ⌜ r ≡ followsOf (now (rows .entry)) m i self ⌝ }
     {
-        let q = self.lowest(rows, m);
-        let set = self.taken(rows, m, q);
-        if sets::count(set, m) != 1 {
+        let l = self.look(rows, list, m, c);
+        if l.count != 1 {
             return false;
         }
-        let j = sets::last(set, m);
+        let j = l.last;
         let a = sheet::app(rows, i);
         if sheet::app(rows, j) != a {
             return false;
@@ -227,13 +261,13 @@ impl PotState {
     }
 
     // Bid i was taken alone and does not fit: 2.
-    fn alone(self, rows: &[u64], m: usize, i: usize) -> PotState
-        requires { ⌜ Checked (now rows) m × (i < m) ⌝ }
+    fn alone(self, rows: &[u64], list: &[usize], m: usize, c: usize, i: usize) -> PotState
+        requires { ⌜ Checked (now rows) m × (i < m) × Listed (now rows) m (now list) c × Others (now rows) m self ⌝ }
         ensures { λ r. ⌜ r ≡ aloneOf (now (rows .entry)) m i self ⌝ }
     {
         let t = self.turned(i);
         let d = sheet::year(rows, i);
-        if t.follows(rows, m, i) {
+        if t.follows(rows, list, m, c, i) {
             return t.hung(d);
         }
         t.shut(d)
@@ -283,73 +317,108 @@ impl PotState {
         self.shared(rows, m, set, wins, p)
     }
 
-    // One look at all live bids of the lowest live price.
-    pub fn step(
+    // One live bid alone has the lowest live price: is it won, or turned down?
+    fn sole(
+        self,
+        rows: &[u64],
+        figures: &[u64],
+        budgets: &[u64],
+        list: &[usize],
+        m: usize,
+        y: usize,
+        c: usize,
+        l: Look,
+    ) -> PotState
+        requires { ⌜ Ready (now rows) (now figures) (now budgets) 0 m y × Listed (now rows) m (now list) c × Others (now rows) m self × Looked (now rows) m self l × (l .count ≡ 1) ⌝ }
+        ensures { λ r. ⌜ ((b : ℕ) → b ≤ m → Stepped (potIn (now (rows .entry)) (now (figures .entry)) (now (budgets .entry)) b m y) self r) ⌝ }
+    {
+        let i = l.last;
+        let p = l.price;
+        let t = self.win(rows, m, i, p);
+        if totals::within(t.revalued(rows, figures, m, y), budgets, y) {
+            return t.settled();
+        }
+        self.alone(rows, list, m, c, i)
+    }
+
+    // Several live bids have the lowest live price p.
+    fn several(
         self,
         rows: &[u64],
         figures: &[u64],
         budgets: &[u64],
         m: usize,
         y: usize,
+        p: u64,
     ) -> PotState
-        requires { ⌜ Ready (now rows) (now figures) (now budgets) 0 m y ⌝ }
+        requires { ⌜ Ready (now rows) (now figures) (now budgets) 0 m y × (p ≡ lowestOf (now rows) self m) × (length (members (takenOf (now rows) m self) m) ≡ 1 → ⊥) ⌝ }
         ensures { λ r. ⌜ ((b : ℕ) → b ≤ m → Stepped (potIn (now (rows .entry)) (now (figures .entry)) (now (budgets .entry)) b m y) self r) ⌝ }
     {
-        let p = self.lowest(rows, m);
         let set = self.taken(rows, m, p);
         let t = self.trial(rows, m, set, p);
         if totals::within(t.revalued(rows, figures, m, y), budgets, y) {
             return t.settled();
         }
-        if sets::count(set, m) == 1 {
-            return self.alone(rows, m, sets::last(set, m));
-        }
         self.tie(rows, figures, budgets, m, y, set, p)
     }
 
-    // Is a bid live, and was no tie too wide?
-    fn going(self, rows: &[u64], m: usize) -> bool
-        requires { ⌜ Checked (now rows) m ⌝ }
-        ensures { λ r. ⌜ r ≡ goingOf (now (rows .entry)) m self ⌝ }
+    // One look at all live bids of the lowest live price.
+    pub fn step(
+        self,
+        rows: &[u64],
+        figures: &[u64],
+        budgets: &[u64],
+        list: &[usize],
+        m: usize,
+        y: usize,
+        c: usize,
+        l: Look,
+    ) -> PotState
+        requires { ⌜ Ready (now rows) (now figures) (now budgets) 0 m y × Listed (now rows) m (now list) c × Others (now rows) m self × Looked (now rows) m self l ⌝ }
+        ensures { λ r. ⌜ ((b : ℕ) → b ≤ m → Stepped (potIn (now (rows .entry)) (now (figures .entry)) (now (budgets .entry)) b m y) self r) ⌝ }
     {
-        if self.wide {
-            false
-        } else {
-            self.lowest(rows, m) < names::NO_PRICE
+        if l.count == 1 {
+            return self.sole(rows, figures, budgets, list, m, y, c, l);
         }
+        let p = l.price;
+        self.several(rows, figures, budgets, m, y, p)
     }
 
-    // Looks while a bid is live.
-    pub fn run(self, rows: &[u64], figures: &[u64], budgets: &[u64], m: usize, y: usize) -> PotState
-        requires { ⌜ Ready (now rows) (now figures) (now budgets) 0 m y × ((b : ℕ) → b ≤ m → Stands (potIn (now rows) (now figures) (now budgets) b m y) [] self) ⌝ }
+    // Looks while a bid is live, and to the first tie that is too wide.
+    pub fn run(
+        self,
+        rows: &[u64],
+        figures: &[u64],
+        budgets: &[u64],
+        list: &[usize],
+        m: usize,
+        y: usize,
+        c: usize,
+    ) -> PotState
+        requires { ⌜ Ready (now rows) (now figures) (now budgets) 0 m y × Listed (now rows) m (now list) c × ((b : ℕ) → b ≤ m → Stands (potIn (now rows) (now figures) (now budgets) b m y) [] self) ⌝ }
         ensures { λ r. ⌜ ((b : ℕ) → b ≤ m → Stands (potIn (now (rows .entry)) (now (figures .entry)) (now (budgets .entry)) b m y) (auction (potIn (now (rows .entry)) (now (figures .entry)) (now (budgets .entry)) b m y)) r) ⌝ }
     {
         let mut s = self;
-        while s.going(rows, m) {
-            s = s.step(rows, figures, budgets, m, y);
+        let mut l = s.look(rows, list, m, c);
+        while l.price < names::NO_PRICE {
+            s = s.step(rows, figures, budgets, list, m, y, c, l);
+            if s.wide {
+                return s;
+            }
+            l = s.look(rows, list, m, c);
         }
         s
     }
-
-    fn reopen(mut self, i: usize) -> PotState
-        requires { ⌜ i < 320 ⌝ }
-        ensures { λ r. ⌜ r ≡ reopened i self ⌝ }
-    {
-        self.reasons[i] = FRESH;
-        self
-    }
 }
 
-fn blank() -> PotState
-    ensures { λ r. ⌜ r ≡ blankState ⌝ }
+// The mark of a bid that no look has seen.
+fn first_mark(standing: u64) -> u16
+    ensures { λ r. ⌜ r ≡ firstMark standing ⌝ }
 {
-    PotState {
-        reasons: [OTHER; 320],
-        won: [false; 64],
-        opened: [true; 4],
-        prices: [names::NO_PRICE; 4],
-        hang: NO_YEAR,
-        wide: false,
+    if standing == sheet::ENTERED {
+        FRESH
+    } else {
+        OTHER
     }
 }
 
@@ -358,15 +427,38 @@ pub fn started(rows: &[u64], m: usize) -> PotState
     requires { ⌜ Checked (now rows) m ⌝ }
     ensures { λ r. ⌜ r ≡ startedOf (now (rows .entry)) m ⌝ }
 {
-    let mut s = blank();
+    let mut reasons = [OTHER; 320];
     let mut i: usize = 0;
     while i < m {
-        if sheet::standing(rows, i) == 1 {
-            s = s.reopen(i);
+        reasons[i] = first_mark(sheet::standing(rows, i));
+        i += 1;
+    }
+    PotState {
+        reasons,
+        won: [false; 64],
+        opened: [true; 4],
+        prices: [names::NO_PRICE; 4],
+        hang: NO_YEAR,
+        wide: false,
+    }
+}
+
+// The bids that entered the auction.
+fn entered(rows: &[u64], m: usize) -> Entrants
+    requires { ⌜ Checked (now rows) m ⌝ }
+    ensures { λ r. ⌜ Listed (now (rows .entry)) m (r .list) (r .count) ⌝ }
+{
+    let mut list = [0usize; 320];
+    let mut count: usize = 0;
+    let mut i: usize = 0;
+    while i < m {
+        if sheet::standing(rows, i) == sheet::ENTERED {
+            list[count] = i;
+            count += 1;
         }
         i += 1;
     }
-    s
+    Entrants { list, count }
 }
 
 // The auction of a pot.
@@ -374,6 +466,8 @@ pub fn auction(rows: &[u64], figures: &[u64], budgets: &[u64], m: usize, y: usiz
     requires { ⌜ Ready (now rows) (now figures) (now budgets) 0 m y ⌝ }
     ensures { λ r. ⌜ ((b : ℕ) → b ≤ m → Stands (potIn (now (rows .entry)) (now (figures .entry)) (now (budgets .entry)) b m y) (auction (potIn (now (rows .entry)) (now (figures .entry)) (now (budgets .entry)) b m y)) r) ⌝ }
 {
+    let e = entered(rows, m);
+    let list = e.list;
     let s = started(rows, m);
-    s.run(rows, figures, budgets, m, y)
+    s.run(rows, figures, budgets, &list, m, y, e.count)
 }

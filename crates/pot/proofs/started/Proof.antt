@@ -1,32 +1,33 @@
--- The invariant: the auction's bids that were passed are open.
+-- The invariant: the bids that were passed have their first marks.
 use borrow.Author.Needs.{needs}
 use native.Mathlib.Omega.{arith}
 use Prim.Native.Nat.{_≤_, _-_}
-use mathlib.Core.Path.{_≡_, _∙_}
-use mathlib.Core.Logic.{⊎-elim}
-use Rattle.sets.proofs.Laws.{done}
-use Rattle.pot.specs.Marks.{startedOf}
-use Rattle.pot.proofs.Laws.{started-hit, started-miss}
+use mathlib.Core.Path.{_≡_, _∙_, ap}
+use Rattle.sets.specs.Sets.{fill}
+use Rattle.sets.proofs.Laws.{fill-next}
+use Rattle.sheet.specs.Sheet.{rowStanding}
+use Rattle.pot.specs.Marks.{firstMark, noMarks}
+use Rattle.pot.proofs.Laws.{started-done}
 use Rattle.pot.proofs.started.Statement.{statement}
 use Rattle.pot.proofs.started.Tie as tie
 
 abbrev Inv-loop : tie.InvT-loop
-Inv-loop rows m s₀ i₀ s i = (i ≤ m) × (s ≡ startedOf rows i)
+Inv-loop rows m reasons₀ i₀ reasons i = (i ≤ m) × (reasons ≡ fill noMarks (λ k. firstMark (rowStanding rows k)) i)
 
 abbrev μ-loop : tie.MeasureT-loop
-μ-loop rows m s₀ i₀ s i = m - i
+μ-loop rows m reasons₀ i₀ reasons i = m - i
 
 loop-holds : tie.Need-loop-holds Inv-loop μ-loop
-unfolding startedOf
-loop-holds c = (omega arith, c .blank .ensures)
+unfolding fill noMarks
+loop-holds c = search needs
 
 loop-again : tie.Need-loop-again Inv-loop μ-loop
-loop-again c = (omega arith, ⊎-elim (λ w. w .2 ∙ started-hit _ _ (c .before .before .before .loop .inv .1) (c .before .standing .ensures) (w .0 .taken) (w .1 .ensures)) (λ w. w .1 ∙ started-miss _ _ (c .before .before .before .loop .inv .1) (c .before .standing .ensures) (w .0 .left)) (c .if1 .came))
+loop-again c = (omega arith, fill-next _ _ _ (c .before .before .before .loop .inv .1) (c .first-mark .ensures ∙ ap firstMark (c .before .standing .ensures)))
 
 returns : tie.Need-returns Inv-loop μ-loop
-returns c = done (startedOf _) (c .before .loop .inv .1) (c .before .loop .inv .0) (c .loop-test .left)
+returns c = started-done _ _ (c .before .loop .inv .1) (c .before .loop .inv .0) (c .loop-test .left)
 
 pub started-spec : {M : Type 1} → statement M
 started-spec =
-    tie.close (tie.spec Inv-loop μ-loop (λ c κs. search needs) loop-holds (λ c κs. search needs) (λ c κs. search needs) (λ c. omega arith)
+    tie.close (tie.spec Inv-loop μ-loop loop-holds (λ c κs. search needs) (λ c κs. search needs) (λ c. search needs) (λ c. search needs) (λ c. omega arith)
     (λ c. omega arith) loop-again returns)
