@@ -1,21 +1,25 @@
 -- The laws of the filling, over plain variables: one for each return and each turn of a loop. Assumes nothing.
 use Prim.Native.Nat.{ℕ, suc, _+_, _-_, _*_, _≤_, _<_}
-use mathlib.Core.Path.{_≡_, refl, sym, subst, _∙_}
+use mathlib.Core.Path.{_≡_, refl, sym, ap, subst, _∙_}
+use mathlib.Core.Bool.{Bool, true, false}
 use mathlib.Core.List.{List}
 use native.Mathlib.Omega.{arith}
-use native.Mathlib.Nat.{le-antisymm, mul-le-mul, mul-le-mul-right}
-use lib.ListN.{length, getD, set, length-set}
+use native.Mathlib.Nat.{add-zero, le-antisymm, mul-le-mul, mul-le-mul-right}
+use lib.ListN.{length, getD, set, length-set, getD-replicate}
 use lib.Seq.{getD-set-same, getD-set-other}
 use lib.Dec.{eqb}
 use borrow.Author.Tests.{eqb-true, eqb-false}
 use Rattle.rules.specs.Names.{mostYears, mostPots, potWidth}
+use Rattle.rules.specs.Lists.{pick}
 use Rattle.rules.specs.Bytes.{le}
-use Rattle.rules.specs.File.{Round, budgetAt}
+use Rattle.rules.specs.File.{Round, Bid, appAt, budgetAt}
+use Rattle.rules.specs.Round.{mine, enters}
 use Rattle.laws.specs.Lists.{case}
 use Rattle.laws.specs.Reading.{Sound}
-use Rattle.rows.specs.Rows.{rowNumbers, figureNumbers}
-use Rattle.rows.proofs.Laws.{read-at}
-use Rattle.fill.specs.Fill.{Stands, Kept, Put, RowsRight, FiguresRight, AllFigures, BudgetsRight}
+use Rattle.sheet.specs.Sheet.{absent, entered, spare, rowStanding}
+use Rattle.rows.specs.Rows.{numbered, standingOf, rowNumbers, figureNumbers, figuresIn}
+use Rattle.rows.proofs.Laws.{read-at, figure-blank, figure-own}
+use Rattle.fill.specs.Fill.{mostNumbers, Blank, Stands, Kept, Rest, Put, Figured, RowsRight, FiguresRight, AllFigures, BudgetsRight}
 
 -- ---- the record of a pot
 
@@ -34,7 +38,7 @@ budget-read y pots p i e h = read-at 8 pots (8 * i) e h
 -- ---- numbers put at a place
 
 pub put-none : (v : List ℕ) (at : ℕ) (s : List ℕ) → Put v 0 at s s
-put-none v at s = record { inside = λ j h. absurd (omega arith); kept = λ j h. refl; same = refl }
+put-none v at s = record { inside = λ j h. absurd (omega arith); kept = λ j h. refl; rest = λ j h. refl; same = refl }
 
 -- one number more
 pub put-more : (v : List ℕ) (n at : ℕ) {s t : List ℕ} → Put v n at s t → at + n < length s → Put v (n + 1) at s (set t (at + n) (getD v n 0))
@@ -45,6 +49,7 @@ put-more v n at {s} {t} p h =
           (λ e. let q = eqb-true j n e in rw (q) (getD-set-same t (at + n) (getD v n 0) 0 l))
           (λ e. let q = eqb-false j n e in getD-set-other t (at + n) (at + j) (getD v n 0) 0 (λ z. q (omega arith)) ∙ p .inside j (let d : j < n = omega (arith, q) in d));
       kept = λ j i. getD-set-other t (at + n) j (getD v n 0) 0 (λ z. omega arith) ∙ p .kept j i;
+      rest = λ j i. getD-set-other t (at + n) j (getD v n 0) 0 (λ z. omega arith) ∙ p .rest j (omega arith);
       same = length-set t (at + n) (getD v n 0) ∙ p .same;
     }
 
@@ -70,12 +75,18 @@ module _ (R : Round) (p k : ℕ) {v : List ℕ} where
       (λ j l. stays s t (rowNumbers R p j) (k * 6) (j * 6) (f j l) (q .kept) (omega arith))
       (put-stands (k * 6) e q)
 
-  pub figures-more : (i : ℕ) {s t : List ℕ} → FiguresRight R p k i s → v ≡ figureNumbers R p k i → Put v (length v) (k * 24 + i * 3) s t → FiguresRight R p k (i + 1) t
-  unfolding figureNumbers
-  figures-more i {s} {t} f e q =
-      and-next (λ i. Stands (figureNumbers R p k i) t (k * 24 + i * 3)) i
-      (λ j l. stays s t (figureNumbers R p k j) (k * 24 + i * 3) (k * 24 + j * 3) (f j l) (q .kept) (omega arith))
-      (put-stands (k * 24 + i * 3) e q)
+pub figures-more : (years techs : List ℕ) (y t : ℕ) (x : Bid) (k i : ℕ) {v s u : List ℕ} → Figured years techs y t x k i s → v ≡ figuresIn years techs y t x i
+    → Put v (length v) (k * 24 + i * 3) s u → Figured years techs y t x k (i + 1) u
+unfolding figuresIn
+figures-more years techs y t x k i {v} {s} {u} f e q =
+    and-next (λ i. Stands (figuresIn years techs y t x i) u (k * 24 + i * 3)) i
+    (λ j l. stays s u (figuresIn years techs y t x j) (k * 24 + i * 3) (k * 24 + j * 3) (f j l) (q .kept) (omega arith))
+    (put-stands (k * 24 + i * 3) e q)
+
+-- those of a bid of the pot are right
+pub figures-own : (R : Round) (p k : ℕ) {x : Bid} {t : ℕ} (s : List ℕ) → mine R p k ≡ true → x ≡ numbered (R .techs) (R .apps) (R .bids) (R .y) (R .b) k
+    → t ≡ appAt (R .apps) (x .app) .tech → Figured (R .years) (R .techs) (R .y) t x k (R .y) s → FiguresRight R p k (R .y) s
+figures-own R p k s m en et f i l = subst (λ (v : List ℕ). Stands v s (k * 24 + i * 3)) (figure-own R p k (sym m) refl en et i l refl) (f i l)
 
 pub budgets-more : (y : ℕ) (pots : List ℕ) (p i : ℕ) (s : List ℕ) {x : ℕ} → i < length s → BudgetsRight y pots p i s → x ≡ budgetAt y pots p i → BudgetsRight y pots p (i + 1) (set s i x)
 budgets-more y pots p i s {x} h f e =
@@ -87,8 +98,63 @@ budgets-more y pots p i s {x} h f e =
 pub all-of : (P : ℕ → Type 0) {n i : ℕ} → P i → i ≤ n → n ≤ i → P n
 all-of P p h l = subst P (le-antisymm h l) p
 
--- the figures of one bid more, where nothing before them was changed
-pub figures-all : (R : Round) (p k : ℕ) → R .y ≤ mostYears → (s t : List ℕ) → AllFigures R p k s → Kept (k * 24) s t → FiguresRight R p k (R .y) t → AllFigures R p (k + 1) t
-unfolding figureNumbers
-figures-all R p k h s t f q g =
-    and-next (λ k. FiguresRight R p k (R .y) t) k (λ j l i m. stays s t (figureNumbers R p j i) (k * 24) (j * 24 + i * 3) (f j l i m) q (omega arith)) g
+-- ---- bids of other pots
+
+-- the standing of a bid is 0 where it is not of the pot, and only there
+present : (own enter : Bool) → (pick own (pick enter entered spare) absent ≡ 0 → ⊥) → own ≡ true
+present true enter n = refl
+present false enter n = absurd (n refl)
+
+missing : (own enter : Bool) → pick own (pick enter entered spare) absent ≡ 0 → own ≡ false
+missing true true e = absurd (omega arith)
+missing true false e = absurd (omega arith)
+missing false enter e = refl
+
+-- whether bid k is of the pot, by its standing
+module _ (R : Round) (p k : ℕ) (rows : List ℕ) {s : ℕ} (h : k < mostNumbers) (f : RowsRight R p mostNumbers rows) (e : s ≡ rowStanding rows k) where
+  standing-at : s ≡ standingOf R p k
+  unfolding rowStanding rowNumbers
+  standing-at = e ∙ ap (λ (i : ℕ). getD rows i 0) (sym (add-zero (k * 6))) ∙ f k h 0 (omega arith)
+
+  pub of-pot : (s ≡ 0 → ⊥) → mine R p k ≡ true
+  unfolding standingOf
+  of-pot n = present (mine R p k) (enters R k) (λ z. n (standing-at ∙ z))
+
+  pub of-another : s ≡ 0 → mine R p k ≡ false
+  unfolding standingOf
+  of-another z = missing (mine R p k) (enters R k) (sym standing-at ∙ z)
+
+-- ---- the figures of all bids
+
+-- in t the figures of the first k bids are right, and those after them are as in s
+pub record Done (R : Round) (p k : ℕ) (s t : List ℕ) : Type 0 where
+  pub same : length t ≡ length s
+  pub right : AllFigures R p k t
+  pub rest : Rest (k * 24) s t
+
+-- none yet
+pub done-none : (R : Round) (p : ℕ) (s : List ℕ) → Done R p 0 s s
+done-none R p s = record { same = refl; right = λ k h. absurd (omega arith); rest = λ j h. refl }
+
+module _ (R : Round) (p k : ℕ) {s t : List ℕ} (d : Done R p k s t) where
+  -- one bid more, which is of the pot: its figures were written, in u
+  pub done-own : {u g : List ℕ} → g ≡ u → R .y ≤ mostYears → length u ≡ length t → FiguresRight R p k (R .y) u → Kept (k * 24) t u
+      → Rest (k * 24 + 24) t u → Done R p (k + 1) s g
+  unfolding figureNumbers
+  done-own {u} e h l f kept rest = subst (Done R p (k + 1) s) (sym e) record {
+    same = l ∙ d .same;
+    right = and-next (λ k. FiguresRight R p k (R .y) u) k
+        (λ j q i m. stays t u (figureNumbers R p j i) (k * 24) (j * 24 + i * 3) (d .right j q i m) kept (omega arith)) f;
+    rest = λ j q. rest j (omega arith) ∙ d .rest j (omega arith);
+  }
+
+  -- one bid more, which is of another pot: its figures are left zeros
+  pub done-other : {g : List ℕ} → g ≡ t → Blank s → mine R p k ≡ false → Done R p (k + 1) s g
+  unfolding figureNumbers
+  done-other e b m = subst (Done R p (k + 1) s) (sym e) record {
+    same = d .same;
+    right = and-next (λ k. FiguresRight R p k (R .y) t) k (d .right)
+        (λ i l j h. d .rest (k * 24 + i * 3 + j) (omega arith) ∙ b (k * 24 + i * 3 + j) ∙ sym (getD-replicate 3 j 0 0 h)
+        ∙ ap (λ (v : List ℕ). getD v j 0) (figure-blank R p k (sym m) i refl));
+    rest = λ j q. d .rest j (omega arith);
+  }

@@ -1,14 +1,15 @@
-// The sheet of one pot, filled from the sections of an accepted file and their counts. What the lent lists held before does not matter.
+// The sheet of one pot, filled from the sections of an accepted file and their counts. The lent figures are blank; what the other lists held does not matter.
 use rules::Sections;
 ghost use mathlib.Core.Path.{_≡_};
+ghost use mathlib.Core.Bool.{true};
 ghost use Prim.Native.Nat.{_+_, _*_, _≤_, _<_};
 ghost use lib.ListN.{length};
 ghost use Rattle.rules.specs.Names.{mostYears, mostPots, potWidth};
-ghost use Rattle.rules.specs.Round.{potOf};
+ghost use Rattle.rules.specs.Round.{mine, potOf};
 ghost use Rattle.laws.specs.Reading.{Sound};
 ghost use Rattle.sheet.specs.Sheet.{potIn, Ready};
 ghost use Rattle.rows.specs.Rows.{roundIn};
-ghost use Rattle.fill.specs.Fill.{mostNumbers, rowsLength, figuresLength, Kept, Put, RowsRight, FiguresRight, AllFigures, BudgetsRight};
+ghost use Rattle.fill.specs.Fill.{mostNumbers, rowsLength, figuresLength, Blank, Kept, Rest, Put, RowsRight, FiguresRight, AllFigures, BudgetsRight};
 
 // The most numbers of bids: the sealed ones, and an automatic one for each application.
 const BIDS: usize = 320;
@@ -55,7 +56,7 @@ fn fill_rows(
     }
 }
 
-// The figures of bid k in the years of the file.
+// The figures of bid k of the pot in the years of the file.
 fn fill_years(
     years: &[u8],
     pots: &[u8],
@@ -67,20 +68,23 @@ fn fill_years(
     k: usize,
     figures: &mut [u64],
 )
-    requires { ⌜ Sound (roundIn (now years) (now pots) (now techs) (now apps) (now bids) z) × (k < mostNumbers) × (figuresLength ≤ length (now figures)) ⌝ }
+    requires { ⌜ Sound (roundIn (now years) (now pots) (now techs) (now apps) (now bids) z) × (figuresLength ≤ length (now figures)) ⌝ }
+    requires { ⌜ mine (roundIn (now years) (now pots) (now techs) (now apps) (now bids) z) pot k ≡ true ⌝ }
     ensures { λ _. ⌜ FiguresRight (roundIn (now (years .entry)) (now (pots .entry)) (now (techs .entry)) (now (apps .entry)) (now (bids .entry)) z) pot k (z .years) (now (figures .exit)) ×
-        Kept (k * 24) (now (figures .entry)) (now (figures .exit)) ⌝ }
+        Kept (k * 24) (now (figures .entry)) (now (figures .exit)) × Rest (k * 24 + 24) (now (figures .entry)) (now (figures .exit)) ⌝ }
 {
     let y = z.years;
+    let x = rows::bid_of(techs, apps, bids, y, z.bids, k);
+    let t = rows::tech_of(apps, x.app);
     let mut i: usize = 0;
     while i < y {
-        let v = rows::figure(years, pots, techs, apps, bids, z, pot, k, i);
+        let v = rows::figure(years, techs, y, t, x, i);
         put(figures, k * sheet::FIGURES + i * sheet::FIGURE, &v);
         i += 1;
     }
 }
 
-// The figures of all bids.
+// The figures of all bids, over blank ones: those of other pots, which the rows tell, stay zeros.
 fn fill_figures(
     years: &[u8],
     pots: &[u8],
@@ -89,15 +93,19 @@ fn fill_figures(
     bids: &[u8],
     z: Sections,
     pot: usize,
+    rows: &[u64],
     figures: &mut [u64],
 )
-    requires { ⌜ Sound (roundIn (now years) (now pots) (now techs) (now apps) (now bids) z) × (figuresLength ≤ length (now figures)) ⌝ }
+    requires { ⌜ Sound (roundIn (now years) (now pots) (now techs) (now apps) (now bids) z) × (figuresLength ≤ length (now figures)) × Blank (now figures) ⌝ }
+    requires { ⌜ (length (now rows) ≡ rowsLength) × RowsRight (roundIn (now years) (now pots) (now techs) (now apps) (now bids) z) pot mostNumbers (now rows) ⌝ }
     ensures { λ _. ⌜ AllFigures (roundIn (now (years .entry)) (now (pots .entry)) (now (techs .entry)) (now (apps .entry)) (now (bids .entry)) z) pot (z .bids + z .applications) (now (figures .exit)) ⌝ }
 {
     let m = z.bids + z.applications;
     let mut k: usize = 0;
     while k < m {
-        fill_years(years, pots, techs, apps, bids, z, pot, k, figures);
+        if sheet::standing(rows, k) != sheet::ABSENT {
+            fill_years(years, pots, techs, apps, bids, z, pot, k, figures);
+        }
         k += 1;
     }
 }
@@ -129,12 +137,12 @@ pub fn fill(
     budgets: &mut [u64],
 )
     requires { ⌜ Sound (roundIn (now years) (now pots) (now techs) (now apps) (now bids) z) × (pot < z .pots) ⌝ }
-    requires { ⌜ (length (now rows) ≡ rowsLength) × (figuresLength ≤ length (now figures)) × (mostYears ≤ length (now budgets)) ⌝ }
+    requires { ⌜ (length (now rows) ≡ rowsLength) × (figuresLength ≤ length (now figures)) × (mostYears ≤ length (now budgets)) × Blank (now figures) ⌝ }
     ensures { λ _. ⌜ potIn (now (rows .exit)) (now (figures .exit)) (now (budgets .exit)) (z .bids) (z .bids + z .applications) (z .years)
         ≡ potOf (roundIn (now (years .entry)) (now (pots .entry)) (now (techs .entry)) (now (apps .entry)) (now (bids .entry)) z) pot ⌝ }
     ensures { λ _. ⌜ Ready (now (rows .exit)) (now (figures .exit)) (now (budgets .exit)) (z .bids) (z .bids + z .applications) (z .years) ⌝ }
 {
     fill_rows(years, pots, techs, apps, bids, z, pot, rows);
-    fill_figures(years, pots, techs, apps, bids, z, pot, figures);
+    fill_figures(years, pots, techs, apps, bids, z, pot, rows, figures);
     fill_budgets(pots, z.years, pot, budgets);
 }

@@ -20,7 +20,7 @@ use Rattle.laws.specs.Reading.{Sound}
 use Rattle.laws.specs.Reading as r
 use Rattle.laws.specs.Bids.{bid-own, bid-auto, Kind, own, auto, out, kind}
 use Rattle.sheet.specs.Sheet.{entered, spare, mostEnergy, mostShare}
-use Rattle.rows.specs.Rows.{TechIn, YearIn, AppIn, BidIn, ownBid, numbered, numbered-is, silentIn, standingIn, standing-is, rowOf, standingOf, rowNumbers, figureNumbers}
+use Rattle.rows.specs.Rows.{TechIn, YearIn, AppIn, BidIn, ownBid, numbered, numbered-is, silentIn, standingIn, standing-is, rowOf, standingOf, rowNumbers, figureNumbers, figuresIn}
 
 -- ---- records of the file
 
@@ -187,6 +187,12 @@ energy-is years techs y t i x el eh ed = ap₂ (λ (l h : ℕ). l * (h * x .capa
 pub share-most : (tlm : ℕ) {rqm : ℕ} → rqm ≤ whole → (whole - tlm) * rqm ≤ mostShare
 share-most tlm h = let l : whole - tlm ≤ whole = omega arith in mul-le-mul l h
 
+pub figure-is : (years techs : List ℕ) (y t : ℕ) (x : Bid) (i : ℕ) {reference energy share : ℕ} → reference ≡ techAt y techs t .reference i
+    → energy ≡ techAt y techs t .load i * energyOf years x i → share ≡ (whole - yearAt years i .tlm) * techAt y techs t .rqm
+    → reference ∷ energy ∷ share ∷ [] ≡ figuresIn years techs y t x i
+unfolding figuresIn
+figure-is years techs y t x i er ee es = λ j. er j ∷ ee j ∷ es j ∷ []
+
 pub share-is : (years techs : List ℕ) (y t i : ℕ) {tlm rqm : ℕ} → tlm ≡ yearAt years i .tlm → rqm ≡ techAt y techs t .rqm → (whole - tlm) * rqm ≡ (whole - yearAt years i .tlm) * techAt y techs t .rqm
 share-is years techs y t i et er = ap₂ (λ (l r : ℕ). (whole - l) * r) et er
 
@@ -244,20 +250,16 @@ module _ (R : Round) (p k : ℕ) {s : Bool} (e : s ≡ mine R p k) where
         let c = ec ∙ ap₂ (λ (t i : ℕ). techAt (R .y) (R .techs) t .admin i) tech-is (ap (λ (x : Bid). x .year) ex) in
         rw (sym e ∙ m) (λ j. (es ∙ standing-is R k) j ∷ ex j .app ∷ ex j .year ∷ ex j .price ∷ d j ∷ c j ∷ [])
 
-    pub figure-own : (i : ℕ) → i < R .y → {reference energy share : ℕ} → reference ≡ techAt (R .y) (R .techs) t .reference i
-        → energy ≡ techAt (R .y) (R .techs) t .load i * energyOf (R .years) x i → share ≡ (whole - yearAt (R .years) i .tlm) * techAt (R .y) (R .techs) t .rqm
-        → reference ∷ energy ∷ share ∷ [] ≡ figureNumbers R p k i
-    unfolding figureNumbers rowOf rowFor
-    figure-own i h er ee es =
-        let r = er ∙ ap (λ (t : ℕ). techAt (R .y) (R .techs) t .reference i) tech-is in
-        let n = ee ∙ ap₂ (λ (t : ℕ) (x : Bid). techAt (R .y) (R .techs) t .load i * energyOf (R .years) x i) tech-is ex in
-        let s = es ∙ ap (λ (t : ℕ). (whole - yearAt (R .years) i .tlm) * techAt (R .y) (R .techs) t .rqm) tech-is in
-        rw (sym e ∙ m, lt-ltb i (R .y) h) (λ j. r j ∷ n j ∷ s j ∷ [])
+    pub figure-own : (i : ℕ) → i < R .y → {v : List ℕ} → v ≡ figuresIn (R .years) (R .techs) (R .y) t x i → v ≡ figureNumbers R p k i
+    unfolding figuresIn figureNumbers rowOf rowFor
+    figure-own i h ev = ev ∙ rw (sym e ∙ m, lt-ltb i (R .y) h) (λ j.
+        let r = techAt (R .y) (R .techs) (tech-is j) in
+        r .reference i ∷ (r .load i * energyOf (R .years) (ex j) i) ∷ ((whole - yearAt (R .years) i .tlm) * r .rqm) ∷ [])
 
 pub row-length : (R : Round) (p k : ℕ) {v : List ℕ} → v ≡ rowNumbers R p k → 6 ≡ length v
 unfolding rowNumbers
 row-length R p k e = sym (ap length e)
 
-pub figure-length : (R : Round) (p k i : ℕ) {v : List ℕ} → v ≡ figureNumbers R p k i → 3 ≡ length v
-unfolding figureNumbers
-figure-length R p k i e = sym (ap length e)
+pub figure-length : (years techs : List ℕ) (y t : ℕ) (x : Bid) (i : ℕ) {v : List ℕ} → v ≡ figuresIn years techs y t x i → 3 ≡ length v
+unfolding figuresIn
+figure-length years techs y t x i e = sym (ap length e)

@@ -93,6 +93,12 @@ pub standing-is : (R : Round) (k : ℕ) → standingIn (R .bids) (R .b) k ≡ pi
 unfolding enters silent
 standing-is R k = refl
 
+-- the figures in year i of a bid of technology t
+unfoldable pub figuresIn : (years techs : List ℕ) (y t : ℕ) (x : Bid) (i : ℕ) → List ℕ
+figuresIn years techs y t x i =
+    let r = techAt y techs t in
+    r .reference i ∷ (r .load i * energyOf years x i) ∷ ((whole - yearAt years i .tlm) * r .rqm) ∷ []
+
 -- ---- what is to stand in the sheet
 
 -- the row of bid k in pot p, as the clearing reads it

@@ -9,7 +9,7 @@ ghost use Rattle.rules.specs.Value.{hoursOf};
 ghost use Rattle.rules.specs.File.{yearAt, techAt, appAt, bidAt};
 ghost use Rattle.rules.specs.Round.{energyOf, mine};
 ghost use Rattle.laws.specs.Reading.{Sound};
-ghost use Rattle.rows.specs.Rows.{roundIn, shown, TechIn, YearIn, AppIn, BidIn, ownBid, numbered, silentIn, standingIn, rowNumbers, figureNumbers};
+ghost use Rattle.rows.specs.Rows.{roundIn, shown, TechIn, YearIn, AppIn, BidIn, ownBid, numbered, silentIn, standingIn, rowNumbers, figuresIn};
 
 // ---- technologies
 
@@ -68,7 +68,7 @@ pub struct Terms {
     pub price: u64,
 }
 
-fn tech_of(apps: &[u8], a: usize) -> usize
+pub fn tech_of(apps: &[u8], a: usize) -> usize
     requires { ⌜ a * appWidth + appWidth ≤ length (now apps) ⌝ }
     ensures { λ r. ⌜ r ≡ appAt (now (apps .entry)) a .tech ⌝ }
 {
@@ -121,7 +121,7 @@ fn automatic(techs: &[u8], apps: &[u8], y: usize, a: usize) -> Terms
 }
 
 // Bid k by number: the file's own b bids, and after them the automatic bid of each application.
-fn bid_of(techs: &[u8], apps: &[u8], bids: &[u8], y: usize, b: usize, k: usize) -> Terms
+pub fn bid_of(techs: &[u8], apps: &[u8], bids: &[u8], y: usize, b: usize, k: usize) -> Terms
     requires { ⌜ BidIn (now techs) (now apps) (now bids) y b k ⌝ }
     ensures { λ r. ⌜ shown r ≡ numbered (now (techs .entry)) (now (apps .entry)) (now (bids .entry)) y b k ⌝ }
 {
@@ -242,30 +242,14 @@ fn share_of(years: &[u8], techs: &[u8], y: usize, t: usize, i: usize) -> u64
     (names::WHOLE - tlm) * rqm_of(techs, y, t)
 }
 
-// The figures of bid k in year i: reference price, load factor × hours × capacity, (1 − TLM) × RQM.
-pub fn figure(
-    years: &[u8],
-    pots: &[u8],
-    techs: &[u8],
-    apps: &[u8],
-    bids: &[u8],
-    z: Sections,
-    pot: usize,
-    k: usize,
-    i: usize,
-) -> [u64; 3]
-    requires { ⌜ Sound (roundIn (now years) (now pots) (now techs) (now apps) (now bids) z) × (i < z .years) ⌝ }
-    ensures { λ r. ⌜ r ≡ figureNumbers (roundIn (now (years .entry)) (now (pots .entry)) (now (techs .entry)) (now (apps .entry)) (now (bids .entry)) z) pot k i ⌝ }
+// The figures in year i of a bid of technology t: reference price, load factor × hours × capacity, (1 − TLM) × RQM.
+pub fn figure(years: &[u8], techs: &[u8], y: usize, t: usize, x: Terms, i: usize) -> [u64; 3]
+    requires { ⌜ YearIn (now years) (now techs) y t i × (x .days ≤ longYear) × (x .capacity ≤ largestCapacity) ⌝ }
+    ensures { λ r. ⌜ r ≡ figuresIn (now (years .entry)) (now (techs .entry)) y t (shown x) i ⌝ }
 {
-    if mine(years, pots, techs, apps, bids, z, pot, k) {
-        let y = z.years;
-        let x = bid_of(techs, apps, bids, z.years, z.bids, k);
-        let t = tech_of(apps, x.app);
-        return [
-            reference_of(techs, y, t, i),
-            energy_of(years, techs, y, t, x, i),
-            share_of(years, techs, y, t, i),
-        ];
-    }
-    [0, 0, 0]
+    [
+        reference_of(techs, y, t, i),
+        energy_of(years, techs, y, t, x, i),
+        share_of(years, techs, y, t, i),
+    ]
 }

@@ -6,7 +6,7 @@ use mathlib.Core.List.{List}
 use native.Mathlib.Numerals.{add-one}
 use native.Mathlib.Nat.{le-antisymm}
 use lib.ListN.{getD, set, length}
-use Rattle.sets.specs.Sets.{fill, members, headOr, without}
+use Rattle.sets.specs.Sets.{fill, members, without}
 
 -- a loop that counts i up to n has reached n; and where its value is g of f of the count
 pub done : {A : Type 0} (f : ℕ → A) {x : A} {i n : ℕ} → x ≡ f i → i ≤ n → n ≤ i → x ≡ f n
@@ -29,14 +29,6 @@ module _ (l : List Bool) (i : ℕ) where
   pub count-miss : getD l i false ≡ false → length (members l i) ≡ length (members l (i + 1))
   unfolding members
   count-miss h = rw (add-one i, h)
-
-  pub last-hit : getD l i false ≡ true → i ≡ headOr 0 (members l (i + 1))
-  unfolding members
-  last-hit h = rw (add-one i, h)
-
-  pub last-miss : getD l i false ≡ false → headOr 0 (members l i) ≡ headOr 0 (members l (i + 1))
-  unfolding members
-  last-miss h = rw (add-one i, h)
 
   pub without-is : (a : List Bool) {b : Bool} → b ≡ (getD l i false && not (getD a i false)) → b ≡ without l a i
   unfolding without

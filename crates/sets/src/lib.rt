@@ -3,7 +3,7 @@ ghost use mathlib.Core.Path.{_≡_};
 ghost use mathlib.Core.Bool.{not, _&&_};
 ghost use Prim.Native.Nat.{_≤_, _<_};
 ghost use lib.ListN.{length};
-ghost use Rattle.sets.specs.Sets.{built, members, headOr, without};
+ghost use Rattle.sets.specs.Sets.{built, members, without};
 
 // How many bids a set has.
 pub fn count(set: [bool; 320], m: usize) -> usize
@@ -19,22 +19,6 @@ pub fn count(set: [bool; 320], m: usize) -> usize
         i += 1;
     }
     k
-}
-
-// The last bid of a set.
-pub fn last(set: [bool; 320], m: usize) -> usize
-    requires { ⌜ (m ≤ 320) × (0 < m) ⌝ }
-    ensures { λ r. ⌜ (r ≡ headOr 0 (members set m)) × (r < m) ⌝ }
-{
-    let mut j: usize = 0;
-    let mut i: usize = 0;
-    while i < m {
-        if set[i] {
-            j = i;
-        }
-        i += 1;
-    }
-    j
 }
 
 fn stays(of: bool, out: bool) -> bool

@@ -12,6 +12,7 @@ use rules::Sections;
 ghost use Rattle.rules.specs.File.{Round};
 ghost use Rattle.laws.specs.Reading.{Sound};
 ghost use Rattle.rows.specs.Rows.{roundIn};
+ghost use Rattle.fill.specs.Fill.{Blank};
 ghost use Rattle.result.specs.Tells.{Tells};
 ghost use Rattle.tell.specs.Tell.{wonIn, bidIn, paidIn, autoIn, stands, anewOf, placed};
 
@@ -275,7 +276,7 @@ fn blank_rows() -> [u64; 1920]
 }
 
 fn blank_figures() -> [u64; 7680]
-    ensures { λ r. ⌜ 7680 ≡ length r ⌝ }
+    ensures { λ r. ⌜ (7680 ≡ length r) × Blank r ⌝ }
 {
     [0; 7680]
 }

@@ -19,8 +19,11 @@ module _ (rows figures marks : List ℕ) (price d : ℕ) where
   unfolding partOf
   part-most m y z zero v h g = omega arith
   part-most m y z (suc n) v h g =
-      omega (arith, part-most m y z n v h (omega arith),
-      pick-le (eqb (getD marks n 0) becauseWon && eqb (rowYear rows n) d) (worth-le rows figures n price z (v .priced n z g h)))
+      omega (
+        arith,
+        part-most m y z n v h (omega arith),
+        pick-le (eqb (getD marks n 0) becauseWon && eqb (rowYear rows n) d) (worth-le rows figures n price z (v .priced n z g h)),
+      )
 
   -- the row of totals, one bid more
   module _ (i y : ℕ) {s : ℕ} {b : Bool} (es : s ≡ rowYear rows i) (eb : b ≡ (eqb (getD marks i 0) becauseWon && eqb s d)) where
@@ -63,8 +66,11 @@ module _ (rows figures marks prices : List ℕ) (z : ℕ) where
   unfolding totalOf costOf partOf
   four zero h = omega arith
   four (suc n) h =
-      omega (arith, four n (λ k g. h k (omega arith)),
-      spread (eqb (getD marks n 0) becauseWon) (rowYear rows n) (λ d. worthOf rows figures n (getD prices d 0) z) (h n (omega arith)))
+      omega (
+        arith,
+        four n (λ k g. h k (omega arith)),
+        spread (eqb (getD marks n 0) becauseWon) (rowYear rows n) (λ d. worthOf rows figures n (getD prices d 0) z) (h n (omega arith)),
+      )
 
 pub total-parts : (rows figures marks prices : List ℕ) (z m : ℕ) → Checked rows m → totalOf rows figures marks prices z m
     ≡ partOf rows figures marks (getD prices 0 0) 0 z m

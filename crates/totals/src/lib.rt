@@ -7,7 +7,7 @@ ghost use lib.ListN.{length};
 ghost use lib.Dec.{eqb};
 ghost use Rattle.rules.specs.Names.{becauseWon};
 ghost use Rattle.sheet.specs.Sheet.{inTest};
-ghost use Rattle.totals.specs.Totals.{Checked, Valued, Priced, Adding, dearest, worthOf, costOf, totalOf, partOf, filled, raised, rowFits, autoTotal};
+ghost use Rattle.totals.specs.Totals.{Checked, Valued, Priced, Adding, dearest, worthOf, totalOf, partOf, filled, raised, rowFits, autoTotal};
 
 // The mark of a bid that has won.
 pub const WON: u16 = 1;
@@ -21,39 +21,6 @@ pub fn worth(rows: &[u64], figures: &[u64], k: usize, price: u64, z: usize) -> u
     let reference = sheet::reference(figures, k, z);
     let energy = sheet::energy(figures, k, z);
     value::value(strike, reference, energy, sheet::share(figures, k, z))
-}
-
-// The same at the clearing price of the year in which the bid starts.
-fn cost(rows: &[u64], figures: &[u64], prices: [u64; 4], k: usize, z: usize) -> u64
-    requires { ⌜ Priced (now rows) (now figures) k z ⌝ }
-    ensures { λ r. ⌜ (r ≡ costOf (now (rows .entry)) (now (figures .entry)) prices z k) × (r ≤ dearest) ⌝ }
-{
-    let d = sheet::year(rows, k);
-    worth(rows, figures, k, prices[d], z)
-}
-
-// The total in year z of the bids that are marked as won, at a row of clearing prices.
-pub fn total(
-    rows: &[u64],
-    figures: &[u64],
-    marks: [u16; 320],
-    prices: [u64; 4],
-    m: usize,
-    y: usize,
-    z: usize,
-) -> u64
-    requires { ⌜ Valued (now rows) (now figures) m y × (z < y) ⌝ }
-    ensures { λ r. ⌜ (r ≡ totalOf (now (rows .entry)) (now (figures .entry)) marks prices z m) × (r ≤ dearest * m) ⌝ }
-{
-    let mut sum: u64 = 0;
-    let mut i: usize = 0;
-    while i < m {
-        if marks[i] == WON {
-            sum += cost(rows, figures, prices, i, z);
-        }
-        i += 1;
-    }
-    sum
 }
 
 // A row of totals, with the value of bid k at a price added in each of the first y years.
