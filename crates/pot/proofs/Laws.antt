@@ -15,7 +15,7 @@ use Rattle.totals.specs.Totals.{Checked}
 use Rattle.ties.specs.Ties.{basesOf, keepsOf, choiceOf}
 use Rattle.pot.specs.declared.PotState.{PotState}
 use Rattle.pot.specs.declared.Look.{Look}
-use Rattle.pot.specs.Marks.{liveOf, atOf, winOf, turnOf, winAll, turnAll, turnedOf, hungOf, shutOf, settledOf, widened, soleOf, followsOf, aloneOf, sharedOf, restOf, choiceIn, tieOf, Others, Looked, firstMark, noMarks, startedOf}
+use Rattle.pot.specs.Marks.{liveOf, atOf, winOf, turnOf, winAll, turnAll, turnedOf, hungOf, shutOf, settledOf, widened, soleOf, followsOf, aloneOf, sharedOf, restOf, choiceIn, tieOf, Others, Looked, firstMark, noMarks, startedOf, renewedTo}
 
 -- the bounds of a bid's application and year, at what the accessors return
 pub app-ok : {rows : List ℕ} {m : ℕ} (i : ℕ) {a : ℕ} → Checked rows m → i < m → a ≡ rowApp rows i → a < 64
@@ -36,11 +36,11 @@ module _ (rows : List ℕ) (s : PotState) (i : ℕ) {a d : ℕ} {b : Bool} (ea :
 
 -- ---- marks, at what the accessors return
 module _ (rows : List ℕ) (s : PotState) (p i : ℕ) {d : ℕ} (ed : d ≡ rowYear rows i) where
-  pub win-is : {a : ℕ} → a ≡ rowApp rows i → _≡_ {A = PotState} (record { reasons = set (s .reasons) i 1; won = set (s .won) a true; opened = s .opened; prices = set (s .prices) d p; hang = s .hang; wide = s .wide }) (winOf rows p i s)
+  pub win-is : {a : ℕ} → a ≡ rowApp rows i → _≡_ {A = PotState} (record { reasons = set (s .reasons) i 1; won = set (s .won) a true; opened = s .opened; prices = set (s .prices) d p; sums = s .sums; hang = s .hang; wide = s .wide }) (winOf rows p i s)
   unfolding winOf
   win-is ea = rw (ea, ed)
 
-  pub turn-is : _≡_ {A = PotState} (record { reasons = set (s .reasons) i p; won = s .won; opened = set (s .opened) d false; prices = s .prices; hang = s .hang; wide = s .wide }) (turnOf rows p i s)
+  pub turn-is : _≡_ {A = PotState} (record { reasons = set (s .reasons) i p; won = s .won; opened = set (s .opened) d false; prices = s .prices; sums = s .sums; hang = s .hang; wide = s .wide }) (turnOf rows p i s)
   unfolding turnOf
   turn-is = rw ed
 
@@ -121,9 +121,10 @@ module _ (rows figures budgets : List ℕ) (m y : ℕ) (l : List Bool) (p : ℕ)
   unfolding tieOf
   tie-wide h er = rw (← rest-is, ← ek, lt-ltb widestTie k h) er
 
-  pub tie-shared : {wins : List Bool} {r : PotState} → k ≤ widestTie → wins ≡ choiceOf rows figures base budgets rest k p m y → r ≡ sharedOf rows m l wins p s → r ≡ tieOf rows figures budgets m y l p s
+  pub tie-shared : {wins : List Bool} {t r : PotState} → k ≤ widestTie → wins ≡ choiceOf rows figures base budgets rest k p m y → t ≡ sharedOf rows m l wins p s → r ≡ renewedTo rows figures m y t 4
+      → r ≡ tieOf rows figures budgets m y l p s
   unfolding tieOf choiceIn
-  tie-shared h ew er = rw (← rest-is, ← ek, le-ltb widestTie k h, ← eb, ← ew) er
+  tie-shared h ew et er = rw (← rest-is, ← ek, le-ltb widestTie k h, ← eb, ← ew, ← et) er
 
 -- ---- the start
 pub first-yes : {q : ℕ} → q ≡ 1 → 0 ≡ firstMark q
@@ -135,6 +136,6 @@ unfolding firstMark
 first-no {q} h = rw (ne-eqb q 1 h)
 
 pub started-done : (rows : List ℕ) (m : ℕ) {l : List ℕ} {i : ℕ} → l ≡ fill noMarks (λ k. firstMark (rowStanding rows k)) i → i ≤ m → m ≤ i
-    → _≡_ {A = PotState} (record { reasons = l; won = replicate 64 false; opened = replicate 4 true; prices = replicate 4 noPrice; hang = 4; wide = false }) (startedOf rows m)
+    → _≡_ {A = PotState} (record { reasons = l; won = replicate 64 false; opened = replicate 4 true; prices = replicate 4 noPrice; sums = replicate 32 0; hang = 4; wide = false }) (startedOf rows m)
 unfolding startedOf
 started-done rows m e h g = rw (e, le-antisymm h g)

@@ -1,6 +1,7 @@
 pub mod Laws
 pub mod Arrays
 pub mod Seen
+pub mod Sums
 pub mod Link
 pub mod Looks
 pub mod Ties

@@ -16,7 +16,7 @@ use Rattle.laws.specs.Mono.{Lawful}
 use Rattle.sets.specs.Sets.{built, members}
 use Rattle.sets.proofs.Arrays.{eqb-sym, put-is, members-built}
 use Rattle.sheet.specs.Sheet.{potIn, Ready, inAuction, sheetCost, rowApp, rowYear, rowPrice}
-use Rattle.totals.specs.Totals.{totalOf, filled, rowFits}
+use Rattle.totals.specs.Totals.{totalOf, filled, fitsTo}
 use Rattle.totals.proofs.Link as link
 use Rattle.totals.proofs.Link.{Marked}
 use Rattle.ties.proofs.Sums.{price-won, Part, part-all, part-sift}
@@ -185,9 +185,8 @@ module _ (rows figures budgets : List ℕ) (b m y : ℕ) (ok : Ready rows figure
     pub row-at : (z : ℕ) → z < y → getD (filled (λ x. totalOf rows figures (s .reasons) (s .prices) x m) y) z 0 ≡ total P ws z
     row-at z h = link.row-at rows figures budgets b m y ok (λ x. totalOf rows figures (s .reasons) (s .prices) x m) z h ∙ total-is z h
 
-    pub fits-is : rowFits (filled (λ z. totalOf rows figures (s .reasons) (s .prices) z m) y) budgets y ≡ fits P ws
-    fits-is =
-        link.fits-is rows figures budgets b m y ok (λ z. getD (filled (λ x. totalOf rows figures (s .reasons) (s .prices) x m) y) z 0) (total P ws) y (omega arith) row-at ∙ opened
+    pub fits-is : (f : ℕ → ℕ) → ((z : ℕ) → z < y → f z ≡ totalOf rows figures (s .reasons) (s .prices) z m) → fitsTo f budgets y ≡ fits P ws
+    fits-is f e = link.fits-is rows figures budgets b m y ok f (total P ws) y (omega arith) (λ z h. e z h ∙ total-is z h) ∙ opened
       where
         opened : within P (total P ws) y ≡ fits P ws
         opened = unfold potIn in refl

@@ -16,7 +16,7 @@ use Rattle.laws.specs.Runs.{won-seen}
 use Rattle.sets.specs.Sets.{members, headOr}
 use Rattle.sets.proofs.Arrays.{put-is}
 use Rattle.sheet.specs.Sheet.{potIn, Ready, rowApp, rowYear, rowPrice}
-use Rattle.totals.specs.Totals.{totalOf, filled, rowFits}
+use Rattle.totals.specs.Totals.{totalOf, fitsTo}
 use Rattle.pot.specs.declared.PotState.{PotState}
 use Rattle.pot.specs.Marks.{lowestOf, winAll, turnedOf, hungOf, shutOf, settledOf, takenOf, soleOf, followsOf, aloneOf}
 use Rattle.pot.specs.Rep.{hangs, Sizes, Rep}
@@ -66,7 +66,7 @@ module _ (rows figures budgets : List ℕ) (b m y : ℕ) (ok : Ready rows figure
     su : Sizes u
     su = win-sizes rows p s (R .sizes) l
 
-    pub trial-fits : rowFits (filled (λ z. totalOf rows figures (u .reasons) (u .prices) z m) y) budgets y ≡ fits P (l ++ winners t)
+    pub trial-fits : (f : ℕ → ℕ) → ((z : ℕ) → z < y → f z ≡ totalOf rows figures (u .reasons) (u .prices) z m) → fitsTo f budgets y ≡ fits P (l ++ winners t)
     trial-fits = link.fits-is rows figures budgets b m y ok (l ++ winners t) u
         (link.holds-win rows figures budgets b m y ok (winners t) s (R .sizes) p l (λ i j. let z = sound i j in (z .0, z .2, z .3)) (holds-rep R))
 

@@ -1,19 +1,20 @@
 -- One pass over the bids that entered the auction sees the live bids of the lowest live price. Assumes nothing.
 use Prim.Native.Nat.{ℕ, zero, suc, _+_, min, _≤_, _<_}
 use mathlib.Core.Path.{_≡_, refl, sym, ap, _∙_}
-use mathlib.Core.Bool.{Bool, true, false, _&&_}
+use mathlib.Core.Bool.{Bool, true, false, not, _&&_}
 use mathlib.Core.List.{List, [], _∷_}
 use native.Mathlib.Omega.{arith}
 use native.Mathlib.Nat.{le-antisymm}
 use native.Mathlib.Numerals.{add-one}
 use lib.ListN.{length, getD, set, length-set}
 use lib.Dec.{eqb, ltb}
-use borrow.Author.Tests.{eq-eqb, ne-eqb, lt-ltb, le-ltb, ltb-true, ltb-false}
+use borrow.Author.Tests.{eqb-true, eq-eqb, ne-eqb, lt-ltb, le-ltb, ltb-true, ltb-false}
+use Rattle.rules.specs.Names.{noReason, becauseWon}
 use Rattle.rules.specs.Lists.{sift, below}
-use Rattle.laws.specs.Lists.{case, In, here, there, sift-in, sift-same, sift-both, sift-le, below-in}
+use Rattle.laws.specs.Lists.{case, and-true, In, here, there, sift-in, sift-same, sift-both, sift-le, below-in}
 use Rattle.sets.specs.Sets.{members, headOr}
 use Rattle.sets.proofs.Arrays.{put-is, members-built}
-use Rattle.sheet.specs.Sheet.{rowStanding, rowPrice, inAuction}
+use Rattle.sheet.specs.Sheet.{rowStanding, rowApp, rowYear, rowPrice, inAuction}
 use Rattle.ties.specs.Ties.{listed}
 use Rattle.ties.proofs.Lists.{listed-length, in-listed}
 use Rattle.totals.specs.Totals.{Checked}
@@ -139,19 +140,27 @@ module _ (rows : List ℕ) (m : ℕ) (s : PotState) (ck : Checked rows m) where
   pub pass-looked : {list : List ℕ} {c j : ℕ} {l : Look} → Listed rows m list c → Others rows m s → l ≡ lookOf rows (sift (liveOf rows s) (listed list j)) → j ≤ c → c ≤ j → Looked rows m s l
   pass-looked L o e h g = rw (e, le-antisymm h g, L .bids, live-listed o) look-all
 
--- a sole bid is one of the sheet's
-pub sole-small : {rows : List ℕ} {m : ℕ} {s : PotState} {l : Look} → Looked rows m s l → l .count ≡ 1 → l .last < m
-sole-small {rows} {m} {s} {l} K h = rw (K .last) (go (members (takenOf rows m s) m) (λ k i. small k i) (sym (K .count) ∙ h))
-  where
-    go : (a : List ℕ) → ((k : ℕ) → In k a → k < m) → length a ≡ 1 → headOr 0 a < m
-    go [] g e = absurd (let z : ⊥ = omega arith in z)
-    go (x ∷ a) g e = g x (here refl)
+-- a sole bid is one of the sheet's, and is live
+head-in : (a : List ℕ) → length a ≡ 1 → In (headOr 0 a) a
+head-in [] e = absurd (let z : ⊥ = omega arith in z)
+head-in (x ∷ a) e = here refl
 
-    small : (k : ℕ) → In k (members (takenOf rows m s) m) → k < m
-    small k i = below-in k m (sift-in k (λ i. getD (takenOf rows m s) i false) (below m) (opened i) .0)
-      where
-        opened : In k (members (takenOf rows m s) m) → In k (sift (λ i. getD (takenOf rows m s) i false) (below m))
-        opened i = unfold members in i
+sole-in : {rows : List ℕ} {m : ℕ} {s : PotState} {l : Look} → Looked rows m s l → l .count ≡ 1 → In (l .last) (members (takenOf rows m s) m)
+sole-in {rows} {m} {s} K h = rw (K .last) (head-in (members (takenOf rows m s) m) (sym (K .count) ∙ h))
+
+module _ {rows : List ℕ} {m : ℕ} {s : PotState} {l : Look} (ck : Checked rows m) (K : Looked rows m s l) (h : l .count ≡ 1) where
+  held : In (l .last) (below m) × (liveOf rows s (l .last) ≡ true)
+  held = sift-in (l .last) (liveOf rows s) (below m)
+      (sift-in (l .last) (λ i. eqb (rowPrice rows i) (leastOr rows (sift (liveOf rows s) (below m)))) (sift (liveOf rows s) (below m)) (rw (taken-list rows m s ck) at (sole-in K h)) .0)
+
+  pub sole-small : l .last < m
+  sole-small = below-in (l .last) m (held .0)
+
+  pub sole-fresh : eqb (getD (s .reasons) (l .last) 0) becauseWon ≡ false
+  sole-fresh = rw (eqb-true (getD (s .reasons) (l .last) 0) noReason (and-true (eqb (getD (s .reasons) (l .last) 0) noReason) _ (opened (held .1)) .0)) refl
+    where
+      opened : liveOf rows s (l .last) ≡ true → (eqb (getD (s .reasons) (l .last) 0) noReason && (not (getD (s .won) (rowApp rows (l .last)) false) && getD (s .opened) (rowYear rows (l .last)) false)) ≡ true
+      opened e = unfold liveOf in e
 
 -- ---- the list of the bids that entered
 listed-set : (a : List ℕ) (k j v : ℕ) → k ≤ j → j < length a → listed (set a j v) k ≡ listed a k

@@ -9,13 +9,15 @@ use Rattle.rules.specs.Pot.{Pot, Trace, winners, wideEnd, taken, fits, down, fo
 use Rattle.laws.specs.Lists.{case, In, here, in-none}
 use Rattle.sets.specs.Sets.{built, members, headOr}
 use Rattle.sheet.specs.Sheet.{potIn, Ready}
-use Rattle.totals.specs.Totals.{totalOf, filled, rowFits}
+use Rattle.totals.specs.Totals.{totalOf, fitsTo}
+use Rattle.totals.proofs.Link.{checked}
 use Rattle.pot.specs.declared.PotState.{PotState}
 use Rattle.pot.specs.declared.Look.{Look}
-use Rattle.pot.specs.Marks.{lowestOf, atOf, winOf, winAll, Looked, settledOf, takenOf, aloneOf, tieOf}
+use Rattle.pot.specs.Marks.{lowestOf, atOf, winOf, winAll, Looked, settledOf, takenOf, aloneOf, tieOf, yearSum, withSums, renewedOf, renewedTo, Summed}
 use Rattle.pot.specs.Rep.{Rep, Stepped}
 use Rattle.pot.proofs.Looks as looks
 use Rattle.pot.proofs.Ties as ties
+use Rattle.pot.proofs.Sums.{renewed-sums, sum-total, stands-sums, settled-sums}
 
 -- the sealed bids are of the first test alone
 pub ready-at : {rows figures budgets : List ℕ} {c m y : ℕ} (b : ℕ) → b ≤ m → Ready rows figures budgets c m y → Ready rows figures budgets b m y
@@ -60,20 +62,25 @@ module _ {rows : List ℕ} {m : ℕ} {s : PotState} {l : Look} (K : Looked rows 
   pub one-taken : members (takenOf rows m s) m ≡ l .last ∷ []
   one-taken = only (members (takenOf rows m s) m) (K .count) h (K .last)
 
-  pub one-tried : {v : PotState} → v ≡ winOf rows (l .price) (l .last) s → v ≡ winAll rows (l .price) s (members (takenOf rows m s) m)
-  unfolding winAll
-  one-tried e = rw one-taken e
+  pub one-tried : (figures : List ℕ) (y d : ℕ) {u v : PotState} → u ≡ winOf rows (l .price) (l .last) s → v ≡ renewedOf rows figures m y d u
+      → v ≡ withSums ((renewedOf rows figures m y d (winOf rows (l .price) (l .last) s)) .sums) (winAll rows (l .price) s (members (takenOf rows m s) m))
+  one-tried figures y d eu ev = rw (ev, eu, one-taken) opened
+    where
+      opened : renewedOf rows figures m y d (winOf rows (l .price) (l .last) s) ≡ withSums ((renewedOf rows figures m y d (winOf rows (l .price) (l .last) s)) .sums) (winAll rows (l .price) s (l .last ∷ []))
+      opened = unfold winAll renewedOf withSums in refl
 
 -- the live bids at the lowest live price are those taken
 pub taken-is : (rows : List ℕ) (m : ℕ) {p : ℕ} (s : PotState) {a : List Bool} → p ≡ lowestOf rows s m → a ≡ built (atOf rows s p) m → a ≡ takenOf rows m s
 unfolding takenOf
 taken-is rows m s ep ea = rw (ea, ep)
 
-pub many-tried : (rows : List ℕ) (m p : ℕ) (s : PotState) {v : PotState} {a : List Bool} → a ≡ takenOf rows m s → v ≡ winAll rows p s (members a m) → v ≡ winAll rows p s (members (takenOf rows m s) m)
-many-tried rows m p s ea ev = rw (← ea) ev
+pub many-tried : (rows figures : List ℕ) (m y p : ℕ) (s : PotState) {u v : PotState} {a : List Bool} → a ≡ takenOf rows m s → u ≡ winAll rows p s (members a m) → v ≡ renewedTo rows figures m y u 4
+    → v ≡ withSums ((renewedTo rows figures m y (winAll rows p s (members (takenOf rows m s) m)) 4) .sums) (winAll rows p s (members (takenOf rows m s) m))
+many-tried rows figures m y p s ea eu ev = rw (ev, eu, ea) (renewed-sums rows figures m y (winAll rows p s (members (takenOf rows m s) m)) 4)
 
 -- ---- a step
-module _ (rows figures budgets : List ℕ) (m y : ℕ) (ok : Ready rows figures budgets 0 m y) (s : PotState) {p : ℕ} {v : PotState} {row : List ℕ} {f : Bool} (ep : p ≡ lowestOf rows s m) (ev : v ≡ winAll rows p s (members (takenOf rows m s) m)) (er : row ≡ filled (λ z. totalOf rows figures (v .reasons) (v .prices) z m) y) (ef : f ≡ rowFits row budgets y) where
+module _ (rows figures budgets : List ℕ) (m y : ℕ) (ok : Ready rows figures budgets 0 m y) (s : PotState) {p : ℕ} (k : List ℕ) {v : PotState} {f : Bool} (ep : p ≡ lowestOf rows s m)
+    (ev : v ≡ withSums k (winAll rows p s (members (takenOf rows m s) m))) (Sv : Summed rows figures m y v) (ef : f ≡ fitsTo (yearSum (v .sums)) budgets y) where
   module _ (b : ℕ) (h : b ≤ m) (t : Trace) where
     abbrev P : Pot
     P = potIn rows figures budgets b m y
@@ -84,23 +91,24 @@ module _ (rows figures budgets : List ℕ) (m y : ℕ) (ok : Ready rows figures 
     of-set : Rep P t s → members (takenOf rows m s) m ≡ taken P t
     of-set R = looks.of-set rows figures budgets b m y ok-b t s R
 
-    tried : Rep P t s → v ≡ winAll rows (lowestOf rows s m) s (taken P t)
-    tried R = ev ∙ ap (winAll rows p s) (of-set R) ∙ ap (λ (x : ℕ). winAll rows x s (taken P t)) ep
+    tried : Rep P t s → v ≡ withSums k (winAll rows (lowestOf rows s m) s (taken P t))
+    tried R = ev ∙ ap (λ (l : List ℕ). withSums k (winAll rows p s l)) (of-set R) ∙ ap (λ (x : ℕ). withSums k (winAll rows x s (taken P t))) ep
 
     fits-is : Rep P t s → f ≡ fits P (taken P t ++ winners t)
+    unfolding withSums
     fits-is R =
-        ef ∙ ap (λ (x : List ℕ). rowFits x budgets y) (er ∙ ap (λ (u : PotState). filled (λ z. totalOf rows figures (u .reasons) (u .prices) z m) y) (tried R))
-        ∙ looks.trial-fits rows figures budgets b m y ok-b t s R
+        ef ∙ looks.trial-fits rows figures budgets b m y ok-b t s R (yearSum (v .sums))
+        (λ z h. sum-total Sv z h (checked rows figures budgets 0 m y ok) ∙ ap (λ (u : PotState). totalOf rows figures (u .reasons) (u .prices) z m) (tried R))
 
   -- all that were taken fit
   pub step-fits : {r : PotState} → f ≡ true → r ≡ settledOf v → (b : ℕ) → b ≤ m → Stepped (potIn rows figures budgets b m y) s r
   unfolding look wideEnd
   step-fits g e b h t x S n i =
       let R = S .rep n in
-      rw (sym (fits-is b h t R) ∙ g, e, tried b h t R) (record {
+      rw (sym (fits-is b h t R) ∙ g, e, tried b h t R, settled-sums k (winAll rows (lowestOf rows s m) s (taken (potIn rows figures budgets b m y) t))) (stands-sums k (record {
         wide = looks.won-wide rows figures budgets b m y (ready-at b h ok) t s R ∙ S .wide ∙ n;
         rep = λ q. looks.won-rep rows figures budgets b m y (ready-at b h ok) t s R;
-      })
+      }))
 
   module _ (g : f ≡ false) where
     look-lost : (b : ℕ) (h : b ≤ m) (t : Trace) → Rep (potIn rows figures budgets b m y) t s → look (potIn rows figures budgets b m y) t (taken (potIn rows figures budgets b m y) t) ≡ lost (potIn rows figures budgets b m y) t (taken (potIn rows figures budgets b m y) t)

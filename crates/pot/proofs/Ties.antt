@@ -1,6 +1,6 @@
 -- Several bids taken that do not fit together: the arrays follow the trace. Assumes nothing.
 use Prim.Native.Nat.{ℕ, _≤_, _<_}
-use mathlib.Core.Path.{_≡_, refl, sym, ap, _∙_}
+use mathlib.Core.Path.{_≡_, refl, sym, ap, _∙_, subst}
 use mathlib.Core.Bool.{Bool, true, false, not, _&&_}
 use mathlib.Core.List.{List, _∷_, map}
 use lib.ListN.{length, getD}
@@ -23,6 +23,7 @@ use Rattle.pot.proofs.Link as link
 use Rattle.pot.proofs.Link.{Did, rep-did, holds-rep}
 use Rattle.pot.proofs.Looks as looks
 use Rattle.pot.proofs.Looks.{not-won}
+use Rattle.pot.proofs.Sums.{renewed-sums, stands-sums}
 
 module _ (rows figures budgets : List ℕ) (b m y : ℕ) (ok : Ready rows figures budgets b m y) where
   abbrev P : Pot
@@ -166,4 +167,5 @@ module _ (rows figures budgets : List ℕ) (b m y : ℕ) (ok : Ready rows figure
         rw (← (ap length of-rest))
         (case (ltb widestTie k)
         (λ e. rw e (record { wide = refl; rep = λ f. clash refl f }))
-        (λ e. rw e (record { wide = shared-wide (ltb-false widestTie k e) ∙ n; rep = λ f. shared-rep (ltb-false widestTie k e) })))
+        (λ e. rw e (subst (Stands P (shared P t l ∷ t)) (sym (renewed-sums rows figures m y (sharedOf rows m a (choiceIn rows figures budgets m y a p s) p s) 4))
+        (stands-sums _ (record { wide = shared-wide (ltb-false widestTie k e) ∙ n; rep = λ f. shared-rep (ltb-false widestTie k e) })))))

@@ -1,15 +1,16 @@
 -- What the functions over a pot's arrays compute, as functions of the arrays. No rule of document 01 is stated here: crate rules has the rules, and
 -- specs/Rep.antt says what the arrays stand for. Assumes nothing.
-use Prim.Native.Nat.{ℕ, _+_, min, _<_, _≤_}
+use Prim.Native.Nat.{ℕ, zero, suc, _+_, _*_, min, _<_, _≤_}
 use mathlib.Core.Path.{_≡_}
 use mathlib.Core.Bool.{Bool, true, false, not, _&&_}
 use mathlib.Core.List.{List, [], _∷_}
 use lib.ListN.{getD, set, replicate, length}
 use lib.Dec.{eqb, ltb}
-use Rattle.rules.specs.Names.{noPrice, noReason, becauseWon, downAlone, downTied, widestTie}
+use Rattle.rules.specs.Names.{mostBids, mostApps, noPrice, noReason, becauseWon, downAlone, downTied, widestTie}
 use Rattle.rules.specs.Lists.{pick, sift, below}
 use Rattle.sets.specs.Sets.{fill, built, members, headOr, without}
 use Rattle.sheet.specs.Sheet.{rowStanding, rowApp, rowYear, rowPrice, inAuction, entered}
+use Rattle.totals.specs.Totals.{dearest, partOf, filled}
 use Rattle.ties.specs.Ties.{listed, basesOf, keepsOf, choiceOf}
 use Rattle.pot.specs.declared.PotState.{PotState}
 use Rattle.pot.specs.declared.Look.{Look}
@@ -39,10 +40,10 @@ atOf rows s p i = liveOf rows s i && eqb (rowPrice rows i) p
 
 -- a bid wins at price p; a bid is turned down for a reason, and its year closes
 unfoldable pub winOf : (rows : List ℕ) (p i : ℕ) → PotState → PotState
-winOf rows p i s = record { reasons = set (s .reasons) i becauseWon; won = set (s .won) (rowApp rows i) true; opened = s .opened; prices = set (s .prices) (rowYear rows i) p; hang = s .hang; wide = s .wide }
+winOf rows p i s = record { reasons = set (s .reasons) i becauseWon; won = set (s .won) (rowApp rows i) true; opened = s .opened; prices = set (s .prices) (rowYear rows i) p; sums = s .sums; hang = s .hang; wide = s .wide }
 
 unfoldable pub turnOf : (rows : List ℕ) (v i : ℕ) → PotState → PotState
-turnOf rows v i s = record { reasons = set (s .reasons) i v; won = s .won; opened = set (s .opened) (rowYear rows i) false; prices = s .prices; hang = s .hang; wide = s .wide }
+turnOf rows v i s = record { reasons = set (s .reasons) i v; won = s .won; opened = set (s .opened) (rowYear rows i) false; prices = s .prices; sums = s .sums; hang = s .hang; wide = s .wide }
 
 unfoldable pub winAll : (rows : List ℕ) (p : ℕ) → PotState → List ℕ → PotState
 winAll rows p s [] = s
@@ -54,19 +55,19 @@ turnAll rows v s (i ∷ l) = turnOf rows v i (turnAll rows v s l)
 
 -- a bid is turned down alone; the year d hangs; the year d closes; the year that hangs closes; a tie was too wide
 unfoldable pub turnedOf : ℕ → PotState → PotState
-turnedOf i s = record { reasons = set (s .reasons) i downAlone; won = s .won; opened = s .opened; prices = s .prices; hang = noYear; wide = s .wide }
+turnedOf i s = record { reasons = set (s .reasons) i downAlone; won = s .won; opened = s .opened; prices = s .prices; sums = s .sums; hang = noYear; wide = s .wide }
 
 unfoldable pub hungOf : ℕ → PotState → PotState
-hungOf d s = record { reasons = s .reasons; won = s .won; opened = s .opened; prices = s .prices; hang = d; wide = s .wide }
+hungOf d s = record { reasons = s .reasons; won = s .won; opened = s .opened; prices = s .prices; sums = s .sums; hang = d; wide = s .wide }
 
 unfoldable pub shutOf : ℕ → PotState → PotState
-shutOf d s = record { reasons = s .reasons; won = s .won; opened = set (s .opened) d false; prices = s .prices; hang = noYear; wide = s .wide }
+shutOf d s = record { reasons = s .reasons; won = s .won; opened = set (s .opened) d false; prices = s .prices; sums = s .sums; hang = noYear; wide = s .wide }
 
 unfoldable pub settledOf : PotState → PotState
 settledOf s = pick (ltb (s .hang) noYear) (shutOf (s .hang) s) (hungOf noYear s)
 
 unfoldable pub widened : PotState → PotState
-widened s = record { reasons = s .reasons; won = s .won; opened = s .opened; prices = s .prices; hang = s .hang; wide = true }
+widened s = record { reasons = s .reasons; won = s .won; opened = s .opened; prices = s .prices; sums = s .sums; hang = s .hang; wide = true }
 
 -- the live bids at the lowest live price, as a set
 unfoldable pub takenOf : (rows : List ℕ) (m : ℕ) → PotState → List Bool
@@ -112,6 +113,37 @@ aloneOf rows m i s = pick (followsOf rows m i (turnedOf i s)) (hungOf (rowYear r
 unfoldable pub sharedOf : (rows : List ℕ) (m : ℕ) (l wins : List Bool) (p : ℕ) → PotState → PotState
 sharedOf rows m l wins p s = hungOf noYear (turnAll rows downTied (winAll rows p s (members wins m)) (members (built (without l wins) m) m))
 
+-- ---- the sums by delivery year
+
+-- sums with the first n numbers of a row written as those of year d
+unfoldable pub placed : (sums : List ℕ) (d : ℕ) (row : List ℕ) → ℕ → List ℕ
+placed sums d row zero = sums
+placed sums d row (suc z) = set (placed sums d row z) (d * 8 + z) (getD row z 0)
+
+-- what the winners of the four delivery years cost in year z, and the most that this can be
+unfoldable pub yearSum : List ℕ → ℕ → ℕ
+yearSum l z = getD l z 0 + (getD l (8 + z) 0 + (getD l (16 + z) 0 + getD l (24 + z) 0))
+
+abbrev pub mostSum : ℕ
+mostSum = 4 * (dearest * (mostBids + mostApps))
+
+-- other sums, and all else as it was
+unfoldable pub withSums : List ℕ → PotState → PotState
+withSums l s = record { reasons = s .reasons; won = s .won; opened = s .opened; prices = s .prices; sums = l; hang = s .hang; wide = s .wide }
+
+-- the winners that start in year d are revalued; and in each year below n
+unfoldable pub renewedOf : (rows figures : List ℕ) (m y d : ℕ) → PotState → PotState
+renewedOf rows figures m y d s = withSums (placed (s .sums) d (filled (λ z. partOf rows figures (s .reasons) (getD (s .prices) d 0) d z m) y) y) s
+
+unfoldable pub renewedTo : (rows figures : List ℕ) (m y : ℕ) → PotState → ℕ → PotState
+renewedTo rows figures m y s zero = s
+renewedTo rows figures m y s (suc d) = renewedOf rows figures m y d (renewedTo rows figures m y s d)
+
+-- the sums are those of the winners
+pub record Summed (rows figures : List ℕ) (m y : ℕ) (s : PotState) : Type 0 where
+  pub size : length (s .sums) ≡ 32
+  pub part : (d z : ℕ) → d < 4 → z < y → getD (s .sums) (d * 8 + z) 0 ≡ partOf rows figures (s .reasons) (getD (s .prices) d 0) d z m
+
 -- several do not fit: those that remain, and what becomes of them
 unfoldable pub restOf : (rows figures budgets : List ℕ) (m y : ℕ) (l : List Bool) (p : ℕ) → PotState → List Bool
 restOf rows figures budgets m y l p s = built (keepsOf rows figures (basesOf rows figures (s .reasons) (s .prices) p m y) budgets p y l) m
@@ -122,7 +154,7 @@ choiceIn rows figures budgets m y l p s =
 
 unfoldable pub tieOf : (rows figures budgets : List ℕ) (m y : ℕ) (l : List Bool) (p : ℕ) → PotState → PotState
 tieOf rows figures budgets m y l p s =
-    pick (ltb widestTie (length (members (restOf rows figures budgets m y l p s) m))) (widened s) (sharedOf rows m l (choiceIn rows figures budgets m y l p s) p s)
+    pick (ltb widestTie (length (members (restOf rows figures budgets m y l p s) m))) (widened s) (renewedTo rows figures m y (sharedOf rows m l (choiceIn rows figures budgets m y l p s) p s) 4)
 
 -- ---- no bid has been looked at
 
@@ -139,6 +171,7 @@ startedOf rows n = record {
   won = replicate 64 false;
   opened = replicate 4 true;
   prices = replicate 4 noPrice;
+  sums = replicate 32 0;
   hang = noYear;
   wide = false;
 }

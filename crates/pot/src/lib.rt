@@ -9,8 +9,8 @@ ghost use lib.ListN.{length};
 ghost use Rattle.rules.specs.Pot.{auction};
 ghost use Rattle.sets.specs.Sets.{built, members};
 ghost use Rattle.sheet.specs.Sheet.{potIn, Ready};
-ghost use Rattle.totals.specs.Totals.{Checked, Valued, totalOf, filled};
-ghost use Rattle.pot.specs.Marks.{lowestOf, takenOf, joinedOf, Listed, Others, Looked, atOf, firstMark, winOf, turnOf, winAll, turnAll, turnedOf, hungOf, shutOf, settledOf, widened, followsOf, aloneOf, sharedOf, tieOf, startedOf};
+ghost use Rattle.totals.specs.Totals.{Checked, Valued, fitsTo};
+ghost use Rattle.pot.specs.Marks.{lowestOf, takenOf, joinedOf, Listed, Others, Looked, atOf, firstMark, winOf, turnOf, winAll, turnAll, turnedOf, hungOf, shutOf, settledOf, widened, followsOf, aloneOf, sharedOf, tieOf, startedOf, placed, yearSum, mostSum, renewedOf, renewedTo, Summed};
 ghost use Rattle.pot.specs.Rep.{Stands, Stepped};
 
 // The marks of a bid: not looked at, won, turned down alone, turned down in a tie, not of this auction.
@@ -24,6 +24,11 @@ pub const TIED: u16 = 3;
 
 pub const OTHER: u16 = 9;
 
+// Delivery years of a round, and years to a row of totals.
+const DELIVERIES: usize = 4;
+
+const YEARS: usize = 8;
+
 // No year hangs.
 const NO_YEAR: usize = 4;
 
@@ -33,6 +38,8 @@ pub struct PotState {
     pub won: [bool; 64],
     pub opened: [bool; 4],
     pub prices: [u64; 4],
+    // a row of years for each delivery year: what the winners that start there cost at its clearing price
+    pub sums: [u64; 32],
     // the year left open though a bid was turned down there, 4 where none is
     pub hang: usize,
     // a tie was too wide
@@ -93,6 +100,36 @@ fn joined(l: Look, price: u64, i: usize) -> Look
         count,
         last: i,
     }
+}
+
+// Sums with a row written as that of delivery year d.
+fn with_row(sums: [u64; 32], row: [u64; 8], y: usize, d: usize) -> [u64; 32]
+    requires { ⌜ (y ≤ 8) × (d < 4) ⌝ }
+    ensures { λ r. ⌜ r ≡ placed sums d row y ⌝ }
+{
+    let mut out = sums;
+    let mut z: usize = 0;
+    while z < y {
+        out[d * YEARS + z] = row[z];
+        z += 1;
+    }
+    out
+}
+
+// Do the delivery years together fit the budgets? Equal fits.
+fn sums_fit(sums: [u64; 32], budgets: &[u64], y: usize) -> bool
+    requires { ⌜ (y ≤ 8) × (y ≤ length (now budgets)) × ((z : ℕ) → z < y → yearSum sums z ≤ mostSum) ⌝ }
+    ensures { λ r. ⌜ r ≡ fitsTo (yearSum sums) (now (budgets .entry)) y ⌝ }
+{
+    let mut z: usize = 0;
+    while z < y {
+        let sum = sums[z] + sums[YEARS + z] + sums[2 * YEARS + z] + sums[3 * YEARS + z];
+        if sum > budgets[z] {
+            return false;
+        }
+        z += 1;
+    }
+    true
 }
 
 impl PotState {
@@ -179,14 +216,31 @@ impl PotState {
         t
     }
 
-    // Every winner revalued: the row of year totals.
-    pub fn revalued(self, rows: &[u64], figures: &[u64], m: usize, y: usize) -> [u64; 8]
-        requires { ⌜ Valued (now rows) (now figures) m y ⌝ }
-        ensures { λ r. ⌜ r ≡ filled (λ z. totalOf (now (rows .entry)) (now (figures .entry)) (self .reasons) (self .prices) z m) y ⌝ }
+    // The winners that start in year d are revalued at its clearing price.
+    fn renewed(mut self, rows: &[u64], figures: &[u64], m: usize, y: usize, d: usize) -> PotState
+        requires { ⌜ Valued (now rows) (now figures) m y × (d < 4) ⌝ }
+        ensures { λ r. ⌜ r ≡ renewedOf (now (rows .entry)) (now (figures .entry)) m y d self ⌝ }
     {
         let marks = self.reasons;
-        let prices = self.prices;
-        totals::revalued(rows, figures, marks, prices, m, y)
+        let price = self.prices[d];
+        let row = totals::part(rows, figures, marks, price, m, y, d);
+        let sums = self.sums;
+        self.sums = with_row(sums, row, y, d);
+        self
+    }
+
+    // Every winner is revalued.
+    fn all_renewed(self, rows: &[u64], figures: &[u64], m: usize, y: usize) -> PotState
+        requires { ⌜ Valued (now rows) (now figures) m y ⌝ }
+        ensures { λ r. ⌜ r ≡ renewedTo (now (rows .entry)) (now (figures .entry)) m y self 4 ⌝ }
+    {
+        let mut t = self;
+        let mut d: usize = 0;
+        while d < DELIVERIES {
+            t = t.renewed(rows, figures, m, y, d);
+            d += 1;
+        }
+        t
     }
 
     // The bids of a set are turned down for a reason, and their years close.
@@ -314,7 +368,8 @@ impl PotState {
             return self.too_wide();
         }
         let wins = ties::choose(rows, figures, &base, budgets, rest, k, p, m, y);
-        self.shared(rows, m, set, wins, p)
+        let t = self.shared(rows, m, set, wins, p);
+        t.all_renewed(rows, figures, m, y)
     }
 
     // One live bid alone has the lowest live price: is it won, or turned down?
@@ -329,13 +384,16 @@ impl PotState {
         c: usize,
         l: Look,
     ) -> PotState
-        requires { ⌜ Ready (now rows) (now figures) (now budgets) 0 m y × Listed (now rows) m (now list) c × Others (now rows) m self × Looked (now rows) m self l × (l .count ≡ 1) ⌝ }
-        ensures { λ r. ⌜ ((b : ℕ) → b ≤ m → Stepped (potIn (now (rows .entry)) (now (figures .entry)) (now (budgets .entry)) b m y) self r) ⌝ }
+        requires { ⌜ Ready (now rows) (now figures) (now budgets) 0 m y × Listed (now rows) m (now list) c × Others (now rows) m self × Looked (now rows) m self l × Summed (now rows) (now figures) m y self × (l .count ≡ 1) ⌝ }
+        ensures { λ r. ⌜ ((b : ℕ) → b ≤ m → Stepped (potIn (now (rows .entry)) (now (figures .entry)) (now (budgets .entry)) b m y) self r) × Summed (now (rows .entry)) (now (figures .entry)) m y r ⌝ }
     {
         let i = l.last;
         let p = l.price;
-        let t = self.win(rows, m, i, p);
-        if totals::within(t.revalued(rows, figures, m, y), budgets, y) {
+        let d = sheet::year(rows, i);
+        let u = self.win(rows, m, i, p);
+        let t = u.renewed(rows, figures, m, y, d);
+        let sums = t.sums;
+        if sums_fit(sums, budgets, y) {
             return t.settled();
         }
         self.alone(rows, list, m, c, i)
@@ -351,12 +409,14 @@ impl PotState {
         y: usize,
         p: u64,
     ) -> PotState
-        requires { ⌜ Ready (now rows) (now figures) (now budgets) 0 m y × (p ≡ lowestOf (now rows) self m) × (length (members (takenOf (now rows) m self) m) ≡ 1 → ⊥) ⌝ }
-        ensures { λ r. ⌜ ((b : ℕ) → b ≤ m → Stepped (potIn (now (rows .entry)) (now (figures .entry)) (now (budgets .entry)) b m y) self r) ⌝ }
+        requires { ⌜ Ready (now rows) (now figures) (now budgets) 0 m y × Summed (now rows) (now figures) m y self × (p ≡ lowestOf (now rows) self m) × (length (members (takenOf (now rows) m self) m) ≡ 1 → ⊥) ⌝ }
+        ensures { λ r. ⌜ ((b : ℕ) → b ≤ m → Stepped (potIn (now (rows .entry)) (now (figures .entry)) (now (budgets .entry)) b m y) self r) × Summed (now (rows .entry)) (now (figures .entry)) m y r ⌝ }
     {
         let set = self.taken(rows, m, p);
-        let t = self.trial(rows, m, set, p);
-        if totals::within(t.revalued(rows, figures, m, y), budgets, y) {
+        let u = self.trial(rows, m, set, p);
+        let t = u.all_renewed(rows, figures, m, y);
+        let sums = t.sums;
+        if sums_fit(sums, budgets, y) {
             return t.settled();
         }
         self.tie(rows, figures, budgets, m, y, set, p)
@@ -374,8 +434,8 @@ impl PotState {
         c: usize,
         l: Look,
     ) -> PotState
-        requires { ⌜ Ready (now rows) (now figures) (now budgets) 0 m y × Listed (now rows) m (now list) c × Others (now rows) m self × Looked (now rows) m self l ⌝ }
-        ensures { λ r. ⌜ ((b : ℕ) → b ≤ m → Stepped (potIn (now (rows .entry)) (now (figures .entry)) (now (budgets .entry)) b m y) self r) ⌝ }
+        requires { ⌜ Ready (now rows) (now figures) (now budgets) 0 m y × Listed (now rows) m (now list) c × Others (now rows) m self × Looked (now rows) m self l × Summed (now rows) (now figures) m y self ⌝ }
+        ensures { λ r. ⌜ ((b : ℕ) → b ≤ m → Stepped (potIn (now (rows .entry)) (now (figures .entry)) (now (budgets .entry)) b m y) self r) × Summed (now (rows .entry)) (now (figures .entry)) m y r ⌝ }
     {
         if l.count == 1 {
             return self.sole(rows, figures, budgets, list, m, y, c, l);
@@ -395,7 +455,7 @@ impl PotState {
         y: usize,
         c: usize,
     ) -> PotState
-        requires { ⌜ Ready (now rows) (now figures) (now budgets) 0 m y × Listed (now rows) m (now list) c × ((b : ℕ) → b ≤ m → Stands (potIn (now rows) (now figures) (now budgets) b m y) [] self) ⌝ }
+        requires { ⌜ Ready (now rows) (now figures) (now budgets) 0 m y × Listed (now rows) m (now list) c × Summed (now rows) (now figures) m y self × ((b : ℕ) → b ≤ m → Stands (potIn (now rows) (now figures) (now budgets) b m y) [] self) ⌝ }
         ensures { λ r. ⌜ ((b : ℕ) → b ≤ m → Stands (potIn (now (rows .entry)) (now (figures .entry)) (now (budgets .entry)) b m y) (auction (potIn (now (rows .entry)) (now (figures .entry)) (now (budgets .entry)) b m y)) r) ⌝ }
     {
         let mut s = self;
@@ -438,6 +498,7 @@ pub fn started(rows: &[u64], m: usize) -> PotState
         won: [false; 64],
         opened: [true; 4],
         prices: [names::NO_PRICE; 4],
+        sums: [0; 32],
         hang: NO_YEAR,
         wide: false,
     }

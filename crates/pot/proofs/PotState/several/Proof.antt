@@ -1,6 +1,7 @@
 -- `pot::PotState::several` meets its contract.
 use borrow.Author.Needs.{needs}
 use Rattle.totals.proofs.Link as link
+use Rattle.pot.proofs.Sums.{summed-settled, summed-tried, summed-tie, sum-most}
 use Rattle.pot.proofs.Steps.{taken-is, many-tried, step-fits, step-tie}
 use Rattle.pot.proofs.PotState.several.Statement.{statement}
 use Rattle.pot.proofs.PotState.several.Tie as tie
@@ -11,27 +12,36 @@ taken-requires c κs = link.checked _ _ _ _ _ _ (c .before .before .before .pre 
 trial-requires : tie.Need-trial-requires
 trial-requires c κs = link.checked _ _ _ _ _ _ (c .before .before .before .before .pre .0)
 
-revalued-requires : tie.Need-revalued-requires
-revalued-requires c κs = link.valued _ _ _ _ _ _ (c .before .before .before .before .before .pre .0)
+all-renewed-requires : tie.Need-all-renewed-requires
+all-renewed-requires c κs = link.valued _ _ _ _ _ _ (c .before .before .before .before .before .pre .0)
 
-within-requires : tie.Need-within-requires
-within-requires c κs = (c .before .before .before .before .before .before .pre .0 .years, c .before .before .before .before .before .before .pre .0 .budgets-whole)
+sums-fit-requires : tie.Need-sums-fit-requires
+sums-fit-requires c κs =
+    let pre = c .before .before .before .before .before .before .before .pre in
+    let right = summed-tried _ _ _ _ (pre .0 .years) (pre .1) _ _ (c .before .before .trial .ensures) (c .before .all-renewed .ensures) in
+    (pre .0 .years, pre .0 .budgets-whole, λ z h. sum-most right z h (link.valued _ _ _ _ _ _ (pre .0)))
 
 returns : tie.Need-returns
 returns c =
-    let low = c .before .before .before .before .before .before .before .before .before .pre .1 in
-    let set = taken-is _ _ _ low (c .before .before .before .before .before .taken .ensures) in
-    step-fits _ _ _ _ _ (c .before .before .before .before .before .before .before .before .before .pre .0) _ low (many-tried _ _ _ _ set (c .before .before .before .before .trial .ensures)) (c .before .before .before .revalued .ensures) (c .before .before .within .ensures) (c .before .if1 .taken) (c .settled .ensures)
+    let pre = c .before .before .before .before .before .before .before .before .before .before .pre in
+    let set = taken-is _ _ _ (pre .2) (c .before .before .before .before .before .before .taken .ensures) in
+    let right = summed-tried _ _ _ _ (pre .0 .years) (pre .1) _ _ (c .before .before .before .before .before .trial .ensures) (c .before .before .before .before .all-renewed .ensures) in (
+      step-fits _ _ _ _ _ (pre .0) _ _ (pre .2) (many-tried _ _ _ _ _ _ set (c .before .before .before .before .before .trial .ensures) (c .before .before .before .before .all-renewed .ensures)) right (c .before .before .sums-fit .ensures) (c .before .if1 .taken) (c .settled .ensures),
+      summed-settled _ _ _ _ (c .settled .ensures) right,
+    )
 
 tie-requires : tie.Need-tie-requires
-tie-requires c κs = c .before .before .before .before .before .before .before .before .pre .0
+tie-requires c κs = c .before .before .before .before .before .before .before .before .before .pre .0
 
 returns-2 : tie.Need-returns-2
 returns-2 c =
-    let low = c .before .before .before .before .before .before .before .before .before .pre .1 in
-    let set = taken-is _ _ _ low (c .before .before .before .before .before .taken .ensures) in
-    step-tie _ _ _ _ _ (c .before .before .before .before .before .before .before .before .before .pre .0) _ low (many-tried _ _ _ _ set (c .before .before .before .before .trial .ensures)) (c .before .before .before .revalued .ensures) (c .before .before .within .ensures) (c .before .if1 .left) set (c .before .before .before .before .before .before .before .before .before .pre .2) (c .tie .ensures)
+    let pre = c .before .before .before .before .before .before .before .before .before .before .pre in
+    let set = taken-is _ _ _ (pre .2) (c .before .before .before .before .before .before .taken .ensures) in
+    let right = summed-tried _ _ _ _ (pre .0 .years) (pre .1) _ _ (c .before .before .before .before .before .trial .ensures) (c .before .before .before .before .all-renewed .ensures) in (
+      step-tie _ _ _ _ _ (pre .0) _ _ (pre .2) (many-tried _ _ _ _ _ _ set (c .before .before .before .before .before .trial .ensures) (c .before .before .before .before .all-renewed .ensures)) right (c .before .before .sums-fit .ensures) (c .before .if1 .left) set (pre .3) (c .tie .ensures),
+      summed-tie _ _ _ _ (pre .0 .years) (pre .1) _ _ _ (c .tie .ensures),
+    )
 
 pub several-spec : {M : Type 1} → statement M
 several-spec =
-    tie.close (tie.spec taken-requires trial-requires revalued-requires within-requires (λ c κs. search needs) returns tie-requires returns-2)
+    tie.close (tie.spec taken-requires trial-requires all-renewed-requires sums-fit-requires (λ c κs. search needs) returns tie-requires returns-2)

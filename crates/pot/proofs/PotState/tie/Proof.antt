@@ -24,10 +24,13 @@ choose-requires c κs = (((link.valued _ _ _ _ _ _ (c .before .before .before .b
 shared-requires : tie.Need-shared-requires
 shared-requires c κs = link.checked _ _ _ _ _ _ (c .before .before .before .before .before .before .before .before .before .before .before .before .pre)
 
+all-renewed-requires : tie.Need-all-renewed-requires
+all-renewed-requires c κs = link.valued _ _ _ _ _ _ (c .before .before .before .before .before .before .before .before .before .before .before .before .before .pre)
+
 returns-2 : tie.Need-returns-2
-returns-2 c = tie-shared _ _ _ _ _ _ _ _ (c .before .before .before .before .before .before .before .bases .ensures) (c .before .before .before .before .before .rest .ensures) (c .before .before .before .before .count .ensures) (c .before .before .before .if1 .left) (c .before .choose .ensures) (c .shared .ensures)
+returns-2 c = tie-shared _ _ _ _ _ _ _ _ (c .before .before .before .before .before .before .before .before .bases .ensures) (c .before .before .before .before .before .before .rest .ensures) (c .before .before .before .before .before .count .ensures) (c .before .before .before .before .if1 .left) (c .before .before .choose .ensures) (c .before .shared .ensures) (c .all-renewed .ensures)
 
 pub tie-spec : {M : Type 1} → statement M
 tie-spec =
     tie.close (tie.spec bases-requires (λ c. search needs) rest-requires count-requires (λ c κs. search needs) returns (λ c. search needs)
-    choose-requires shared-requires returns-2)
+    choose-requires shared-requires all-renewed-requires returns-2)

@@ -1,0 +1,31 @@
+-- The invariant: the places of the years passed are written.
+use borrow.Author.Needs.{needs}
+use native.Mathlib.Omega.{arith}
+use Prim.Native.Nat.{_≤_, _-_}
+use mathlib.Core.Path.{_≡_}
+use Rattle.sets.proofs.Laws.{done}
+use Rattle.pot.specs.Marks.{placed}
+use Rattle.pot.proofs.Sums.{placed-next}
+use Rattle.pot.proofs.with_row.Statement.{statement}
+use Rattle.pot.proofs.with_row.Tie as tie
+
+abbrev Inv-loop : tie.InvT-loop
+Inv-loop y d row out₀ z₀ out z = (z ≤ y) × (out ≡ placed out₀ d row z)
+
+abbrev μ-loop : tie.MeasureT-loop
+μ-loop y d row out₀ z₀ out z = y - z
+
+loop-holds : tie.Need-loop-holds Inv-loop μ-loop
+unfolding placed
+loop-holds c = search needs
+
+loop-again : tie.Need-loop-again Inv-loop μ-loop
+loop-again c = (omega arith, placed-next _ _ _ _ (c .before .loop .inv .1))
+
+returns : tie.Need-returns Inv-loop μ-loop
+returns c = done (placed _ _ _) (c .before .loop .inv .1) (c .before .loop .inv .0) (c .loop-test .left)
+
+pub with-row-spec : {M : Type 1} → statement M
+with-row-spec =
+    tie.close (tie.spec Inv-loop μ-loop loop-holds (λ c. search needs) (λ c. search needs) (λ c. search needs) (λ c. search needs) (λ c. search needs)
+    (λ c. search needs) (λ c. omega arith) (λ c. omega arith) loop-again returns)
