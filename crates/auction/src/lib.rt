@@ -59,7 +59,7 @@ fn winning(rows: &[u64], marks: [u16; 320], m: usize) -> [u64; 64]
     let mut out = [names::NO_BID; 64];
     let mut k: usize = 0;
     while k < m {
-        if marks[k] == pot::WON {
+        if marks[k] == totals::WON {
             let a = sheet::app(rows, k);
             out[a] = k as u64;
         }

@@ -8,10 +8,10 @@ ghost use Rattle.rules.specs.Listing.{roundLines, refusalLine};
 ghost use Rattle.result.specs.Tells.{Small, Counted, Tells};
 ghost use Rattle.lines.specs.Printed.{Printed};
 ghost use Rattle.listing.specs.Told.{priceTold, yearTold, potTold, appTold, bidTold, linesTold, longest};
+use names::MOST_DELIVERIES;
 use names::NO_PRICE;
-use result::DELIVERIES;
+use names::YEARS;
 use result::Tellings;
-use result::YEARS;
 
 // The most bytes that a listing has: a pot with its years takes no more than 680, an application 83, a bid or a refusal 53.
 pub const LONGEST: usize = 21600;
@@ -22,7 +22,7 @@ fn price_in(t: Tellings, p: usize, k: usize, d: usize) -> u64
     ensures { λ r. ⌜ r ≡ priceTold t d p k ⌝ }
 {
     if k < d {
-        return t.prices[p * DELIVERIES + k];
+        return t.prices[p * MOST_DELIVERIES + k];
     }
     NO_PRICE
 }

@@ -7,7 +7,7 @@ use native.Mathlib.Omega.{arith}
 use lib.ListN.{length, getD, set, length-set}
 use lib.Dec.{eqb, ltb}
 use borrow.Author.Tests.{ne-eqb, lt-ltb, ltb-true}
-use Rattle.rules.specs.Names.{downAlone}
+use Rattle.rules.specs.Names.{becauseWon, downAlone}
 use Rattle.rules.specs.Lists.{pick, memb}
 use Rattle.rules.specs.Pot.{Pot, Trace, winners, priceFrom, live, taken, fits, won, down, follows, alone, look}
 use Rattle.laws.specs.Lists.{case, clash, In, memb-in, in-memb, in-none, in-one}
@@ -15,14 +15,15 @@ use Rattle.laws.specs.Taken as taken
 use Rattle.laws.specs.Runs.{won-seen}
 use Rattle.sets.specs.Sets.{members, headOr}
 use Rattle.sets.proofs.Arrays.{put-is}
-use Rattle.sheet.specs.Sheet.{potIn, Ready, rowApp, rowYear, rowPrice}
+use Rattle.sheet.specs.Sheet.{potIn, Ready, inAuction, rowApp, rowYear, rowPrice}
 use Rattle.totals.specs.Totals.{totalOf, fitsTo}
+use Rattle.totals.proofs.Link.{not-bid}
 use Rattle.pot.specs.declared.PotState.{PotState}
 use Rattle.pot.specs.Marks.{lowestOf, winAll, turnedOf, hungOf, shutOf, settledOf, takenOf, soleOf, followsOf, aloneOf}
 use Rattle.pot.specs.Rep.{hangs, Sizes, Rep}
 use Rattle.pot.proofs.Arrays.{win-sizes, win-reasons, win-won, win-opened, win-hang, win-wide}
 use Rattle.pot.proofs.Link as link
-use Rattle.pot.proofs.Link.{Did, rep-did, holds-rep}
+use Rattle.pot.proofs.Link.{Did, rep-did, Holds, holds-rep}
 
 -- `follows` by length and head
 follows-is : (P : Pot) (i : ℕ) (l : List ℕ) → follows P i l ≡ (eqb (length l) 1 && (eqb (P .app (headOr 0 l)) (P .app i) && eqb (P .yr (headOr 0 l)) (P .yr i)))
@@ -66,9 +67,15 @@ module _ (rows figures budgets : List ℕ) (b m y : ℕ) (ok : Ready rows figure
     su : Sizes u
     su = win-sizes rows p s (R .sizes) l
 
+    won-by : Holds P (l ++ winners t) u
+    won-by = link.holds-win rows figures budgets b m y ok (winners t) s (R .sizes) p l (λ i j. let z = sound i j in (z .0, z .2, z .3)) (holds-rep R)
+
+    -- the winners all entered the auction
+    pub trial-others : (i : ℕ) → i < m → inAuction rows i ≡ false → eqb (getD (u .reasons) i 0) becauseWon ≡ false
+    trial-others i h f = won-by .marked .other i (link.small rows figures budgets b m y ok i h) (not-bid rows figures budgets b m y ok i f)
+
     pub trial-fits : (f : ℕ → ℕ) → ((z : ℕ) → z < y → f z ≡ totalOf rows figures (u .reasons) (u .prices) z m) → fitsTo f budgets y ≡ fits P (l ++ winners t)
-    trial-fits = link.fits-is rows figures budgets b m y ok (l ++ winners t) u
-        (link.holds-win rows figures budgets b m y ok (winners t) s (R .sizes) p l (λ i j. let z = sound i j in (z .0, z .2, z .3)) (holds-rep R))
+    trial-fits = link.fits-is rows figures budgets b m y ok (l ++ winners t) u won-by
 
     -- all win, and the year that hangs closes
     won-with : (r : PotState) → r .reasons ≡ u .reasons → r .won ≡ u .won → r .prices ≡ u .prices → Sizes r

@@ -1,5 +1,5 @@
 -- One pass over the bids that entered the auction sees the live bids of the lowest live price. Assumes nothing.
-use Prim.Native.Nat.{ℕ, zero, suc, _+_, min, _≤_, _<_}
+use Prim.Native.Nat.{ℕ, _+_, min, _≤_, _<_}
 use mathlib.Core.Path.{_≡_, refl, sym, ap, _∙_}
 use mathlib.Core.Bool.{Bool, true, false, not, _&&_}
 use mathlib.Core.List.{List, [], _∷_}
@@ -13,14 +13,13 @@ use Rattle.rules.specs.Names.{noReason, becauseWon}
 use Rattle.rules.specs.Lists.{sift, below}
 use Rattle.laws.specs.Lists.{case, and-true, In, here, there, sift-in, sift-same, sift-both, sift-le, below-in}
 use Rattle.sets.specs.Sets.{members, headOr}
-use Rattle.sets.proofs.Arrays.{put-is, members-built}
+use Rattle.sets.proofs.Arrays.{members-built}
 use Rattle.sheet.specs.Sheet.{rowStanding, rowApp, rowYear, rowPrice, inAuction}
-use Rattle.ties.specs.Ties.{listed}
-use Rattle.ties.proofs.Lists.{listed-length, in-listed}
-use Rattle.totals.specs.Totals.{Checked}
+use Rattle.totals.specs.Totals.{Checked, listed, Listed}
+use Rattle.totals.proofs.Listed.{listed-more, listed-length}
 use Rattle.pot.specs.declared.PotState.{PotState}
 use Rattle.pot.specs.declared.Look.{Look}
-use Rattle.pot.specs.Marks.{leastOr, liveOf, lowestOf, atOf, takenOf, Listed, Others, joinedOf, lookOf, Looked}
+use Rattle.pot.specs.Marks.{leastOr, liveOf, lowestOf, atOf, takenOf, Others, joinedOf, lookOf, Looked}
 
 -- ---- one bid more
 module _ (l : Look) (q i : ℕ) where
@@ -94,17 +93,6 @@ module _ (rows : List ℕ) where
   look-few (x ∷ l) = let z = look-few l in let w = joined-count (lookOf rows l) (rowPrice rows x) x in omega arith
 
 -- ---- the pass
-below-length : (n : ℕ) → length (below n) ≡ n
-below-length zero = refl
-below-length (suc n) = ap suc (below-length n)
-
-module _ {rows : List ℕ} {m : ℕ} {list : List ℕ} {c : ℕ} (L : Listed rows m list c) where
-  pub listed-small : (j : ℕ) → j < c → getD list j 0 < m
-  listed-small j h = below-in (getD list j 0) m (sift-in (getD list j 0) (inAuction rows) (below m) (rw (L .bids) at (in-listed list j c h)) .0)
-
-  pub listed-few : c ≤ m
-  listed-few = omega (arith, sym (listed-length list c) ∙ ap length (L .bids), sift-le (inAuction rows) (below m), below-length m)
-
 module _ (rows : List ℕ) (s : PotState) (list : List ℕ) (j : ℕ) {l : Look} (e : l ≡ lookOf rows (sift (liveOf rows s) (listed list j))) where
   pub pass-hit : {b : Bool} {q : ℕ} {r : Look} → b ≡ liveOf rows s (getD list j 0) → b ≡ true → q ≡ rowPrice rows (getD list j 0) → r ≡ joinedOf l q (getD list j 0) → r ≡ lookOf rows (sift (liveOf rows s) (listed list (j + 1)))
   unfolding lookOf listed
@@ -163,19 +151,12 @@ module _ {rows : List ℕ} {m : ℕ} {s : PotState} {l : Look} (ck : Checked row
       opened e = unfold liveOf in e
 
 -- ---- the list of the bids that entered
-listed-set : (a : List ℕ) (k j v : ℕ) → k ≤ j → j < length a → listed (set a j v) k ≡ listed a k
-unfolding listed
-listed-set a zero j v h g = refl
-listed-set a (suc k) j v h g =
-    rw (put-is a j k v 0 g, listed-set a k j v (omega arith) g, ne-eqb k j (λ e. let z : ⊥ = omega arith in z))
-
 module _ (rows : List ℕ) (i : ℕ) (list : List ℕ) (c : ℕ) {q : ℕ} (e : listed list c ≡ sift (inAuction rows) (below i)) (eq : q ≡ rowStanding rows i) where
   pub entered-hit : {a : List ℕ} {k : ℕ} → length list ≡ 320 → q ≡ 1 → c < 320 → a ≡ set list c i → k ≡ c + 1 → (length a ≡ 320) × (listed a k ≡ sift (inAuction rows) (below (i + 1)))
-  unfolding listed
   entered-hit n h g ea ek =
       let r : c < length list = omega arith in (
         ap length ea ∙ length-set list c i ∙ n,
-        rw (ea, ek, add-one c, add-one i, put-is list c c i 0 r, listed-set list c c i (omega arith) r, eq-eqb c c refl, eq-eqb (rowStanding rows i) 1 (sym eq ∙ h), e),
+        rw (ea, ek, add-one c, add-one i, listed-more list c i r, eq-eqb (rowStanding rows i) 1 (sym eq ∙ h), e),
       )
 
   pub entered-miss : {a : List ℕ} {k : ℕ} → length list ≡ 320 → (q ≡ 1 → ⊥) → a ≡ list → k ≡ c → (length a ≡ 320) × (listed a k ≡ sift (inAuction rows) (below (i + 1)))

@@ -1,14 +1,16 @@
 -- One look: the arrays follow the trace. Assumes nothing.
-use Prim.Native.Nat.{ℕ, _≤_}
+use Prim.Native.Nat.{ℕ, _≤_, _<_}
 use mathlib.Core.Path.{_≡_, refl, sym, ap, _∙_}
 use mathlib.Core.Bool.{Bool, true, false}
 use mathlib.Core.List.{List, [], _∷_, _++_}
 use native.Mathlib.Omega.{arith}
-use lib.ListN.{length}
+use lib.ListN.{length, getD}
+use lib.Dec.{eqb}
+use Rattle.rules.specs.Names.{becauseWon}
 use Rattle.rules.specs.Pot.{Pot, Trace, winners, wideEnd, taken, fits, down, follows, alone, tied, lost, look}
 use Rattle.laws.specs.Lists.{case, In, here, in-none}
 use Rattle.sets.specs.Sets.{built, members, headOr}
-use Rattle.sheet.specs.Sheet.{potIn, Ready}
+use Rattle.sheet.specs.Sheet.{potIn, Ready, inAuction}
 use Rattle.totals.specs.Totals.{totalOf, fitsTo}
 use Rattle.totals.proofs.Link.{checked}
 use Rattle.pot.specs.declared.PotState.{PotState}
@@ -94,11 +96,15 @@ module _ (rows figures budgets : List ℕ) (m y : ℕ) (ok : Ready rows figures 
     tried : Rep P t s → v ≡ withSums k (winAll rows (lowestOf rows s m) s (taken P t))
     tried R = ev ∙ ap (λ (l : List ℕ). withSums k (winAll rows p s l)) (of-set R) ∙ ap (λ (x : ℕ). withSums k (winAll rows x s (taken P t))) ep
 
+    others : Rep P t s → (i : ℕ) → i < m → inAuction rows i ≡ false → eqb (getD (v .reasons) i 0) becauseWon ≡ false
+    unfolding withSums
+    others R i g e = ap (λ (u : PotState). eqb (getD (u .reasons) i 0) becauseWon) (tried R) ∙ looks.trial-others rows figures budgets b m y ok-b t s R i g e
+
     fits-is : Rep P t s → f ≡ fits P (taken P t ++ winners t)
     unfolding withSums
     fits-is R =
         ef ∙ looks.trial-fits rows figures budgets b m y ok-b t s R (yearSum (v .sums))
-        (λ z h. sum-total Sv z h (checked rows figures budgets 0 m y ok) ∙ ap (λ (u : PotState). totalOf rows figures (u .reasons) (u .prices) z m) (tried R))
+        (λ z h. sum-total Sv z h (checked rows figures budgets 0 m y ok) (others R) ∙ ap (λ (u : PotState). totalOf rows figures (u .reasons) (u .prices) z m) (tried R))
 
   -- all that were taken fit
   pub step-fits : {r : PotState} → f ≡ true → r ≡ settledOf v → (b : ℕ) → b ≤ m → Stepped (potIn rows figures budgets b m y) s r

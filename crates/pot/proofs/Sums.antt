@@ -10,13 +10,13 @@ use lib.Seq.{getD-set-other}
 use lib.Dec.{eqb, ltb, leb}
 use borrow.Author.Tests.{eqb-true, eqb-false, eq-eqb, ne-eqb}
 use Rattle.rules.specs.Names.{becauseWon, widestTie}
-use Rattle.rules.specs.Lists.{pick}
+use Rattle.rules.specs.Lists.{pick, sift, below}
 use Rattle.rules.specs.Pot.{Pot, Trace}
-use Rattle.laws.specs.Lists.{case}
+use Rattle.laws.specs.Lists.{case, In, here, there, sift-in, below-in}
 use Rattle.sets.specs.Sets.{fill, members}
 use Rattle.sets.proofs.Arrays.{put-is, zeros, fill-at}
-use Rattle.sheet.specs.Sheet.{rowStanding, rowYear}
-use Rattle.totals.specs.Totals.{Checked, Valued, dearest, worthOf, totalOf, partOf, noRow, filled, fitsTo}
+use Rattle.sheet.specs.Sheet.{inAuction, rowStanding, rowYear}
+use Rattle.totals.specs.Totals.{Checked, Valued, dearest, worthOf, totalOf, partOn, partOf, noRow, filled, fitsTo}
 use Rattle.totals.proofs.Parts.{part-most, total-parts}
 use Rattle.pot.specs.declared.PotState.{PotState}
 use Rattle.pot.specs.Marks.{winOf, winAll, turnAll, turnOf, turnedOf, hungOf, shutOf, settledOf, widened, aloneOf, followsOf, sharedOf, choiceIn, restOf, tieOf, firstMark, noMarks, startedOf, placed, yearSum, mostSum, withSums, renewedOf, renewedTo, Summed}
@@ -69,10 +69,10 @@ renewed-next rows figures m y s d et er = rw (add-one d, er, et)
 -- ---- marks and the sums of a year
 module _ (rows figures marks : List ℕ) (price i v : ℕ) where
   -- a bid of another year
-  part-other : (d z n : ℕ) → (rowYear rows i ≡ d → ⊥) → partOf rows figures (set marks i v) price d z n ≡ partOf rows figures marks price d z n
-  unfolding partOf
-  part-other d z zero h = refl
-  part-other d z (suc n) h = rw (part-other d z n h) (ap (λ (x : ℕ). partOf rows figures marks price d z n + x) (same (eqb n i) refl))
+  part-other : (d z : ℕ) (l : List ℕ) → (rowYear rows i ≡ d → ⊥) → partOn rows figures (set marks i v) price d z l ≡ partOn rows figures marks price d z l
+  unfolding partOn
+  part-other d z [] h = refl
+  part-other d z (n ∷ l) h = rw (part-other d z l h) (ap (λ (x : ℕ). partOn rows figures marks price d z l + x) (same (eqb n i) refl))
     where
       same : (b : Bool) → eqb n i ≡ b → pick (eqb (getD (set marks i v) n 0) becauseWon && eqb (rowYear rows n) d) (worthOf rows figures n price z) 0 ≡ pick (eqb (getD marks n 0) becauseWon && eqb (rowYear rows n) d) (worthOf rows figures n price z) 0
       same true t = rw (eqb-true n i t, ne-eqb (rowYear rows i) d h) (none (eqb (getD (set marks i v) i 0) becauseWon) ∙ sym (none (eqb (getD marks i 0) becauseWon)))
@@ -83,10 +83,10 @@ module _ (rows figures marks : List ℕ) (price i v : ℕ) where
       same false f = rw (getD-set-other marks i n v 0 (eqb-false n i f))
 
   -- a bid that did not win and does not
-  part-down : (d z n : ℕ) → eqb v becauseWon ≡ false → eqb (getD marks i 0) becauseWon ≡ false → partOf rows figures (set marks i v) price d z n ≡ partOf rows figures marks price d z n
-  unfolding partOf
-  part-down d z zero g h = refl
-  part-down d z (suc n) g h = rw (part-down d z n g h) (ap (λ (x : ℕ). partOf rows figures marks price d z n + x) (same (eqb n i) refl))
+  part-down : (d z : ℕ) (l : List ℕ) → eqb v becauseWon ≡ false → eqb (getD marks i 0) becauseWon ≡ false → partOn rows figures (set marks i v) price d z l ≡ partOn rows figures marks price d z l
+  unfolding partOn
+  part-down d z [] g h = refl
+  part-down d z (n ∷ l) g h = rw (part-down d z l g h) (ap (λ (x : ℕ). partOn rows figures marks price d z l + x) (same (eqb n i) refl))
     where
       lost : (l : List ℕ) (k : ℕ) → eqb (getD l k 0) becauseWon ≡ false → eqb (getD (set l k v) k 0) becauseWon ≡ false
       lost [] k e = e
@@ -98,16 +98,16 @@ module _ (rows figures marks : List ℕ) (price i v : ℕ) where
       same false f = rw (getD-set-other marks i n v 0 (eqb-false n i f))
 
 -- no bid has won
-part-none : (rows figures marks : List ℕ) (price d z n : ℕ) → ((k : ℕ) → k < n → eqb (getD marks k 0) becauseWon ≡ false) → partOf rows figures marks price d z n ≡ 0
-unfolding partOf
-part-none rows figures marks price d z zero h = refl
-part-none rows figures marks price d z (suc n) h = rw (part-none rows figures marks price d z n (λ k g. h k (omega arith)), h n (omega arith))
+part-none : (rows figures marks : List ℕ) (price d z : ℕ) (l : List ℕ) → ((k : ℕ) → In k l → eqb (getD marks k 0) becauseWon ≡ false) → partOn rows figures marks price d z l ≡ 0
+unfolding partOn
+part-none rows figures marks price d z [] h = refl
+part-none rows figures marks price d z (n ∷ l) h = rw (part-none rows figures marks price d z l (λ k i. h k (there i)), h n (here refl))
 
 module _ (rows figures : List ℕ) (m y : ℕ) where
   -- ---- what keeps the sums right
   pub summed-turned : (i : ℕ) (s : PotState) → eqb (getD (s .reasons) i 0) becauseWon ≡ false → Summed rows figures m y s → Summed rows figures m y (turnedOf i s)
-  unfolding turnedOf
-  summed-turned i s h S = record { size = S .size; part = λ d z g k. S .part d z g k ∙ sym (part-down rows figures (s .reasons) (getD (s .prices) d 0) i 2 d z m refl h) }
+  unfolding turnedOf partOf
+  summed-turned i s h S = record { size = S .size; part = λ d z g k. S .part d z g k ∙ sym (part-down rows figures (s .reasons) (getD (s .prices) d 0) i 2 d z (sift (inAuction rows) (below m)) refl h) }
 
   summed-hung : (d : ℕ) (s : PotState) → Summed rows figures m y s → Summed rows figures m y (hungOf d s)
   unfolding hungOf
@@ -140,7 +140,7 @@ module _ (rows figures : List ℕ) (m y : ℕ) where
   -- ---- what makes them right
   -- a bid wins, and its year is renewed: the other years are as before
   pub summed-win : (p i : ℕ) (s : PotState) {d : ℕ} {u r : PotState} → y ≤ 8 → rowYear rows i < 4 → d ≡ rowYear rows i → u ≡ winOf rows p i s → r ≡ renewedOf rows figures m y d u → Summed rows figures m y s → Summed rows figures m y r
-  unfolding renewedOf withSums winOf
+  unfolding renewedOf withSums winOf partOf
   summed-win p i s {d} ly ld ed eu er S = rw (er, eu, ed) (record {
     size = placed-length (s .sums) (rowYear rows i) (filled part y) y ∙ S .size;
     part = λ c z g k. case (eqb c (rowYear rows i))
@@ -148,7 +148,7 @@ module _ (rows figures : List ℕ) (m y : ℕ) where
         (λ f.
         let n = eqb-false c (rowYear rows i) f in
         placed-other (s .sums) (rowYear rows i) (filled part y) y c z n ly (omega arith) ∙ S .part c z g k
-        ∙ rw (getD-set-other (s .prices) (rowYear rows i) c p 0 n) (sym (part-other rows figures (s .reasons) (getD (s .prices) c 0) i becauseWon c z m (λ e. n (sym e)))));
+        ∙ rw (getD-set-other (s .prices) (rowYear rows i) c p 0 n) (sym (part-other rows figures (s .reasons) (getD (s .prices) c 0) i becauseWon c z (sift (inAuction rows) (below m)) (λ e. n (sym e)))));
   })
     where
       part : ℕ → ℕ
@@ -189,10 +189,10 @@ module _ (rows figures : List ℕ) (m y : ℕ) where
 
   -- no bid has been looked at
   pub summed-started : {s : PotState} → m ≤ 320 → s ≡ startedOf rows m → Summed rows figures m y s
-  unfolding startedOf
+  unfolding startedOf partOf
   summed-started h e = rw e (record {
     size = refl;
-    part = λ d z i j. zeros 32 (d * 8 + z) ∙ sym (part-none rows figures (fill noMarks (λ i. firstMark (rowStanding rows i)) m) (getD (replicate 4 _) d 0) d z m fresh);
+    part = λ d z i j. zeros 32 (d * 8 + z) ∙ sym (part-none rows figures (fill noMarks (λ i. firstMark (rowStanding rows i)) m) (getD (replicate 4 _) d 0) d z (sift (inAuction rows) (below m)) (λ k i. fresh k (below-in k m (sift-in k (inAuction rows) (below m) i .0))));
   })
     where
       size : m ≤ length noMarks
@@ -253,13 +253,14 @@ module _ {rows figures : List ℕ} {m y : ℕ} {s : PotState} (S : Summed rows f
       at3 : getD (s .sums) (24 + z) 0 ≡ part 3
       at3 = let e : 24 + z ≡ 3 * 8 + z = omega arith in ap (λ (k : ℕ). getD (s .sums) k 0) e ∙ S .part 3 z (omega arith) h
 
-  pub sum-total : Checked rows m → yearSum (s .sums) z ≡ totalOf rows figures (s .reasons) (s .prices) z m
-  sum-total ok = four ∙ sym (total-parts rows figures (s .reasons) (s .prices) z m ok)
+  -- where the winners all entered the auction
+  pub sum-total : Checked rows m → ((k : ℕ) → k < m → inAuction rows k ≡ false → eqb (getD (s .reasons) k 0) becauseWon ≡ false) → yearSum (s .sums) z ≡ totalOf rows figures (s .reasons) (s .prices) z m
+  sum-total ok others = four ∙ sym (total-parts rows figures (s .reasons) (s .prices) z m ok others)
 
   pub sum-most : Valued rows figures m y → yearSum (s .sums) z ≤ mostSum
   sum-most v =
       let few = v .checked .few in
-      let most : (d : ℕ) → part d ≤ dearest * m = λ d. part-most rows figures (s .reasons) (getD (s .prices) d 0) d m y z m v h (omega arith) in
+      let most : (d : ℕ) → part d ≤ dearest * m = λ d. part-most rows figures (s .reasons) (getD (s .prices) d 0) d m y z v h in
       omega (arith, four, most 0, most 1, most 2, most 3)
 
 -- added one after the other

@@ -1,6 +1,6 @@
 -- What the functions over a pot's arrays compute, as functions of the arrays. No rule of document 01 is stated here: crate rules has the rules, and
 -- specs/Rep.antt says what the arrays stand for. Assumes nothing.
-use Prim.Native.Nat.{ℕ, zero, suc, _+_, _*_, min, _<_, _≤_}
+use Prim.Native.Nat.{ℕ, zero, suc, _+_, _*_, min, _<_}
 use mathlib.Core.Path.{_≡_}
 use mathlib.Core.Bool.{Bool, true, false, not, _&&_}
 use mathlib.Core.List.{List, [], _∷_}
@@ -11,7 +11,7 @@ use Rattle.rules.specs.Lists.{pick, sift, below}
 use Rattle.sets.specs.Sets.{fill, built, members, headOr, without}
 use Rattle.sheet.specs.Sheet.{rowStanding, rowApp, rowYear, rowPrice, inAuction, entered}
 use Rattle.totals.specs.Totals.{dearest, partOf, filled}
-use Rattle.ties.specs.Ties.{listed, basesOf, keepsOf, choiceOf}
+use Rattle.ties.specs.Ties.{basesOf, keepsOf, choiceOf}
 use Rattle.pot.specs.declared.PotState.{PotState}
 use Rattle.pot.specs.declared.Look.{Look}
 
@@ -74,11 +74,6 @@ unfoldable pub takenOf : (rows : List ℕ) (m : ℕ) → PotState → List Bool
 takenOf rows m s = built (atOf rows s (lowestOf rows s m)) m
 
 -- ---- one pass over the bids that entered the auction
-
--- the first c of the list are these bids
-pub record Listed (rows : List ℕ) (m : ℕ) (list : List ℕ) (c : ℕ) : Type 0 where
-  pub room : c ≤ length list
-  pub bids : listed list c ≡ sift (inAuction rows) (below m)
 
 -- no other bid is marked as not yet looked at
 abbrev pub Others : (rows : List ℕ) (m : ℕ) → PotState → Type 0

@@ -9,25 +9,20 @@ ghost use lib.ListN.{length};
 ghost use Rattle.rules.specs.Pot.{auction};
 ghost use Rattle.sets.specs.Sets.{built, members};
 ghost use Rattle.sheet.specs.Sheet.{potIn, Ready};
-ghost use Rattle.totals.specs.Totals.{Checked, Valued, fitsTo};
-ghost use Rattle.pot.specs.Marks.{lowestOf, takenOf, joinedOf, Listed, Others, Looked, atOf, firstMark, winOf, turnOf, winAll, turnAll, turnedOf, hungOf, shutOf, settledOf, widened, followsOf, aloneOf, sharedOf, tieOf, startedOf, placed, yearSum, mostSum, renewedOf, renewedTo, Summed};
-ghost use Rattle.pot.specs.Rep.{Stands, Stepped};
+ghost use Rattle.totals.specs.Totals.{Checked, Valued, Listed, fitsTo};
+ghost use Rattle.pot.specs.Marks.{joinedOf, Others, Looked, atOf, firstMark, winOf, turnOf, winAll, turnAll, turnedOf, hungOf, shutOf, settledOf, widened, followsOf, aloneOf, sharedOf, tieOf, startedOf, placed, yearSum, mostSum, renewedOf, renewedTo, Summed};
+ghost use Rattle.pot.specs.Rep.{Stands, Seen, Onward};
+use names::YEARS;
+use totals::WON;
 
-// The marks of a bid: not looked at, won, turned down alone, turned down in a tie, not of this auction.
+// The marks of a bid that has not won: not looked at, turned down alone, turned down in a tie, not of this auction.
 pub const FRESH: u16 = 0;
-
-pub const WON: u16 = 1;
 
 pub const ALONE: u16 = 2;
 
 pub const TIED: u16 = 3;
 
 pub const OTHER: u16 = 9;
-
-// Delivery years of a round, and years to a row of totals.
-const DELIVERIES: usize = 4;
-
-const YEARS: usize = 8;
 
 // No year hangs.
 const NO_YEAR: usize = 4;
@@ -217,27 +212,44 @@ impl PotState {
     }
 
     // The winners that start in year d are revalued at its clearing price.
-    fn renewed(mut self, rows: &[u64], figures: &[u64], m: usize, y: usize, d: usize) -> PotState
-        requires { ⌜ Valued (now rows) (now figures) m y × (d < 4) ⌝ }
+    fn renewed(
+        mut self,
+        rows: &[u64],
+        figures: &[u64],
+        list: &[usize],
+        m: usize,
+        y: usize,
+        c: usize,
+        d: usize,
+    ) -> PotState
+        requires { ⌜ Valued (now rows) (now figures) m y × Listed (now rows) m (now list) c × (d < 4) ⌝ }
         ensures { λ r. ⌜ r ≡ renewedOf (now (rows .entry)) (now (figures .entry)) m y d self ⌝ }
     {
         let marks = self.reasons;
         let price = self.prices[d];
-        let row = totals::part(rows, figures, marks, price, m, y, d);
+        let row = totals::part(rows, figures, list, marks, price, m, y, c, d);
         let sums = self.sums;
         self.sums = with_row(sums, row, y, d);
         self
     }
 
     // Every winner is revalued.
-    fn all_renewed(self, rows: &[u64], figures: &[u64], m: usize, y: usize) -> PotState
-        requires { ⌜ Valued (now rows) (now figures) m y ⌝ }
+    fn all_renewed(
+        self,
+        rows: &[u64],
+        figures: &[u64],
+        list: &[usize],
+        m: usize,
+        y: usize,
+        c: usize,
+    ) -> PotState
+        requires { ⌜ Valued (now rows) (now figures) m y × Listed (now rows) m (now list) c ⌝ }
         ensures { λ r. ⌜ r ≡ renewedTo (now (rows .entry)) (now (figures .entry)) m y self 4 ⌝ }
     {
         let mut t = self;
         let mut d: usize = 0;
-        while d < DELIVERIES {
-            t = t.renewed(rows, figures, m, y, d);
+        while d < names::MOST_DELIVERIES {
+            t = t.renewed(rows, figures, list, m, y, c, d);
             d += 1;
         }
         t
@@ -351,12 +363,14 @@ impl PotState {
         rows: &[u64],
         figures: &[u64],
         budgets: &[u64],
+        list: &[usize],
         m: usize,
         y: usize,
+        c: usize,
         set: [bool; 320],
         p: u64,
     ) -> PotState
-        requires { ⌜ Ready (now rows) (now figures) (now budgets) 0 m y ⌝ }
+        requires { ⌜ Ready (now rows) (now figures) (now budgets) 0 m y × Listed (now rows) m (now list) c ⌝ }
         ensures { λ r. ⌜ r ≡ tieOf (now (rows .entry)) (now (figures .entry)) (now (budgets .entry)) m y set p self ⌝ }
     {
         let marks = self.reasons;
@@ -364,12 +378,12 @@ impl PotState {
         let base = ties::bases(rows, figures, marks, prices, p, m, y);
         let rest = ties::rest(rows, figures, &base, budgets, set, p, m, y);
         let k = sets::count(rest, m);
-        if k > ties::WIDEST {
+        if k > names::WIDEST_TIE {
             return self.too_wide();
         }
         let wins = ties::choose(rows, figures, &base, budgets, rest, k, p, m, y);
         let t = self.shared(rows, m, set, wins, p);
-        t.all_renewed(rows, figures, m, y)
+        t.all_renewed(rows, figures, list, m, y, c)
     }
 
     // One live bid alone has the lowest live price: is it won, or turned down?
@@ -384,14 +398,14 @@ impl PotState {
         c: usize,
         l: Look,
     ) -> PotState
-        requires { ⌜ Ready (now rows) (now figures) (now budgets) 0 m y × Listed (now rows) m (now list) c × Others (now rows) m self × Looked (now rows) m self l × Summed (now rows) (now figures) m y self × (l .count ≡ 1) ⌝ }
-        ensures { λ r. ⌜ ((b : ℕ) → b ≤ m → Stepped (potIn (now (rows .entry)) (now (figures .entry)) (now (budgets .entry)) b m y) self r) × Summed (now (rows .entry)) (now (figures .entry)) m y r ⌝ }
+        requires { ⌜ Seen (now rows) (now figures) (now budgets) (now list) m y c self l × (l .count ≡ 1) ⌝ }
+        ensures { λ r. ⌜ Onward (now (rows .entry)) (now (figures .entry)) (now (budgets .entry)) m y self r ⌝ }
     {
         let i = l.last;
         let p = l.price;
         let d = sheet::year(rows, i);
         let u = self.win(rows, m, i, p);
-        let t = u.renewed(rows, figures, m, y, d);
+        let t = u.renewed(rows, figures, list, m, y, c, d);
         let sums = t.sums;
         if sums_fit(sums, budgets, y) {
             return t.settled();
@@ -399,27 +413,30 @@ impl PotState {
         self.alone(rows, list, m, c, i)
     }
 
-    // Several live bids have the lowest live price p.
+    // Several live bids have the lowest live price.
     fn several(
         self,
         rows: &[u64],
         figures: &[u64],
         budgets: &[u64],
+        list: &[usize],
         m: usize,
         y: usize,
-        p: u64,
+        c: usize,
+        l: Look,
     ) -> PotState
-        requires { ⌜ Ready (now rows) (now figures) (now budgets) 0 m y × Summed (now rows) (now figures) m y self × (p ≡ lowestOf (now rows) self m) × (length (members (takenOf (now rows) m self) m) ≡ 1 → ⊥) ⌝ }
-        ensures { λ r. ⌜ ((b : ℕ) → b ≤ m → Stepped (potIn (now (rows .entry)) (now (figures .entry)) (now (budgets .entry)) b m y) self r) × Summed (now (rows .entry)) (now (figures .entry)) m y r ⌝ }
+        requires { ⌜ Seen (now rows) (now figures) (now budgets) (now list) m y c self l × (l .count ≡ 1 → ⊥) ⌝ }
+        ensures { λ r. ⌜ Onward (now (rows .entry)) (now (figures .entry)) (now (budgets .entry)) m y self r ⌝ }
     {
+        let p = l.price;
         let set = self.taken(rows, m, p);
         let u = self.trial(rows, m, set, p);
-        let t = u.all_renewed(rows, figures, m, y);
+        let t = u.all_renewed(rows, figures, list, m, y, c);
         let sums = t.sums;
         if sums_fit(sums, budgets, y) {
             return t.settled();
         }
-        self.tie(rows, figures, budgets, m, y, set, p)
+        self.tie(rows, figures, budgets, list, m, y, c, set, p)
     }
 
     // One look at all live bids of the lowest live price.
@@ -434,14 +451,13 @@ impl PotState {
         c: usize,
         l: Look,
     ) -> PotState
-        requires { ⌜ Ready (now rows) (now figures) (now budgets) 0 m y × Listed (now rows) m (now list) c × Others (now rows) m self × Looked (now rows) m self l × Summed (now rows) (now figures) m y self ⌝ }
-        ensures { λ r. ⌜ ((b : ℕ) → b ≤ m → Stepped (potIn (now (rows .entry)) (now (figures .entry)) (now (budgets .entry)) b m y) self r) × Summed (now (rows .entry)) (now (figures .entry)) m y r ⌝ }
+        requires { ⌜ Seen (now rows) (now figures) (now budgets) (now list) m y c self l ⌝ }
+        ensures { λ r. ⌜ Onward (now (rows .entry)) (now (figures .entry)) (now (budgets .entry)) m y self r ⌝ }
     {
         if l.count == 1 {
             return self.sole(rows, figures, budgets, list, m, y, c, l);
         }
-        let p = l.price;
-        self.several(rows, figures, budgets, m, y, p)
+        self.several(rows, figures, budgets, list, m, y, c, l)
     }
 
     // Looks while a bid is live, and to the first tie that is too wide.

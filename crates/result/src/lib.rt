@@ -8,15 +8,12 @@ ghost use Rattle.rules.specs.Result.{appBytes, needed, resultBytes};
 ghost use Rattle.store.specs.Filled.{Filled};
 ghost use Rattle.result.specs.Tells.{Small, Counted, Tells};
 ghost use Rattle.result.specs.Told.{toldOf, appAt, size, potTold, potsTold, appsTold, bidsTold, roundTold};
+use names::MOST_DELIVERIES;
+use names::YEARS;
 use store::put;
 use store::put_all;
 
-// How many delivery years and years a pot's row of prices and of totals has places for.
-pub const DELIVERIES: usize = 4;
-
-pub const YEARS: usize = 8;
-
-// What is told of a round before it is bytes. The clearing price of pot p in delivery year k stands at p * DELIVERIES + k, its total in
+// What is told of a round before it is bytes. The clearing price of pot p in delivery year k stands at p * MOST_DELIVERIES + k, its total in
 // year y at p * YEARS + y. Of each application: whether it won, its bid, the reason of its automatic bid, the price paid. Of each bid: the reason.
 pub struct Tellings {
     pub outcomes: [u64; 4],
@@ -36,7 +33,7 @@ fn pot(s: &mut [u8], t: Tellings, p: usize, d: usize, y: usize)
 {
     put(s, 2, t.outcomes[p]);
     let prices = t.prices;
-    put_all(&mut s[2..], 4, &prices, p * DELIVERIES, d);
+    put_all(&mut s[2..], 4, &prices, p * MOST_DELIVERIES, d);
     let totals = t.totals;
     let at = 2 + 4 * d;
     put_all(&mut s[at..], 8, &totals, p * YEARS, y);

@@ -17,9 +17,9 @@ use Rattle.laws.specs.Bits.{add-lt}
 use Rattle.sets.specs.Sets.{fill, members}
 use Rattle.sets.proofs.Arrays.{put-is, fill-length, fill-at, zeros}
 use Rattle.sheet.specs.Sheet.{rowYear, rowDraw}
-use Rattle.totals.specs.Totals.{worthOf, totalOf, noRow, filled, fitsTo}
+use Rattle.totals.specs.Totals.{listed, worthOf, totalOf, noRow, filled, fitsTo}
 use Rattle.ties.specs.declared.Best.{Best}
-use Rattle.ties.specs.Ties.{raisedTo, baseAt, noBase, laidTo, aloneTotal, aloneFits, keepsOf, listed, compactOf, aboveOf, rankOf, startOf, ownAt, touchOf, touchedOf, bestOf, considered, bestMask, combinationOf, addedOf, oneAt, oneYearAt, jointOf, unionOf, okBy, lastBy, lookedAt, bestBy, ranksOf, startsOf, ownsOf, choiceAt, choiceOf}
+use Rattle.ties.specs.Ties.{raisedTo, baseAt, noBase, laidTo, aloneTotal, aloneFits, keepsOf, compactOf, aboveOf, rankOf, startOf, ownAt, touchOf, touchedOf, bestOf, considered, bestMask, combinationOf, addedOf, oneAt, oneYearAt, jointOf, unionOf, okBy, lastBy, lookedAt, bestBy, ranksOf, startsOf, ownsOf, choiceAt, choiceOf}
 
 -- ---- the present winners
 module _ (prices : List ℕ) (p t d : ℕ) {b : Bool} {row : List ℕ} (eb : b ≡ has t d) (er : row ≡ raisedTo prices p t d) where

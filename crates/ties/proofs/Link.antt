@@ -17,13 +17,13 @@ use Rattle.laws.specs.Tie.{tally-same, best-same, combination-in}
 use Rattle.sets.specs.Sets.{fill, none, built, members}
 use Rattle.sets.proofs.Arrays.{put-is, at-start, fill-at, members-built}
 use Rattle.sheet.specs.Sheet.{potIn, Ready, inAuction, rowYear, rowPrice, rowDraw}
-use Rattle.totals.specs.Totals.{Valued, worthOf, totalOf, fitsTo}
+use Rattle.totals.specs.Totals.{Valued, listed, worthOf, totalOf, fitsTo}
 use Rattle.totals.proofs.Link as link
 use Rattle.totals.proofs.Link.{Marked}
-use Rattle.ties.specs.Ties.{raisedTo, baseAt, noBase, basesOf, aloneTotal, aloneFits, keepsOf, listed, compactOf, aboveOf, rankOf, ranksOf, startOf, startsOf, ownAt, noOwn, ownsOf, Numbers, touchOf, touchedOf, maskTotal, figure, okMask, lastMask, bestMask, combinationOf, choiceAt, choiceOf}
+use Rattle.ties.specs.Ties.{raisedTo, baseAt, noBase, basesOf, aloneTotal, aloneFits, keepsOf, compactOf, aboveOf, rankOf, ranksOf, startOf, startsOf, ownAt, noOwn, ownsOf, Numbers, touchOf, touchedOf, maskTotal, figure, okMask, lastMask, bestMask, combinationOf, choiceAt, choiceOf}
 use Rattle.ties.proofs.Laws.{pow-low}
 use Rattle.ties.proofs.Halves.{touch-low}
-use Rattle.ties.proofs.Lists.{listed-is, numbers, rank-at, start-at, in-listed}
+use Rattle.ties.proofs.Lists.{listed-is, numbers, rank-at, start-at}
 use Rattle.ties.proofs.Sums.{sum-same, price-won, price-one, tally-split, tally-sum, Part, part-sift, part-in}
 
 -- ---- a row of prices that is raised

@@ -5,35 +5,24 @@ use mathlib.Core.Bool.{Bool, true, false}
 use mathlib.Core.Logic.{⊎-elim}
 use mathlib.Core.List.{List, [], _∷_}
 use native.Mathlib.Omega.{arith}
-use lib.ListN.{length, getD, set, length-set}
-use lib.Dec.{eqb, ltb}
-use borrow.Author.Tests.{eqb-true, eqb-false, eq-eqb, ne-eqb, ltb-true}
+use lib.ListN.{length, getD, length-set}
+use lib.Dec.{ltb}
+use borrow.Author.Tests.{ltb-true}
 use Rattle.rules.specs.Lists.{pick, sift, below}
-use Rattle.laws.specs.Lists.{case, In, here, there, sift-in, sift-le, below-in}
+use Rattle.laws.specs.Lists.{case, In, sift-in, sift-le, below-in}
 use Rattle.sets.specs.Sets.{fill, members}
-use Rattle.sets.proofs.Arrays.{put-is, fill-length, fill-at, fill-le, zeros, members-less}
+use Rattle.sets.proofs.Arrays.{fill-length, fill-at, fill-le, zeros, members-less}
 use Rattle.sheet.specs.Sheet.{rowYear, rowDraw}
-use Rattle.totals.specs.Totals.{Checked, Priced, Valued, dearest, worthOf, totalOf}
+use Rattle.totals.specs.Totals.{Checked, Priced, Valued, listed, dearest, worthOf, totalOf}
 use Rattle.totals.proofs.Laws.{worth-le, total-le}
-use Rattle.ties.specs.Ties.{raisedTo, baseAt, noBase, basesOf, Base, listed, noList, compactOf, aboveOf, rankOf, ranksOf, startOf, startsOf, ownAt, noOwn, ownsOf, Numbers, Summed, Placed}
+use Rattle.totals.proofs.Listed.{listed-more, listed-length, in-listed}
+use Rattle.ties.specs.Ties.{raisedTo, baseAt, noBase, basesOf, Base, noList, compactOf, aboveOf, rankOf, ranksOf, startOf, startsOf, ownAt, noOwn, ownsOf, Numbers, Summed, Placed}
 
 -- ---- the list of a set is its members
 compact-length : (l : List Bool) (n : ℕ) → length (compactOf l n) ≡ 10
 unfolding compactOf noList
 compact-length l zero = refl
 compact-length l (suc n) = case (getD l n false) (λ t. rw t (length-set (compactOf l n) (length (members l n)) n ∙ compact-length l n)) (λ f. rw f (compact-length l n))
-
--- a place past the first k does not matter
-listed-set : (a : List ℕ) (k i v : ℕ) → k ≤ i → i < length a → listed (set a i v) k ≡ listed a k
-unfolding listed
-listed-set a zero i v h g = refl
-listed-set a (suc k) i v h g =
-    rw (put-is a i k v 0 g, listed-set a k i v (omega arith) g, ne-eqb k i (λ e. let z : ⊥ = omega arith in z))
-
--- one more is written at the end
-listed-more : (a : List ℕ) (k v : ℕ) → k < length a → listed (set a k v) (suc k) ≡ v ∷ listed a k
-unfolding listed
-listed-more a k v h = rw (put-is a k k v 0 h, listed-set a k k v (omega arith) h, eq-eqb k k refl)
 
 members-hit : (l : List Bool) (n : ℕ) → getD l n false ≡ true → members l (suc n) ≡ n ∷ members l n
 unfolding members
@@ -57,16 +46,6 @@ listed-compact l (suc n) h =
     let e = members-hit l n t in
     rw (t, e) (listed-more (compactOf l n) (length (members l n)) n (omega (arith, compact-length l n, ap length e)) ∙ ap (λ (x : List ℕ). n ∷ x) ih))
     (λ f. rw (f, members-miss l n f) ih)
-
-pub listed-length : (a : List ℕ) (k : ℕ) → length (listed a k) ≡ k
-unfolding listed
-listed-length a zero = refl
-listed-length a (suc k) = ap suc (listed-length a k)
-
-pub in-listed : (a : List ℕ) (j k : ℕ) → j < k → In (getD a j 0) (listed a k)
-unfolding listed
-in-listed a j zero h = absurd (omega arith)
-in-listed a j (suc k) h = case (eqb j k) (λ t. rw (eqb-true j k t) (here refl)) (λ f. let d = eqb-false j k f in there (in-listed a j k (omega arith)))
 
 -- the numbers of the list
 module _ (l : List Bool) (m : ℕ) {k : ℕ} {list : List ℕ} (ek : k ≡ length (members l m)) (h : k ≤ 10) (el : list ≡ compactOf l m) where

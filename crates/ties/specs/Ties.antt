@@ -1,7 +1,7 @@
 -- What the functions of `ties` compute from a sheet and rows of numbers, and what they need. No rule of document 01 is stated here. Assumes nothing.
 use Prim.Native.Nat.{ℕ, zero, suc, _+_, _-_, _*_, _/_, _%_, _^_, _≤_, _<_}
 use mathlib.Core.Bool.{Bool, true, false, _&&_}
-use mathlib.Core.List.{List, [], _∷_}
+use mathlib.Core.List.{List}
 use mathlib.Core.Path.{_≡_}
 use lib.Bits.{bitOr}
 use lib.ListN.{length, getD, set, replicate}
@@ -10,7 +10,7 @@ use Rattle.rules.specs.Lists.{pick, sift}
 use Rattle.rules.specs.Pot.{has, best}
 use Rattle.sets.specs.Sets.{fill, none, members}
 use Rattle.sheet.specs.Sheet.{rowYear, rowDraw}
-use Rattle.totals.specs.Totals.{Priced, dearest, worthOf, totalOf, fitsTo}
+use Rattle.totals.specs.Totals.{Priced, listed, dearest, worthOf, totalOf, fitsTo}
 use Rattle.ties.specs.declared.Best.{Best}
 
 -- ---- the present winners, for each set t of delivery years, a number with one binary place for each
@@ -53,11 +53,6 @@ unfoldable pub keepsOf : (rows figures base budgets : List ℕ) (p y : ℕ) → 
 keepsOf rows figures base budgets p y l k = getD l k false && aloneFits rows figures base budgets p k y
 
 -- ---- the bids that remain, as a list of numbers
-
--- the first k of an array, the last first
-unfoldable pub listed : List ℕ → ℕ → List ℕ
-listed a zero = []
-listed a (suc k) = getD a k 0 ∷ listed a k
 
 unfoldable pub noList : List ℕ
 noList = replicate 10 0

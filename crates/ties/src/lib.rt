@@ -9,13 +9,9 @@ ghost use Rattle.rules.specs.Pot.{has};
 ghost use Rattle.sets.specs.Sets.{built, members};
 ghost use Rattle.totals.specs.Totals.{Checked, Valued, Priced, fitsTo};
 ghost use Rattle.ties.specs.Ties.{raisedTo, laidTo, basesOf, Base, aloneTotal, aloneFits, keepsOf, compactOf, aboveOf, ranksOf, startsOf, ownAt, ownsOf, Numbers, touchOf, touchedOf, bestMask, combinationOf, Summed, Placed, addedOf, onesOf, costsOf, oneYearsOf, yearsOf, jointOf, lookedAt, bestBy, Tabled, Dated, choiceOf};
+use names::YEARS;
 
-// The most bids that are searched.
-pub const WIDEST: usize = 10;
-
-// Years to a row of totals, and sets of delivery years.
-const YEARS: usize = 8;
-
+// The sets of delivery years.
 const SETS: usize = 16;
 
 // A combination's number has ten binary places, in two halves of five: so many numbers to a half.

@@ -144,19 +144,19 @@ row-none y h =
     blank : (i : ℕ) → getD noRow i 0 ≡ 0
     blank i = unfold noRow in zeros 8 i
 
--- bid i may be added to a row of totals of the bids before it
-pub adding : (rows figures : List ℕ) (m y i : ℕ) (f : ℕ → ℕ) {row : List ℕ} → Valued rows figures m y → i < m → row ≡ filled f y
-    → ((z : ℕ) → z < y → f z ≤ dearest * i) → Adding rows figures row i y
-adding rows figures m y i f {row} v h er low = record { years = v .years; priced = λ z g. v .priced i z h g; low = most }
+-- bid i may be added to a row of totals of n bids
+pub adding : (rows figures : List ℕ) (m y i n : ℕ) (f : ℕ → ℕ) {row : List ℕ} → Valued rows figures m y → i < m → n ≤ m → row ≡ filled f y
+    → ((z : ℕ) → z < y → f z ≤ dearest * n) → Adding rows figures row i y
+adding rows figures m y i n f {row} v h g er low = record { years = v .years; priced = λ z j. v .priced i z h j; low = most }
   where
     size : y ≤ 8 → y ≤ length noRow
     size g = unfold noRow in g
 
     at : (z : ℕ) → z < y → getD row z 0 ≡ f z
-    at z g = ap (λ (l : List ℕ). getD l z 0) er ∙ fill-at noRow f y z 0 (size (v .years)) g
+    at z j = ap (λ (l : List ℕ). getD l z 0) er ∙ fill-at noRow f y z 0 (size (v .years)) j
 
     most : (z : ℕ) → z < y → getD row z 0 ≤ dearest * 320
-    most z g = omega (arith, at z g, low z g, v .checked .few)
+    most z j = omega (arith, at z j, low z j, v .checked .few)
 
 -- the row of totals, one bid more
 module _ (rows figures marks prices : List ℕ) (i y : ℕ) where

@@ -1,14 +1,15 @@
 -- What the functions of `totals` compute from a sheet and rows of numbers, and what of the sheet they need. Assumes nothing.
 use Prim.Native.Nat.{ℕ, zero, suc, _+_, _*_, _≤_, _<_}
 use mathlib.Core.Bool.{Bool, true, _&&_}
-use mathlib.Core.List.{List}
+use mathlib.Core.List.{List, [], _∷_}
+use mathlib.Core.Path.{_≡_}
 use lib.ListN.{length, getD, replicate}
 use lib.Dec.{eqb, leb}
 use Rattle.rules.specs.Names.{mostBids, mostApps, mostYears, mostDeliveries, highestPrice, becauseWon}
 use Rattle.rules.specs.Lists.{pick, sift, below, sum}
 use Rattle.rules.specs.Value.{ceilDiv, pound}
 use Rattle.sets.specs.Sets.{fill}
-use Rattle.sheet.specs.Sheet.{rowApp, rowYear, rowPrice, rowCap, figReference, figEnergy, figShare, sheetCost, inTest, mostEnergy, mostShare}
+use Rattle.sheet.specs.Sheet.{rowApp, rowYear, rowPrice, rowCap, figReference, figEnergy, figShare, sheetCost, inAuction, inTest, mostEnergy, mostShare}
 
 -- ---- what has been seen to: of the rows of m bids; of the figures of a bid in a year; of the figures of m bids in y years
 pub record Checked (rows : List ℕ) (m : ℕ) : Type 0 where
@@ -33,6 +34,18 @@ pub record Valued (rows figures : List ℕ) (m y : ℕ) : Type 0 where
   pub years : y ≤ mostYears
   pub priced : (k z : ℕ) → k < m → z < y → Priced rows figures k z
 
+-- ---- the bids that entered the auction, as a list of numbers
+
+-- the first k of an array, the last first
+unfoldable pub listed : List ℕ → ℕ → List ℕ
+listed a zero = []
+listed a (suc k) = getD a k 0 ∷ listed a k
+
+-- the first c of the list are the bids that entered
+pub record Listed (rows : List ℕ) (m : ℕ) (list : List ℕ) (c : ℕ) : Type 0 where
+  pub room : c ≤ length list
+  pub bids : listed list c ≡ sift (inAuction rows) (below m)
+
 -- ---- values and totals
 
 -- the greatest value of a bid
@@ -52,11 +65,14 @@ unfoldable pub totalOf : (rows figures marks prices : List ℕ) (z n : ℕ) → 
 totalOf rows figures marks prices z zero = 0
 totalOf rows figures marks prices z (suc i) = totalOf rows figures marks prices z i + pick (eqb (getD marks i 0) becauseWon) (costOf rows figures prices z i) 0
 
--- of these the ones that start in year d, all at one price
+-- of a list of bids those that are marked as won and start in year d, all at one price; and of the bids below n that entered the auction
+unfoldable pub partOn : (rows figures marks : List ℕ) (price d z : ℕ) → List ℕ → ℕ
+partOn rows figures marks price d z [] = 0
+partOn rows figures marks price d z (i ∷ l) =
+    partOn rows figures marks price d z l + pick (eqb (getD marks i 0) becauseWon && eqb (rowYear rows i) d) (worthOf rows figures i price z) 0
+
 unfoldable pub partOf : (rows figures marks : List ℕ) (price d z n : ℕ) → ℕ
-partOf rows figures marks price d z zero = 0
-partOf rows figures marks price d z (suc i) =
-    partOf rows figures marks price d z i + pick (eqb (getD marks i 0) becauseWon && eqb (rowYear rows i) d) (worthOf rows figures i price z) 0
+partOf rows figures marks price d z n = partOn rows figures marks price d z (sift (inAuction rows) (below n))
 
 -- a row of 8 places, the first n filled
 unfoldable pub noRow : List ℕ

@@ -1,13 +1,10 @@
 // What bids cost on the sheet of a pot: the value of one of them in a year, the year totals of those that have won, whether these fit, and the
 // totals of the first test. specs/Totals.antt says what each function computes.
 ghost use mathlib.Core.Path.{_≡_};
-ghost use mathlib.Core.Bool.{_&&_};
 ghost use Prim.Native.Nat.{_+_, _*_, _≤_, _<_};
 ghost use lib.ListN.{length};
-ghost use lib.Dec.{eqb};
-ghost use Rattle.rules.specs.Names.{becauseWon};
 ghost use Rattle.sheet.specs.Sheet.{inTest};
-ghost use Rattle.totals.specs.Totals.{Checked, Valued, Priced, Adding, dearest, worthOf, totalOf, partOf, filled, raised, rowFits, autoTotal};
+ghost use Rattle.totals.specs.Totals.{Checked, Valued, Priced, Adding, Listed, dearest, worthOf, totalOf, partOf, filled, raised, rowFits, autoTotal};
 
 // The mark of a bid that has won.
 pub const WON: u16 = 1;
@@ -69,34 +66,33 @@ pub fn revalued(
     row
 }
 
-// Has a bid, by its mark and the year in which it starts, won in year d?
-fn won_in(mark: u16, start: usize, d: usize) -> bool
-    ensures { λ r. ⌜ r ≡ (eqb mark becauseWon && eqb start d) ⌝ }
-{
-    if mark == WON { start == d } else { false }
-}
-
-// The winners that start in year d, all at one price: their row of year totals.
+// Of the bids that entered the auction, the first c of a list, the winners that start in year d, all at one price: their row of year totals.
 pub fn part(
     rows: &[u64],
     figures: &[u64],
+    list: &[usize],
     marks: [u16; 320],
     price: u64,
     m: usize,
     y: usize,
+    c: usize,
     d: usize,
 ) -> [u64; 8]
-    requires { ⌜ Valued (now rows) (now figures) m y ⌝ }
+    requires { ⌜ Valued (now rows) (now figures) m y × Listed (now rows) m (now list) c ⌝ }
     ensures { λ r. ⌜ r ≡ filled (λ z. partOf (now (rows .entry)) (now (figures .entry)) marks price d z m) y ⌝ }
 {
     let mut row = [0u64; 8];
-    let mut i: usize = 0;
-    while i < m {
-        if won_in(marks[i], sheet::year(rows, i), d) {
-            let next = added(rows, figures, price, row, i, y);
-            row = next;
+    let mut j: usize = 0;
+    while j < c {
+        let i = list[j];
+        // The year is read of winners alone.
+        if marks[i] == WON {
+            if sheet::year(rows, i) == d {
+                let next = added(rows, figures, price, row, i, y);
+                row = next;
+            }
         }
-        i += 1;
+        j += 1;
     }
     row
 }

@@ -7,7 +7,7 @@ use mathlib.Core.Logic.{⊎-elim}
 use lib.ListN.{length}
 use Rattle.rules.specs.Lists.{sift, below}
 use Rattle.sheet.specs.Sheet.{inAuction}
-use Rattle.ties.specs.Ties.{listed}
+use Rattle.totals.specs.Totals.{listed}
 use Rattle.pot.proofs.Seen.{entered-hit, entered-miss, entered-done}
 use Rattle.pot.proofs.entered.Statement.{statement}
 use Rattle.pot.proofs.entered.Tie as tie

@@ -5,7 +5,8 @@ use Prim.Native.Nat.{_≤_, _-_}
 use mathlib.Core.Path.{_≡_, _∙_}
 use mathlib.Core.Logic.{⊎-elim}
 use Rattle.sets.proofs.Laws.{done}
-use Rattle.ties.specs.Ties.{listed, aboveOf}
+use Rattle.totals.specs.Totals.{listed}
+use Rattle.ties.specs.Ties.{aboveOf}
 use Rattle.ties.proofs.Laws.{above-hit, above-miss}
 use Rattle.ties.proofs.above.Statement.{statement}
 use Rattle.ties.proofs.above.Tie as tie

@@ -37,7 +37,7 @@ added-requires : tie.Need-added-requires Inv-loop μ-loop
 added-requires c κs =
     let v = c .before .before .before .before .before .before .pre in
     let inv = c .before .before .before .loop .inv in
-    adding _ _ _ _ _ _ v (c .before .before .loop-test .taken) (inv .1) (λ z h. total-le _ _ _ _ _ _ z _ v h (inv .0))
+    adding _ _ _ _ _ _ _ v (c .before .before .loop-test .taken) (inv .0) (inv .1) (λ z h. total-le _ _ _ _ _ _ z _ v h (inv .0))
 
 loop-again : tie.Need-loop-again Inv-loop μ-loop
 loop-again c =

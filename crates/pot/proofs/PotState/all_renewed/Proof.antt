@@ -10,10 +10,10 @@ use Rattle.pot.proofs.PotState.all_renewed.Statement.{statement}
 use Rattle.pot.proofs.PotState.all_renewed.Tie as tie
 
 abbrev Inv-loop : tie.InvT-loop
-Inv-loop rows figures m y t₀ d₀ t d = (d ≤ 4) × (t ≡ renewedTo rows figures m y t₀ d)
+Inv-loop rows figures list m y c t₀ d₀ t d = (d ≤ 4) × (t ≡ renewedTo rows figures m y t₀ d)
 
 abbrev μ-loop : tie.MeasureT-loop
-μ-loop rows figures m y t₀ d₀ t d = 4 - d
+μ-loop rows figures list m y c t₀ d₀ t d = 4 - d
 
 loop-holds : tie.Need-loop-holds Inv-loop μ-loop
 unfolding renewedTo

@@ -5,10 +5,11 @@ use Prim.Native.Nat.{_≤_, _-_}
 use mathlib.Core.Path.{_≡_, _∙_}
 use mathlib.Core.Logic.{⊎-elim}
 use Rattle.rules.specs.Lists.{sift}
-use Rattle.ties.specs.Ties.{listed}
+use Rattle.totals.specs.Totals.{listed}
+use Rattle.totals.proofs.Listed.{listed-small, listed-few}
 use Rattle.pot.specs.Marks.{liveOf, lookOf}
 use Rattle.pot.proofs.Laws.{app-ok, year-ok, live-is}
-use Rattle.pot.proofs.Seen.{listed-small, listed-few, pass-hit, pass-miss, pass-few, pass-looked}
+use Rattle.pot.proofs.Seen.{pass-hit, pass-miss, pass-few, pass-looked}
 use Rattle.pot.proofs.PotState.look.Statement.{statement}
 use Rattle.pot.proofs.PotState.look.Tie as tie
 
@@ -51,10 +52,11 @@ joined-requires c κs = omega (arith, pass-few _ _ _ _ (c .before .before .befor
 
 loop-again : tie.Need-loop-again Inv-loop μ-loop
 loop-again c =
-    let inv = c .before .before .before .before .before .before .before .before .before .loop .inv .1 in
-    (omega arith,
-    let alive = live-is _ _ _ (c .before .before .before .before .before .before .app .ensures) (c .before .before .before .before .before .year .ensures) (c .before .live .ensures) in
-    ⊎-elim (λ w. w .3 ∙ pass-hit _ _ _ _ inv alive (w .0 .taken) (w .1 .ensures) (w .2 .ensures)) (λ w. w .1 ∙ pass-miss _ _ _ _ inv alive (w .0 .left)) (c .if1 .came))
+    let inv = c .before .before .before .before .before .before .before .before .before .loop .inv .1 in (
+      omega arith,
+      let alive = live-is _ _ _ (c .before .before .before .before .before .before .app .ensures) (c .before .before .before .before .before .year .ensures) (c .before .live .ensures) in
+          ⊎-elim (λ w. w .3 ∙ pass-hit _ _ _ _ inv alive (w .0 .taken) (w .1 .ensures) (w .2 .ensures)) (λ w. w .1 ∙ pass-miss _ _ _ _ inv alive (w .0 .left)) (c .if1 .came),
+    )
 
 returns : tie.Need-returns Inv-loop μ-loop
 returns c = pass-looked _ _ _ (c .before .before .before .before .pre .0) (c .before .before .before .before .pre .1) (c .before .before .before .before .pre .2) (c .before .loop .inv .1) (c .before .loop .inv .0) (c .loop-test .left)

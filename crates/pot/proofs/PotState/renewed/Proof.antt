@@ -5,10 +5,10 @@ use Rattle.pot.proofs.PotState.renewed.Statement.{statement}
 use Rattle.pot.proofs.PotState.renewed.Tie as tie
 
 part-requires : tie.Need-part-requires
-part-requires c κs = c .before .before .before .before .pre .0
+part-requires c κs = let pre = c .before .before .before .before .before .pre in (pre .0, pre .1)
 
 with-row-requires : tie.Need-with-row-requires
-with-row-requires c κs = (c .before .before .before .before .before .before .pre .0 .years, c .before .before .before .before .before .before .pre .1)
+with-row-requires c κs = let pre = c .before .before .before .before .before .before .before .pre in (pre .0 .years, pre .2)
 
 returns : tie.Need-returns
 returns c = renewed-is _ _ _ _ _ _ (c .before .before .part .ensures) (c .with-row .ensures)

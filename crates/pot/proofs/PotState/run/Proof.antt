@@ -30,31 +30,31 @@ step-requires : tie.Need-step-requires Inv-loop μ-loop
 step-requires c κs =
     let pre = c .before .before .before .before .before .before .before .before .pre in
     let inv = c .before .before .loop .inv in
-    (pre .0, pre .1, run-others _ _ _ 0 _ _ (pre .0) _ (inv .0 0 (omega arith)) (inv .1), inv .2, inv .3)
+    record { ready = pre .0; listed = pre .1; others = run-others _ _ _ 0 _ _ (pre .0) _ (inv .0 0 (omega arith)) (inv .1); looked = inv .2; summed = inv .3 }
 
 returns : tie.Need-returns Inv-loop μ-loop
 returns c =
     let pre = c .before .before .before .before .before .before .before .before .before .before .pre in
     let inv = c .before .before .before .before .loop .inv in
-    λ b h. run-wide _ _ _ b _ _ (ready-at b h (pre .0)) _ (run-again _ _ _ b _ _ (ready-at b h (pre .0)) _ (inv .0 b h) (inv .1) (inv .2 .price) (c .before .before .if1 .taken) (c .before .step .ensures .0 b h)) (c .if2 .taken)
+    λ b h. run-wide _ _ _ b _ _ (ready-at b h (pre .0)) _ (run-again _ _ _ b _ _ (ready-at b h (pre .0)) _ (inv .0 b h) (inv .1) (inv .2 .price) (c .before .before .if1 .taken) (c .before .step .ensures .stepped b h)) (c .if2 .taken)
 
 look-requires-2 : tie.Need-look-requires-2 Inv-loop μ-loop
 look-requires-2 c κs =
     let pre = c .before .before .before .before .before .before .before .before .before .before .pre in
     let inv = c .before .before .before .before .loop .inv in
-    let next = run-again _ _ _ 0 _ _ (pre .0) _ (inv .0 0 (omega arith)) (inv .1) (inv .2 .price) (c .before .before .if1 .taken) (c .before .step .ensures .0 0 (omega arith)) in
+    let next = run-again _ _ _ 0 _ _ (pre .0) _ (inv .0 0 (omega arith)) (inv .1) (inv .2 .price) (c .before .before .if1 .taken) (c .before .step .ensures .stepped 0 (omega arith)) in
     (link.checked _ _ _ _ _ _ (pre .0), pre .1, run-others _ _ _ 0 _ _ (pre .0) _ next (c .if2 .left))
 
 loop-less : tie.Need-loop-less Inv-loop μ-loop
 loop-less c =
     let inv = c .before .before .before .before .before .loop .inv in
-    run-less _ _ _ 0 _ _ (c .before .before .before .before .before .before .before .before .before .before .before .pre .0) _ (inv .0 0 (omega arith)) (inv .1) (inv .2 .price) (c .before .before .before .if1 .taken) (c .before .before .step .ensures .0 0 (omega arith)) (c .before .if2 .left)
+    run-less _ _ _ 0 _ _ (c .before .before .before .before .before .before .before .before .before .before .before .pre .0) _ (inv .0 0 (omega arith)) (inv .1) (inv .2 .price) (c .before .before .before .if1 .taken) (c .before .before .step .ensures .stepped 0 (omega arith)) (c .before .if2 .left)
 
 loop-again : tie.Need-loop-again Inv-loop μ-loop
 loop-again c =
     let pre = c .before .before .before .before .before .before .before .before .before .before .before .pre in
     let inv = c .before .before .before .before .before .loop .inv in
-    ((λ b h. run-again _ _ _ b _ _ (ready-at b h (pre .0)) _ (inv .0 b h) (inv .1) (inv .2 .price) (c .before .before .before .if1 .taken) (c .before .before .step .ensures .0 b h)), c .before .if2 .left, c .look2 .ensures, c .before .before .step .ensures .1)
+    ((λ b h. run-again _ _ _ b _ _ (ready-at b h (pre .0)) _ (inv .0 b h) (inv .1) (inv .2 .price) (c .before .before .before .if1 .taken) (c .before .before .step .ensures .stepped b h)), c .before .if2 .left, c .look2 .ensures, c .before .before .step .ensures .summed)
 
 returns-2 : tie.Need-returns-2 Inv-loop μ-loop
 returns-2 c =

@@ -10,45 +10,45 @@ use Rattle.pot.proofs.PotState.sole.Statement.{statement}
 use Rattle.pot.proofs.PotState.sole.Tie as tie
 
 year-requires : tie.Need-year-requires
-year-requires c κs = let pre = c .before .before .before .before .pre in omega (arith, sole-small (link.checked _ _ _ _ _ _ (pre .0)) (pre .3) (pre .5), pre .0 .rows-whole)
+year-requires c κs = let pre = c .before .before .before .before .pre in omega (arith, sole-small (link.checked _ _ _ _ _ _ (pre .0 .ready)) (pre .0 .looked) (pre .1), pre .0 .ready .rows-whole)
 
 win-requires : tie.Need-win-requires
-win-requires c κs = let pre = c .before .before .before .before .before .pre in let ok = link.checked _ _ _ _ _ _ (pre .0) in (ok, sole-small ok (pre .3) (pre .5))
+win-requires c κs = let pre = c .before .before .before .before .before .pre in let ok = link.checked _ _ _ _ _ _ (pre .0 .ready) in (ok, sole-small ok (pre .0 .looked) (pre .1))
 
 renewed-requires : tie.Need-renewed-requires
 renewed-requires c κs =
     let pre = c .before .before .before .before .before .before .pre in
-    let ok = link.checked _ _ _ _ _ _ (pre .0) in
-    (link.valued _ _ _ _ _ _ (pre .0), year-ok _ ok (sole-small ok (pre .3) (pre .5)) (c .before .year .ensures))
+    let ok = link.checked _ _ _ _ _ _ (pre .0 .ready) in
+    (link.valued _ _ _ _ _ _ (pre .0 .ready), pre .0 .listed, year-ok _ ok (sole-small ok (pre .0 .looked) (pre .1)) (c .before .year .ensures))
 
 sums-fit-requires : tie.Need-sums-fit-requires
 sums-fit-requires c κs =
     let pre = c .before .before .before .before .before .before .before .before .pre in
-    let small = sole-small (link.checked _ _ _ _ _ _ (pre .0)) (pre .3) (pre .5) in
-    let right = summed-win _ _ _ _ _ _ _ (pre .0 .years) (pre .0 .year _ small) (c .before .before .before .year .ensures) (c .before .before .win .ensures) (c .before .renewed .ensures) (pre .4) in
-    (pre .0 .years, pre .0 .budgets-whole, λ z h. sum-most right z h (link.valued _ _ _ _ _ _ (pre .0)))
+    let small = sole-small (link.checked _ _ _ _ _ _ (pre .0 .ready)) (pre .0 .looked) (pre .1) in
+    let right = summed-win _ _ _ _ _ _ _ (pre .0 .ready .years) (pre .0 .ready .year _ small) (c .before .before .before .year .ensures) (c .before .before .win .ensures) (c .before .renewed .ensures) (pre .0 .summed) in
+    (pre .0 .ready .years, pre .0 .ready .budgets-whole, λ z h. sum-most right z h (link.valued _ _ _ _ _ _ (pre .0 .ready)))
 
 returns : tie.Need-returns
 returns c =
     let pre = c .before .before .before .before .before .before .before .before .before .before .before .pre in
-    let small = sole-small (link.checked _ _ _ _ _ _ (pre .0)) (pre .3) (pre .5) in
-    let right = summed-win _ _ _ _ _ _ _ (pre .0 .years) (pre .0 .year _ small) (c .before .before .before .before .before .before .year .ensures) (c .before .before .before .before .before .win .ensures) (c .before .before .before .before .renewed .ensures) (pre .4) in (
-      step-fits _ _ _ _ _ (pre .0) _ _ (pre .3 .price) (one-tried (pre .3) (pre .5) _ _ _ (c .before .before .before .before .before .win .ensures) (c .before .before .before .before .renewed .ensures)) right (c .before .before .sums-fit .ensures) (c .before .if1 .taken) (c .settled .ensures),
-      summed-settled _ _ _ _ (c .settled .ensures) right,
-    )
+    let small = sole-small (link.checked _ _ _ _ _ _ (pre .0 .ready)) (pre .0 .looked) (pre .1) in
+    let right = summed-win _ _ _ _ _ _ _ (pre .0 .ready .years) (pre .0 .ready .year _ small) (c .before .before .before .before .before .before .year .ensures) (c .before .before .before .before .before .win .ensures) (c .before .before .before .before .renewed .ensures) (pre .0 .summed) in record {
+      stepped = step-fits _ _ _ _ _ (pre .0 .ready) _ _ (pre .0 .looked .price) (one-tried (pre .0 .looked) (pre .1) _ _ _ (c .before .before .before .before .before .win .ensures) (c .before .before .before .before .renewed .ensures)) right (c .before .before .sums-fit .ensures) (c .before .if1 .taken) (c .settled .ensures);
+      summed = summed-settled _ _ _ _ (c .settled .ensures) right;
+    }
 
 alone-requires : tie.Need-alone-requires
-alone-requires c κs = let pre = c .before .before .before .before .before .before .before .before .before .before .pre in let ok = link.checked _ _ _ _ _ _ (pre .0) in (ok, sole-small ok (pre .3) (pre .5), pre .1, pre .2)
+alone-requires c κs = let pre = c .before .before .before .before .before .before .before .before .before .before .pre in let ok = link.checked _ _ _ _ _ _ (pre .0 .ready) in (ok, sole-small ok (pre .0 .looked) (pre .1), pre .0 .listed, pre .0 .others)
 
 returns-2 : tie.Need-returns-2
 returns-2 c =
     let pre = c .before .before .before .before .before .before .before .before .before .before .before .pre in
-    let ok = link.checked _ _ _ _ _ _ (pre .0) in
-    let small = sole-small ok (pre .3) (pre .5) in
-    let right = summed-win _ _ _ _ _ _ _ (pre .0 .years) (pre .0 .year _ small) (c .before .before .before .before .before .before .year .ensures) (c .before .before .before .before .before .win .ensures) (c .before .before .before .before .renewed .ensures) (pre .4) in (
-      step-alone _ _ _ _ _ (pre .0) _ _ (pre .3 .price) (one-tried (pre .3) (pre .5) _ _ _ (c .before .before .before .before .before .win .ensures) (c .before .before .before .before .renewed .ensures)) right (c .before .before .sums-fit .ensures) (c .before .if1 .left) (one-taken (pre .3) (pre .5)) (c .alone .ensures),
-      summed-alone _ _ _ _ _ (c .alone .ensures) (sole-fresh ok (pre .3) (pre .5)) (pre .4),
-    )
+    let ok = link.checked _ _ _ _ _ _ (pre .0 .ready) in
+    let small = sole-small ok (pre .0 .looked) (pre .1) in
+    let right = summed-win _ _ _ _ _ _ _ (pre .0 .ready .years) (pre .0 .ready .year _ small) (c .before .before .before .before .before .before .year .ensures) (c .before .before .before .before .before .win .ensures) (c .before .before .before .before .renewed .ensures) (pre .0 .summed) in record {
+      stepped = step-alone _ _ _ _ _ (pre .0 .ready) _ _ (pre .0 .looked .price) (one-tried (pre .0 .looked) (pre .1) _ _ _ (c .before .before .before .before .before .win .ensures) (c .before .before .before .before .renewed .ensures)) right (c .before .before .sums-fit .ensures) (c .before .if1 .left) (one-taken (pre .0 .looked) (pre .1)) (c .alone .ensures);
+      summed = summed-alone _ _ _ _ _ (c .alone .ensures) (sole-fresh ok (pre .0 .looked) (pre .1)) (pre .0 .summed);
+    }
 
 pub sole-spec : {M : Type 1} → statement M
 sole-spec =

@@ -1,16 +1,15 @@
 -- `pot::PotState::step` meets its contract.
-use mathlib.Core.Path.{_∙_}
 use Rattle.pot.proofs.PotState.step.Statement.{statement}
 use Rattle.pot.proofs.PotState.step.Tie as tie
 
 sole-requires : tie.Need-sole-requires
-sole-requires c κs = let pre = c .before .before .before .before .before .before .pre in (pre .0, pre .1, pre .2, pre .3, pre .4, c .if1 .taken)
+sole-requires c κs = (c .before .before .before .before .before .before .pre, c .if1 .taken)
 
 returns : tie.Need-returns
 returns c = c .sole .ensures
 
 several-requires : tie.Need-several-requires
-several-requires c κs = let pre = c .before .before .before .before .before .before .pre in (pre .0, pre .4, pre .3 .price, λ e. c .if1 .left (pre .3 .count ∙ e))
+several-requires c κs = let pre = c .before .before .before .before .before .before .pre in (pre, c .if1 .left)
 
 returns-2 : tie.Need-returns-2
 returns-2 c = c .several .ensures

@@ -7,25 +7,25 @@ use Rattle.pot.proofs.PotState.tie.Statement.{statement}
 use Rattle.pot.proofs.PotState.tie.Tie as tie
 
 bases-requires : tie.Need-bases-requires
-bases-requires c κs = link.valued _ _ _ _ _ _ (c .before .before .before .before .before .pre)
+bases-requires c κs = link.valued _ _ _ _ _ _ (c .before .before .before .before .before .before .pre .0)
 
 rest-requires : tie.Need-rest-requires
-rest-requires c κs = ((link.valued _ _ _ _ _ _ (c .before .before .before .before .before .before .before .pre)), (base-ok _ _ _ _ _ _ _ (link.valued _ _ _ _ _ _ (c .before .before .before .before .before .before .before .pre)) (c .before .bases .ensures)), c .before .before .before .before .before .before .before .pre .budgets-whole)
+rest-requires c κs = ((link.valued _ _ _ _ _ _ (c .before .before .before .before .before .before .before .before .pre .0)), (base-ok _ _ _ _ _ _ _ (link.valued _ _ _ _ _ _ (c .before .before .before .before .before .before .before .before .pre .0)) (c .before .bases .ensures)), c .before .before .before .before .before .before .before .before .pre .0 .budgets-whole)
 
 count-requires : tie.Need-count-requires
-count-requires c κs = c .before .before .before .before .before .before .before .before .pre .few
+count-requires c κs = c .before .before .before .before .before .before .before .before .before .pre .0 .few
 
 returns : tie.Need-returns
 returns c = tie-wide _ _ _ _ _ _ _ _ (c .before .before .before .before .before .bases .ensures) (c .before .before .before .rest .ensures) (c .before .before .count .ensures) (c .before .if1 .taken) (c .too-wide .ensures)
 
 choose-requires : tie.Need-choose-requires
-choose-requires c κs = (((link.valued _ _ _ _ _ _ (c .before .before .before .before .before .before .before .before .before .before .before .pre)), (base-ok _ _ _ _ _ _ _ (link.valued _ _ _ _ _ _ (c .before .before .before .before .before .before .before .before .before .before .before .pre)) (c .before .before .before .before .before .bases .ensures)), c .before .before .before .before .before .before .before .before .before .before .before .pre .some, c .before .before .before .before .before .before .before .before .before .before .before .pre .budgets-whole), (c .before .before .count .ensures, c .before .if1 .left))
+choose-requires c κs = (((link.valued _ _ _ _ _ _ (c .before .before .before .before .before .before .before .before .before .before .before .before .pre .0)), (base-ok _ _ _ _ _ _ _ (link.valued _ _ _ _ _ _ (c .before .before .before .before .before .before .before .before .before .before .before .before .pre .0)) (c .before .before .before .before .before .bases .ensures)), c .before .before .before .before .before .before .before .before .before .before .before .before .pre .0 .some, c .before .before .before .before .before .before .before .before .before .before .before .before .pre .0 .budgets-whole), (c .before .before .count .ensures, c .before .if1 .left))
 
 shared-requires : tie.Need-shared-requires
-shared-requires c κs = link.checked _ _ _ _ _ _ (c .before .before .before .before .before .before .before .before .before .before .before .before .pre)
+shared-requires c κs = link.checked _ _ _ _ _ _ (c .before .before .before .before .before .before .before .before .before .before .before .before .before .pre .0)
 
 all-renewed-requires : tie.Need-all-renewed-requires
-all-renewed-requires c κs = link.valued _ _ _ _ _ _ (c .before .before .before .before .before .before .before .before .before .before .before .before .before .pre)
+all-renewed-requires c κs = let pre = c .before .before .before .before .before .before .before .before .before .before .before .before .before .before .pre in (link.valued _ _ _ _ _ _ (pre .0), pre .1)
 
 returns-2 : tie.Need-returns-2
 returns-2 c = tie-shared _ _ _ _ _ _ _ _ (c .before .before .before .before .before .before .before .before .bases .ensures) (c .before .before .before .before .before .before .rest .ensures) (c .before .before .before .before .before .count .ensures) (c .before .before .before .before .if1 .left) (c .before .before .choose .ensures) (c .before .shared .ensures) (c .all-renewed .ensures)
