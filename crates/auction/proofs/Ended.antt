@@ -1,24 +1,22 @@
 -- What is told of a pot from its arrays is what the rules tell of it. Assumes nothing.
-use Prim.Native.Nat.{ℕ, zero, suc, _+_, _≤_, _<_, min}
-use mathlib.Core.Path.{_≡_, refl, sym, ap, ap₂, _∙_}
-use mathlib.Core.Bool.{Bool, true, false, not, _&&_}
+use Prim.Native.Nat.{ℕ, zero, suc, _≤_, _<_, min}
+use mathlib.Core.Path.{_≡_, refl, sym, ap, _∙_}
+use mathlib.Core.Bool.{Bool, true, false, _&&_}
 use mathlib.Core.List.{List, [], _∷_, map}
 use native.Mathlib.Omega.{arith}
-use lib.ListN.{length, getD, set, replicate, length-set}
-use lib.Dec.{eqb, ltb}
-use borrow.Author.Tests.{eqb-true, eqb-false, eq-eqb, ne-eqb, lt-ltb, le-ltb}
-use Rattle.rules.specs.Names.{noPrice, noBid, noReason, becauseWon, mostApps, mostDeliveries}
+use lib.ListN.{length, getD, replicate, length-set}
+use lib.Dec.{eqb}
+use borrow.Author.Tests.{lt-ltb, le-ltb}
+use Rattle.rules.specs.Names.{noPrice, noBid, becauseWon, mostApps}
 use Rattle.rules.specs.Lists.{pick, memb, sift, below}
-use Rattle.rules.specs.Pot.{Pot, Trace, winners, seen, mark, priceFrom, clearing, total, auction, wideEnd, adminTotal, adminFits, outcome, priceIn, totalIn, paid, unlookedReason, auctionReason, reason, winnersOf}
-use Rattle.laws.specs.Lists.{case, clash, In, here, there, in-memb, memb-in, sift-in, sift-same, sift-both, below-in}
+use Rattle.rules.specs.Pot.{Pot, winners, seen, priceFrom, clearing, total, auction, wideEnd, adminFits, outcome, priceIn, totalIn, paid, unlookedReason, auctionReason, reason, winnersOf}
+use Rattle.laws.specs.Lists.{case, clash, In, here, memb-in, sift-in, sift-same, sift-both, below-in}
 use Rattle.sheet.specs.Sheet.{rowApp, rowYear, rowCap, inAuction, potIn, Ready}
-use Rattle.sets.specs.Sets.{fill}
 use Rattle.sets.proofs.Arrays.{eqb-sym, put-is, at-start, fill-at}
 use Rattle.totals.specs.Totals.{totalOf, filled, rowFits, autoTotal}
 use Rattle.totals.proofs.Link as link
 use Rattle.ties.proofs.Sums.{price-won}
 use Rattle.pot.specs.declared.PotState.{PotState}
-use Rattle.pot.specs.Marks.{notHere}
 use Rattle.pot.specs.Rep.{Rep, Stands}
 use Rattle.pot.proofs.Link as held
 use Rattle.auction.specs.declared.Cleared.{Cleared}

@@ -1,15 +1,13 @@
 -- Laws over plain variables: each answers one need of a proof. Assumes nothing.
-use Prim.Native.Nat.{ℕ, zero, suc, _+_, _*_, _≤_, _<_, min}
-use mathlib.Core.Path.{_≡_, refl, sym, ap, ap₂, _∙_}
+use Prim.Native.Nat.{ℕ, _+_, _*_, _≤_, _<_, min}
+use mathlib.Core.Path.{_≡_, ap, ap₂, _∙_}
 use mathlib.Core.Bool.{Bool, true, false}
 use mathlib.Core.List.{List}
 use native.Mathlib.Omega.{arith}
 use native.Mathlib.Numerals.{add-one}
 use lib.ListN.{length, getD, set}
-use lib.Dec.{eqb, ltb}
 use borrow.Author.Tests.{eq-eqb, ne-eqb, lt-ltb, le-ltb}
 use Rattle.rules.specs.Names.{becauseWon}
-use Rattle.rules.specs.Lists.{pick}
 use Rattle.sheet.specs.Sheet.{rowApp, rowYear, rowCap}
 use Rattle.totals.specs.Totals.{Checked}
 use Rattle.pot.specs.declared.PotState.{PotState}

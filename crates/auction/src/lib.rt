@@ -1,10 +1,7 @@
 // The clearing of one pot: the first test, the auction, and what is told of the pot. specs/Cleared.antt says what it is in the words of the rules,
 // specs/Numbers.antt what each function computes.
 ghost use mathlib.Core.Path.{_≡_};
-ghost use mathlib.Core.Bool.{Bool, false};
-ghost use Prim.Native.Nat.{_+_, _*_, _≤_, _<_, min};
-ghost use lib.ListN.{length, getD};
-ghost use Rattle.sets.specs.Sets.{fill};
+ghost use Prim.Native.Nat.{_+_, _<_};
 ghost use Rattle.totals.specs.Totals.{Checked, Valued, totalOf, filled};
 use pot::PotState;
 ghost use Rattle.sheet.specs.Sheet.{potIn, Ready};

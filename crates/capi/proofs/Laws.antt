@@ -1,6 +1,6 @@
 -- An answer as one number. Assumes nothing.
-use Prim.Native.Nat.{ℕ, _+_, _*_, _≤_, _<_}
-use mathlib.Core.Path.{_≡_, refl, sym, ap, _∙_}
+use Prim.Native.Nat.{ℕ, _+_, _*_, _≤_}
+use mathlib.Core.Path.{_≡_, ap}
 use native.Mathlib.Omega.{arith}
 use Rattle.rules.specs.Names.{resultShort}
 use Rattle.rules.specs.Result.{refusedAs, refusedAt, codeOf}

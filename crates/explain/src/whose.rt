@@ -1,7 +1,6 @@
 // The count or record that stands at an offset of a refused file. The counts before the fault are right, and they say where each section
 // stands; a count that the file does not have is 0.
-ghost use mathlib.Core.Path.{_≡_};
-ghost use Prim.Native.Nat.{_+_, _*_, _<_, _≤_};
+ghost use Prim.Native.Nat.{_+_, _*_, _<_};
 use libc::STDOUT_FILENO;
 use places::on;
 

@@ -1,5 +1,5 @@
 -- What is known where a round is answered with a result, and where it is refused. Assumes nothing.
-use Prim.Native.Nat.{ℕ, zero, suc, _+_, _*_, _≤_}
+use Prim.Native.Nat.{ℕ, _+_, _≤_}
 use mathlib.Core.Path.{_≡_, refl, sym, ap, _∙_}
 use mathlib.Core.List.{List, [], _∷_, _++_}
 use native.Mathlib.Omega.{arith}
@@ -8,7 +8,7 @@ use lib.Dec.{ltb}
 use borrow.Author.Tests.{ltb-false}
 use Rattle.rules.specs.Bytes.{onto}
 use Rattle.rules.specs.File.{Round, roundOf, sectionsOf}
-use Rattle.rules.specs.Refusals.{refusal, scan, judged, reading, IsAccepted}
+use Rattle.rules.specs.Refusals.{refusal, judged, reading, IsAccepted}
 use Rattle.rules.specs.Result.{resultBytes, needed, refusedAs, answerTo, answerOf, after, clearOf}
 use Rattle.rules.specs.declared.Sections.{Sections}
 use Rattle.rules.specs.declared.Reading.{Reading}
@@ -16,19 +16,12 @@ use Rattle.rules.specs.declared.Reading.the-variants as r
 use Rattle.rules.specs.declared.Answer.{Answer}
 use Rattle.rules.specs.declared.Answer.the-variants.{Cleared, Refused}
 use Rattle.laws.specs.Lists.{case}
-use Rattle.laws.specs.Walk.{or-then, or-passed, section-then}
+use Rattle.laws.specs.Walk.{or-then, or-passed, section-then, scan-then}
 use Rattle.laws.specs.Reading.{Sound, section-right, accepted}
 use Rattle.laws.specs.Places.{At, at-start}
 use Rattle.laws.specs.Read.{needed-is}
 
 -- ---- a reading without a refusal is the sections
-
-scan-through : (f : ℕ → ℕ) (w base i k : ℕ) (q : Reading) → refusal (scan f w base i k q) ≡ 0 → scan f w base i k q ≡ q
-unfolding scan
-scan-through f w base i zero q e = refl
-scan-through f w base i (suc k) q e =
-    let t = scan f w base (i + 1) k q in
-    or-then (f i) (base + i * w) t t e ∙ scan-through f w base (i + 1) k q (or-passed (f i) (base + i * w) t e .1)
 
 judged-through : (R : Round) (s : List ℕ) (q : Reading) → refusal (judged R s q) ≡ 0 → judged R s q ≡ q
 unfolding judged
@@ -44,7 +37,7 @@ judged-through R s q e =
     ∙ section-then _ _ _ _ _ _ _ _ _ T
     ∙ section-then _ _ _ _ _ _ _ _ _ N
     ∙ or-then _ _ _ _ B
-    ∙ scan-through _ _ _ _ _ q (or-passed _ _ _ B .1)
+    ∙ scan-then _ _ _ _ _ q q (or-passed _ _ _ B .1)
 
 pub accepted-is : (s : List ℕ) → IsAccepted s → reading s ≡ r.Accepted (sectionsOf (roundOf s))
 unfolding reading

@@ -1,12 +1,11 @@
 -- The sentences of demand 3 as tests that compute, and small pots on which they come out true. A rule that is changed so that a sentence fails on one of
 -- them is refused here, by computation alone. Assumes nothing.
-use Prim.Native.Nat.{ℕ, zero, suc, _+_, _*_}
+use Prim.Native.Nat.{ℕ, _+_, _*_}
 use mathlib.Core.Path.{_≡_, refl}
-use mathlib.Core.Bool.{Bool, true, false, not, _&&_, _||_}
+use mathlib.Core.Bool.{Bool, true, false, _&&_, _||_}
 use mathlib.Core.List.{List, [], _∷_, _++_, map}
 use lib.Dec.{eqb, leb, ltb}
-use lib.ListN.{length}
-use Rattle.rules.specs.Lists.{pick, memb, sift, below}
+use Rattle.rules.specs.Lists.{pick, memb, below}
 use Rattle.rules.specs.Pot.{Pot, Trace, winners, downs, seen, closed, hanging, wideEnd, best, value, priceFrom, tally, within, total, exact, counted, live, least, lowest, taken, follows, remaining, rank, combination, chosen, choose, tied, alone, lost, look, run, auction}
 
 unfoldable pub every : {A : Type 0} → (A → Bool) → List A → Bool

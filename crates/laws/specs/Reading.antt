@@ -5,15 +5,14 @@ use mathlib.Core.List.{List}
 use lib.ListN.{length}
 use Rattle.rules.specs.Bytes.{le}
 use native.Mathlib.Omega.{arith}
-use native.Mathlib.Nat.{not-suc-le-zero, mul-le-mul-right}
+use native.Mathlib.Nat.{not-suc-le-zero}
 use native.Mathlib.Numerals.{add-one}
-use native.Mathlib.Decide.{decLe, decLt}
+use native.Mathlib.Decide.{decLt}
 use Rattle.rules.specs.Names.{mostYears, mostPots, mostTechs, mostApps, mostBids, yearWidth, potWidth, techWidth, appWidth, bidWidth, delivery, mostDeliveries, shortYear, longYear, whole, highestBudget, highestPrice, priceStep, largestCapacity, bidsEach, bidsAYear}
 use Rattle.rules.specs.Lists.{given, howMany}
-use Rattle.rules.specs.File.{Round, roundOf, sections, sectionsOf, deliveries, yearAt, budgetAt, techAt, appAt, bidAt, potsAt, techsAt, appsAt, bidsAt, endAt}
-use Rattle.rules.specs.Refusals.{refusal, orElse, orFault, scan, countFault, recordFault, section, yearFault, potFault, techFault, appFault, sevenOf, eightOf, nineOf, bidFault, sameApp?, sameYear?, elevenOf, judged, reading, IsAccepted}
+use Rattle.rules.specs.File.{Round, roundOf, sections, deliveries, yearAt, budgetAt, techAt, appAt, bidAt, potsAt, techsAt, appsAt, bidsAt}
+use Rattle.rules.specs.Refusals.{refusal, orFault, scan, countFault, recordFault, section, yearFault, potFault, techFault, appFault, sevenOf, eightOf, nineOf, bidFault, sameApp?, sameYear?, elevenOf, judged, reading, IsAccepted}
 use Rattle.rules.specs.declared.Reading.{Reading}
-use Rattle.rules.specs.declared.Reading.the-variants.{Accepted, Refused}
 use Rattle.laws.specs.Walk.{or-passed}
 
 -- a number given that is 0 though the other is not: the rule holds

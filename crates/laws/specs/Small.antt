@@ -1,18 +1,18 @@
 -- How large a refusal's number and offset are: no file has a fault beyond the end of the largest round. Assumes nothing.
 use Prim.Native.Nat.{ℕ, zero, suc, _+_, _*_, _≤_, _<_}
-use mathlib.Core.Path.{_≡_, refl, sym, ap, _∙_}
+use mathlib.Core.Path.{_≡_, refl}
 use mathlib.Core.List.{List}
 use lib.ListN.{length}
 use native.Mathlib.Omega.{arith}
 use native.Mathlib.Nat.{mul-le-mul, mul-le-mul-right}
 use native.Mathlib.Decide.{decLe}
-use Rattle.rules.specs.Names.{mostYears, mostPots, mostTechs, mostApps, mostBids, lowestUneven, countWidth, yearWidth, potWidth, techWidth, appWidth, bidWidth}
+use Rattle.rules.specs.Names.{mostYears, mostPots, mostTechs, mostApps, mostBids, lowestUneven, countWidth, potWidth, techWidth, bidWidth}
 use Rattle.rules.specs.Lists.{given}
 use Rattle.rules.specs.Bytes.{le}
-use Rattle.rules.specs.File.{Round, roundOf, sectionsOf, potsAt, techsAt, appsAt, bidsAt, endAt}
+use Rattle.rules.specs.File.{Round, roundOf, sectionsOf, bidsAt, endAt}
 use Rattle.rules.specs.Refusals.{refusal, place, orElse, orFault, scan, countFault, recordFault, section, yearFault, potFault, techFault, appFault, sevenOf, eightOf, nineOf, bidFault, elevenOf, judged, reading}
 use Rattle.rules.specs.declared.Reading.{Reading}
-use Rattle.rules.specs.declared.Reading.the-variants.{Accepted, Refused}
+use Rattle.rules.specs.declared.Reading.the-variants.{Accepted}
 use Rattle.laws.specs.Reading.{holds, Counts, counts}
 
 -- the end of the largest round

@@ -1,12 +1,12 @@
 -- What a loop over records does at each turn, for any section; and how a section's own answer goes into the whole. Assumes nothing.
 use Prim.Native.Nat.{ℕ, zero, suc, _+_, _-_, _*_, _≤_, _<_}
-use mathlib.Core.Path.{_≡_, refl, sym, ap, _∙_}
+use mathlib.Core.Path.{_≡_, refl, sym, _∙_}
 use mathlib.Core.List.{List}
 use native.Mathlib.Omega.{arith}
 use native.Mathlib.Numerals.{add-one}
 use Rattle.rules.specs.Lists.{given, howMany}
 use Rattle.rules.specs.Bytes.{le}
-use Rattle.rules.specs.Refusals.{refusal, orElse, orFault, scan, countFault, recordFault, section}
+use Rattle.rules.specs.Refusals.{refusal, orElse, orFault, scan, recordFault, section}
 use Rattle.rules.specs.declared.Sections.{Sections}
 use Rattle.rules.specs.declared.Reading.{Reading}
 use Rattle.rules.specs.declared.Reading.the-variants.{Accepted, Refused}
@@ -54,7 +54,7 @@ unfolding orElse refusal
 or-passed zero x r e = (refl, e)
 or-passed (suc m) x r e = absurd (omega arith)
 
-scan-then : (f : ℕ → ℕ) (w base i k : ℕ) (q r : Reading) → refusal (scan f w base i k q) ≡ 0 → scan f w base i k r ≡ r
+pub scan-then : (f : ℕ → ℕ) (w base i k : ℕ) (q r : Reading) → refusal (scan f w base i k q) ≡ 0 → scan f w base i k r ≡ r
 unfolding scan
 scan-then f w base i zero q r e = refl
 scan-then f w base i (suc k) q r e =

@@ -1,5 +1,5 @@
 -- Numbers and places of a file that may end before them. Assumes nothing.
-use Prim.Native.Nat.{ℕ, _+_, _≤_, min}
+use Prim.Native.Nat.{ℕ, _+_}
 use mathlib.Core.List.{List}
 use lib.ListN.{length}
 use native.Mathlib.Decide.{decLe}

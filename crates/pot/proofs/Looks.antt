@@ -9,7 +9,7 @@ use lib.Dec.{eqb, ltb}
 use borrow.Author.Tests.{ne-eqb, lt-ltb, ltb-true}
 use Rattle.rules.specs.Names.{becauseWon, downAlone}
 use Rattle.rules.specs.Lists.{pick, memb}
-use Rattle.rules.specs.Pot.{Pot, Trace, winners, priceFrom, live, taken, fits, won, down, follows, alone, look}
+use Rattle.rules.specs.Pot.{Pot, Trace, winners, priceFrom, live, taken, fits, won, down, follows, alone}
 use Rattle.laws.specs.Lists.{case, clash, In, memb-in, in-memb, in-none, in-one}
 use Rattle.laws.specs.Taken as taken
 use Rattle.laws.specs.Runs.{won-seen}

@@ -7,7 +7,7 @@ use native.Mathlib.Numerals.{add-one}
 use native.Mathlib.Omega.{arith}
 use lib.ListN.{length, getD, set, length-set, replicate}
 use lib.Seq.{getD-set-other}
-use lib.Dec.{eqb, ltb, leb}
+use lib.Dec.{eqb, ltb}
 use borrow.Author.Tests.{eqb-true, eqb-false, eq-eqb, ne-eqb}
 use Rattle.rules.specs.Names.{becauseWon, widestTie}
 use Rattle.rules.specs.Lists.{pick, sift, below}
@@ -16,7 +16,8 @@ use Rattle.laws.specs.Lists.{case, In, here, there, sift-in, below-in}
 use Rattle.sets.specs.Sets.{fill, members}
 use Rattle.sets.proofs.Arrays.{put-is, zeros, fill-at}
 use Rattle.sheet.specs.Sheet.{inAuction, rowStanding, rowYear}
-use Rattle.totals.specs.Totals.{Checked, Valued, dearest, worthOf, totalOf, partOn, partOf, noRow, filled, fitsTo}
+use Rattle.totals.specs.Totals.{Checked, Valued, dearest, worthOf, totalOf, partOn, partOf, noRow, filled, fitsTo, rowFits}
+use Rattle.totals.proofs.Laws.{fits-same}
 use Rattle.totals.proofs.Parts.{part-most, total-parts}
 use Rattle.pot.specs.declared.PotState.{PotState}
 use Rattle.pot.specs.Marks.{winOf, winAll, turnAll, turnOf, turnedOf, hungOf, shutOf, settledOf, widened, aloneOf, followsOf, sharedOf, choiceIn, restOf, tieOf, firstMark, noMarks, startedOf, placed, yearSum, mostSum, withSums, renewedOf, renewedTo, Summed}
@@ -273,17 +274,12 @@ module _ (l : List ℕ) (z : ℕ) where
       → (getD l z 0 + getD l (8 + z) 0 ≤ mostSum) × (getD l z 0 + getD l (8 + z) 0 + getD l (16 + z) 0 ≤ mostSum) × (getD l z 0 + getD l (8 + z) 0 + getD l (16 + z) 0 + getD l (24 + z) 0 ≤ mostSum)
   added-low h = (omega (arith, added-is), omega (arith, added-is), omega (arith, added-is))
 
--- a year that does not fit
-pub fits-short : (f : ℕ → ℕ) (budgets : List ℕ) (z y : ℕ) → z < y → false ≡ fitsTo f budgets (z + 1) → false ≡ fitsTo f budgets y
-unfolding fitsTo
-fits-short f budgets z zero h e = absurd (omega arith)
-fits-short f budgets z (suc y) h e =
-    case (eqb z y) (λ t. let q = eqb-true z y t in e ∙ rw (add-one z, q))
-    (λ n. let q = eqb-false z y n in rw (← (fits-short f budgets z y (omega arith) e)) (none (leb (f y) (getD budgets y 0))))
+-- the row of year totals fits where the sums do
+pub row-fits : (f : ℕ → ℕ) (budgets : List ℕ) (y : ℕ) {row : List ℕ} {b : Bool} → y ≤ 8 → row ≡ filled f y → b ≡ rowFits row budgets y → b ≡ fitsTo f budgets y
+row-fits f budgets y h er eb = eb ∙ ap (λ (r : List ℕ). rowFits r budgets y) er ∙ fits-same (λ z. getD (filled f y) z 0) f budgets y (λ z g. fill-at noRow f y z 0 size g)
   where
-    none : (b : Bool) → false ≡ (b && false)
-    none true = refl
-    none false = refl
+    size : y ≤ length noRow
+    size = unfold noRow in h
 
 -- ---- the trace does not speak of the sums
 pub rep-sums : {P : Pot} {t : Trace} {s : PotState} (l : List ℕ) → Rep P t s → Rep P t (withSums l s)

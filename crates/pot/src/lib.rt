@@ -5,11 +5,10 @@ ghost use mathlib.Core.Bool.{not, _&&_};
 ghost use mathlib.Core.List.{[]};
 ghost use Prim.Native.Nat.{ℕ, _≤_, _<_};
 ghost use lib.Dec.{eqb};
-ghost use lib.ListN.{length};
 ghost use Rattle.rules.specs.Pot.{auction};
 ghost use Rattle.sets.specs.Sets.{built, members};
 ghost use Rattle.sheet.specs.Sheet.{potIn, Ready};
-ghost use Rattle.totals.specs.Totals.{Checked, Valued, Listed, fitsTo};
+ghost use Rattle.totals.specs.Totals.{Checked, Valued, Listed, filled};
 ghost use Rattle.pot.specs.Marks.{joinedOf, Others, Looked, atOf, firstMark, winOf, turnOf, winAll, turnAll, turnedOf, hungOf, shutOf, settledOf, widened, followsOf, aloneOf, sharedOf, tieOf, startedOf, placed, yearSum, mostSum, renewedOf, renewedTo, Summed};
 ghost use Rattle.pot.specs.Rep.{Stands, Seen, Onward};
 use names::YEARS;
@@ -111,20 +110,18 @@ fn with_row(sums: [u64; 32], row: [u64; 8], y: usize, d: usize) -> [u64; 32]
     out
 }
 
-// Do the delivery years together fit the budgets? Equal fits.
-fn sums_fit(sums: [u64; 32], budgets: &[u64], y: usize) -> bool
-    requires { ⌜ (y ≤ 8) × (y ≤ length (now budgets)) × ((z : ℕ) → z < y → yearSum sums z ≤ mostSum) ⌝ }
-    ensures { λ r. ⌜ r ≡ fitsTo (yearSum sums) (now (budgets .entry)) y ⌝ }
+// The row of year totals: what the winners of the four delivery years cost together.
+fn year_totals(sums: [u64; 32], y: usize) -> [u64; 8]
+    requires { ⌜ (y ≤ 8) × ((z : ℕ) → z < y → yearSum sums z ≤ mostSum) ⌝ }
+    ensures { λ r. ⌜ r ≡ filled (yearSum sums) y ⌝ }
 {
+    let mut row = [0u64; 8];
     let mut z: usize = 0;
     while z < y {
-        let sum = sums[z] + sums[YEARS + z] + sums[2 * YEARS + z] + sums[3 * YEARS + z];
-        if sum > budgets[z] {
-            return false;
-        }
+        row[z] = sums[z] + sums[YEARS + z] + sums[2 * YEARS + z] + sums[3 * YEARS + z];
         z += 1;
     }
-    true
+    row
 }
 
 impl PotState {
@@ -407,7 +404,8 @@ impl PotState {
         let u = self.win(rows, m, i, p);
         let t = u.renewed(rows, figures, list, m, y, c, d);
         let sums = t.sums;
-        if sums_fit(sums, budgets, y) {
+        let row = year_totals(sums, y);
+        if totals::within(row, budgets, y) {
             return t.settled();
         }
         self.alone(rows, list, m, c, i)
@@ -433,7 +431,8 @@ impl PotState {
         let u = self.trial(rows, m, set, p);
         let t = u.all_renewed(rows, figures, list, m, y, c);
         let sums = t.sums;
-        if sums_fit(sums, budgets, y) {
+        let row = year_totals(sums, y);
+        if totals::within(row, budgets, y) {
             return t.settled();
         }
         self.tie(rows, figures, budgets, list, m, y, c, set, p)

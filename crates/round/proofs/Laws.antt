@@ -1,29 +1,24 @@
 -- What the reading of an accepted file says to those who clear it, and one law for each return. Assumes nothing.
-use Prim.Native.Nat.{ℕ, _+_, _-_, _*_, _≤_, _<_}
-use mathlib.Core.Path.{_≡_, refl, sym, ap, _∙_}
+use Prim.Native.Nat.{ℕ, _+_, _-_, _≤_, _<_}
+use mathlib.Core.Path.{_≡_, refl, ap, _∙_}
 use mathlib.Core.List.{List}
 use native.Mathlib.Omega.{arith}
 use lib.ListN.{length}
-use lib.Dec.{ltb}
 use borrow.Author.Tests.{lt-ltb, le-ltb}
 use Rattle.rules.specs.Names.{countWidth, resultShort}
-use Rattle.rules.specs.Lists.{pick}
 use Rattle.rules.specs.Bytes.{part, onto}
 use Rattle.rules.specs.File.{Round, roundOf, sections, sectionsOf, potsAt, techsAt, appsAt, bidsAt, endAt}
 use Rattle.rules.specs.Refusals.{refusal, place, reading}
 use Rattle.rules.specs.Result.{needed, resultBytes, refusedAs, refusedAt, answerTo, answerOf, after, clearOf, lengthTo, lengthOf}
 use Rattle.rules.specs.declared.Sections.{Sections}
-use Rattle.rules.specs.declared.Reading.{Reading}
 use Rattle.rules.specs.declared.Reading.the-variants as r
-use Rattle.rules.specs.declared.Answer.{Answer}
 use Rattle.rules.specs.declared.Answer.the-variants.{Cleared, Refused}
 use Rattle.laws.specs.Reading.{Sound}
 use Rattle.laws.specs.Fault.{handed-on, ends-there}
 use Rattle.laws.specs.Small.{reading-small}
-use Rattle.rows.specs.Rows.{roundIn, round-is}
+use Rattle.rows.specs.Rows.{roundIn}
 use Rattle.result.specs.declared.Tellings.{Tellings}
 use Rattle.result.specs.Tells.{Small, Counted, Tells}
-use Rattle.result.specs.Told.{size}
 use Rattle.rules.specs.Listing.{refusalLine, roundLines, listingFor, listingOf}
 use Rattle.lines.specs.Printed.{Printed}
 use Rattle.listing.specs.Told.{longest}

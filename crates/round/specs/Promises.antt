@@ -1,13 +1,13 @@
 -- The promises, as theorems about what the public functions write: `Clears file lent r exit` is the contract of `round::clear`, which answered r and left
 -- `exit` in the lent result. Assumes nothing.
-use Prim.Native.Nat.{ℕ, _≤_, _<_}
-use mathlib.Core.Path.{_≡_, refl, sym, ap, _∙_}
+use Prim.Native.Nat.{ℕ, _<_}
+use mathlib.Core.Path.{_≡_, sym, ap, _∙_}
 use mathlib.Core.List.{List}
 use lib.ListN.{length, drop}
 use Rattle.rules.specs.Names.{auctioned}
 use Rattle.rules.specs.File.{roundOf}
 use Rattle.rules.specs.Refusals.{reading}
-use Rattle.rules.specs.Result.{needed, refusedAs, clearOf, lengthOf}
+use Rattle.rules.specs.Result.{needed, refusedAs, lengthOf}
 use Rattle.rules.specs.declared.Reading.{Reading}
 use Rattle.rules.specs.declared.Answer.{Answer}
 use Rattle.laws.specs.Apart.{DifferElsewhere}

@@ -1,8 +1,8 @@
 -- "First test, then the auction", of one pot. Assumes nothing.
 -- The state of an auction is its trace: what each step did, the newest first. All else is read off the trace, so that
 -- what had won "by the end of the step that turned it down" is `winners` of the trace from that step on.
-use Prim.Native.Nat.{ℕ, zero, suc, _+_, _-_, _*_, _/_, _%_, _^_, min}
-use mathlib.Core.Bool.{Bool, true, false, not, _&&_, _||_}
+use Prim.Native.Nat.{ℕ, zero, suc, _+_, _-_, _/_, _%_, _^_, min}
+use mathlib.Core.Bool.{Bool, true, false, not, _&&_}
 use mathlib.Core.List.{List, [], _∷_, _++_, map}
 use lib.Dec.{eqb, leb, ltb}
 use lib.ListN.{length}

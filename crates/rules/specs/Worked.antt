@@ -1,5 +1,5 @@
 -- The worked cases of document 01, from the file's bytes to the result's, as rows under a single theorem. Assumes nothing.
-use Prim.Native.Nat.{ℕ, zero, suc, _+_, _*_}
+use Prim.Native.Nat.{ℕ, _+_, _*_}
 use mathlib.Core.Path.{_≡_, refl}
 use mathlib.Core.List.{List, [], _∷_, _++_}
 use native.Mathlib.Decide.{decLe, decLt, ℕ-discrete}
@@ -12,9 +12,8 @@ use Rattle.rules.specs.File.{deliveries, sections, roundOf, sectionsOf}
 use Rattle.rules.specs.Refusals.{orElse, orFault, scan, countFault, recordFault, section, yearFault, potFault, techFault, appFault, sevenOf, eightOf, nineOf, bidFault, elevenOf, judged, reading}
 use Rattle.rules.specs.Pot.{winners, downs, seen, closed, hanging, wideEnd, mark, best, value, priceFrom, tally, within, live, least, lowest, taken, follows, remaining, rank, combination, chosen, choose, tied, alone, lost, look, run, auction, adminTotal, adminFits, outcome, priceIn, totalIn, paid, unlookedReason, auctionReason, reason, winnersOf}
 use Rattle.rules.specs.Round.{energyOf, costOf, assemble, automatic, bidOf, mine, silent, enters, rowFor, potOf}
-use Rattle.rules.specs.Result.{Outcome, told, toldIn, appTold, appBytes, potBytes, bidBytes, potsPart, appsPart, bidsPart, resultBytes, needed, answerTo, answerOf, after, clearOf}
-use Rattle.rules.specs.declared.Answer.{Answer}
-use Rattle.rules.specs.declared.Answer.the-variants.{Cleared, Refused}
+use Rattle.rules.specs.Result.{told, toldIn, appTold, appBytes, potBytes, bidBytes, potsPart, appsPart, bidsPart, resultBytes, needed, answerTo, answerOf, after, clearOf}
+use Rattle.rules.specs.declared.Answer.the-variants.{Cleared}
 
 -- numbers of w bytes each
 unfoldable pub nums : ℕ → List ℕ → List ℕ

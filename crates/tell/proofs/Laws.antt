@@ -1,11 +1,10 @@
 -- Writing the places of a row one after the other. Assumes nothing.
-use Prim.Native.Nat.{ℕ, zero, suc, _+_, _≤_, _<_}
-use mathlib.Core.Path.{_≡_, refl, sym, ap, ap₂, _∙_}
+use Prim.Native.Nat.{ℕ, _+_}
+use mathlib.Core.Path.{_≡_, ap, ap₂, _∙_}
 use mathlib.Core.Bool.{Bool}
 use mathlib.Core.List.{List}
-use native.Mathlib.Omega.{arith}
 use native.Mathlib.Numerals.{add-one}
-use lib.ListN.{length, getD, set}
+use lib.ListN.{set}
 use Rattle.tell.specs.Tell.{paidIn, autoIn, anewOf, placed}
 
 pub place-next : (f : ℕ → ℕ) (l : List ℕ) (at k : ℕ) {s t : List ℕ} {v : ℕ} → s ≡ placed f l at k → v ≡ f k → t ≡ set s (at + k) v → t ≡ placed f l at (k + 1)

@@ -1,7 +1,7 @@
 -- One pot more is told. Assumes nothing.
-use Prim.Native.Nat.{ℕ, zero, suc, _+_, _-_, _*_, _≤_, _<_, min}
+use Prim.Native.Nat.{ℕ, zero, suc, _+_, _-_, _*_, _≤_, _<_}
 use mathlib.Core.Path.{_≡_, refl, sym, ap, ap₂, _∙_}
-use mathlib.Core.Bool.{Bool, true, false, not, _&&_, _||_}
+use mathlib.Core.Bool.{Bool, true, false, not, _&&_}
 use mathlib.Core.List.{List, [], _∷_}
 use native.Mathlib.Omega.{arith}
 use native.Mathlib.Nat.{mul-le-mul-right}
@@ -10,14 +10,14 @@ use lib.Dec.{eqb, ltb}
 use borrow.Author.Tests.{eqb-true, eqb-false, eq-eqb, ne-eqb, lt-ltb, le-ltb}
 use Rattle.rules.specs.Names.{noBid, automaticBid, mostApps}
 use Rattle.rules.specs.Lists.{pick, memb, sift, below}
-use Rattle.rules.specs.File.{Round, bidAt, appAt}
+use Rattle.rules.specs.File.{Round}
 use Rattle.rules.specs.Pot.{Pot, auction, wideEnd, adminFits, winners, outcome, priceIn, totalIn, paid, reason, winnersOf}
-use Rattle.rules.specs.Round.{mine, enters, silent, bidOf, assemble, potOf, techOf}
-use Rattle.rules.specs.Result.{Told, told, toldIn, appTold, potFor, potAt}
-use Rattle.laws.specs.Lists.{case, clash, In, here, sift-in, memb-in, in-memb, in-sift, in-below, below-in}
+use Rattle.rules.specs.Round.{mine, enters, silent, assemble, potOf}
+use Rattle.rules.specs.Result.{Told, told, toldIn, appTold, potAt}
+use Rattle.laws.specs.Lists.{case, In, here, sift-in, in-sift, in-below, below-in}
 use Rattle.laws.specs.Reading.{Sound, tech-pot, app-tech, bid-app}
-use Rattle.laws.specs.Bids.{appPot, bidPot, mine-own, mine-auto, bid-own, bid-auto}
-use Rattle.sheet.specs.Sheet.{rowStanding, rowPrice, entered, absent, inAuction, inTest, potIn}
+use Rattle.laws.specs.Bids.{appPot, bidPot, mine-own, mine-auto, bid-own}
+use Rattle.sheet.specs.Sheet.{rowStanding, rowPrice, absent, inAuction, inTest, potIn}
 use Rattle.sets.specs.Sets.{fill}
 use Rattle.sets.proofs.Arrays.{put-is, memb-sift, fill-length, fill-at}
 use Rattle.auction.specs.declared.Cleared.{Cleared}
@@ -25,7 +25,7 @@ use Rattle.auction.specs.Cleared.{bidOr, paidOr, ClearedAs}
 use Rattle.result.specs.declared.Tellings.{Tellings}
 use Rattle.result.specs.Tells.{Tells}
 use Rattle.tell.specs.Tell.{wonIn, bidIn, paidIn, autoIn, stands, anewOf, placed}
-use Rattle.tell.specs.Told.{Sizes, ToldTo, toldWith}
+use Rattle.tell.specs.Told.{ToldTo, toldWith}
 
 -- ---- rows of numbers
 

@@ -1,9 +1,9 @@
 -- What is told of the applications and bids of one pot, from the numbers of its clearing. Assumes nothing.
-use Prim.Native.Nat.{ℕ, zero, suc, _+_, _*_, _<_}
+use Prim.Native.Nat.{ℕ, zero, suc, _+_}
 use mathlib.Core.Bool.{Bool, not}
 use mathlib.Core.List.{List}
 use lib.Dec.{eqb, ltb}
-use lib.ListN.{getD, set}
+use lib.ListN.{set}
 use Rattle.rules.specs.Names.{administrative, noBid, automaticBid, noReason}
 use Rattle.rules.specs.Lists.{pick}
 use Rattle.sheet.specs.Sheet.{rowStanding, absent, entered}

@@ -1,7 +1,6 @@
 // What is told of a round: each pot is cleared on its own sheet, and what is told of it goes to the places of its applications and bids.
 ghost use mathlib.Core.Path.{_≡_};
 ghost use Prim.Native.Nat.{_+_, _*_, _≤_, _<_};
-ghost use mathlib.Core.Bool.{Bool};
 ghost use lib.ListN.{length, getD};
 ghost use Rattle.sheet.specs.Sheet.{rowStanding, rowPrice, inAuction};
 ghost use Rattle.sets.specs.Sets.{fill};

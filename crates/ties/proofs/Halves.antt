@@ -16,7 +16,8 @@ use Rattle.laws.specs.Lists.{case, clash}
 use Rattle.laws.specs.Bits.{has-suc, has-none, add-lt}
 use Rattle.sets.specs.Sets.{fill}
 use Rattle.sets.proofs.Arrays.{zeros, fill-at, fill-length, fill-le}
-use Rattle.totals.specs.Totals.{dearest, fitsTo}
+use Rattle.totals.specs.Totals.{dearest}
+use Rattle.totals.proofs.Laws.{fits-same}
 use Rattle.ties.specs.Ties.{touchOf, touchedOf, addedOf, oneAt, noOnes, onesOf, costAt, noCosts, costsOf, oneYearAt, noOneYears, oneYearsOf, yearAt, noYears, yearsOf, maskTotal, figure, okMask, lastMask, bestMask, jointOf, unionOf, okBy, lastBy, bestBy, Base, Summed, Placed, Tabled, Dated}
 
 -- ---- binary places
@@ -334,11 +335,6 @@ module _ (ranks starts : List ℕ) (k : ℕ) where
           omega arith
 
 -- ---- the best of them: equal tests and figures below a number, the same best
-fits-same : (f g : ℕ → ℕ) (budgets : List ℕ) (n : ℕ) → ((z : ℕ) → z < n → f z ≡ g z) → fitsTo f budgets n ≡ fitsTo g budgets n
-unfolding fitsTo
-fits-same f g budgets zero h = refl
-fits-same f g budgets (suc n) h = rw (h n (omega arith), fits-same f g budgets n (λ z l. h z (omega arith)))
-
 best-le : (f : ℕ → Bool) (t : ℕ → ℕ) (n : ℕ) → best f t n ≤ n
 unfolding best
 best-le f t zero = omega arith

@@ -2,7 +2,7 @@
 use Prim.Native.Nat.{ℕ, zero, suc, _+_, _-_, _*_, _/_, _%_, _^_, _≤_, _<_}
 use mathlib.Core.Path.{_≡_, refl, sym, ap, _∙_}
 use mathlib.Core.Bool.{Bool, true, false, _&&_}
-use mathlib.Core.List.{List, [], _∷_}
+use mathlib.Core.List.{List}
 use native.Mathlib.Numerals.{add-one}
 use native.Mathlib.Nat.{le-antisymm, add-suc}
 use native.Mathlib.Omega.{arith}
@@ -10,7 +10,7 @@ use lib.Bits.{bitOr}
 use lib.ListN.{length, getD, set}
 use lib.Dec.{eqb, leb, ltb}
 use borrow.Author.Tests.{eqb-true, eqb-false, ne-eqb, ltb-true, ltb-false, lt-ltb, le-ltb, lt-leb, le-leb}
-use Rattle.rules.specs.Lists.{pick, sift}
+use Rattle.rules.specs.Lists.{pick}
 use Rattle.rules.specs.Pot.{has, best}
 use Rattle.laws.specs.Lists.{case}
 use Rattle.laws.specs.Bits.{add-lt}

@@ -2,22 +2,21 @@
 use Prim.Native.Nat.{ℕ, zero, suc, _+_, _-_, _*_, _/_, _%_, _^_, _≤_, _<_}
 use mathlib.Core.Path.{_≡_, refl, sym, ap, ap₂, _∙_}
 use mathlib.Core.Bool.{Bool, true, false, _&&_, _||_}
-use mathlib.Core.Logic.{⊎-elim}
 use mathlib.Core.List.{List, [], _∷_, _++_, map}
 use native.Mathlib.Omega.{arith}
-use lib.ListN.{length, getD, set, length-set}
+use lib.ListN.{length, getD, length-set}
 use lib.Dec.{eqb, ltb}
 use borrow.Author.Tests.{eqb-true, eqb-false, eq-eqb, ne-eqb, lt-ltb}
 use Rattle.rules.specs.Names.{noPrice}
-use Rattle.rules.specs.Lists.{pick, memb, keep, sift, below, sum}
+use Rattle.rules.specs.Lists.{pick, memb, sift, below, sum}
 use Rattle.rules.specs.Pot.{Pot, has, best, value, priceFrom, clearing, tally, total, within, fits, remaining, rank, combination, chosen, choose}
-use Rattle.laws.specs.Lists.{case, clash, and-true, In, here, there, memb-in, in-memb, in-one, in-map, in-sift, sift-in, sift-same, sift-both, memb-join, in-below, below-in}
+use Rattle.laws.specs.Lists.{case, In, memb-in, in-memb, in-one, in-map, sift-in, sift-same, sift-both, memb-join, below-in}
 use Rattle.laws.specs.Bits.{has-none, add-adds, add-other}
 use Rattle.laws.specs.Tie.{tally-same, best-same, combination-in}
-use Rattle.sets.specs.Sets.{fill, none, built, members}
+use Rattle.sets.specs.Sets.{none, built, members}
 use Rattle.sets.proofs.Arrays.{put-is, at-start, fill-at, members-built}
-use Rattle.sheet.specs.Sheet.{potIn, Ready, inAuction, rowYear, rowPrice, rowDraw}
-use Rattle.totals.specs.Totals.{Valued, listed, worthOf, totalOf, fitsTo}
+use Rattle.sheet.specs.Sheet.{potIn, Ready, inAuction, rowYear, rowDraw}
+use Rattle.totals.specs.Totals.{Valued, listed, worthOf, totalOf}
 use Rattle.totals.proofs.Link as link
 use Rattle.totals.proofs.Link.{Marked}
 use Rattle.ties.specs.Ties.{raisedTo, baseAt, noBase, basesOf, aloneTotal, aloneFits, keepsOf, compactOf, aboveOf, rankOf, ranksOf, startOf, startsOf, ownAt, noOwn, ownsOf, Numbers, touchOf, touchedOf, maskTotal, figure, okMask, lastMask, bestMask, combinationOf, choiceAt, choiceOf}

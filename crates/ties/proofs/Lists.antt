@@ -1,19 +1,18 @@
 -- The arrays of a tie: what stands at each place, and that all is small. Assumes nothing.
-use Prim.Native.Nat.{ℕ, zero, suc, _+_, _*_, _/_, _%_, _^_, _≤_, _<_}
-use mathlib.Core.Path.{_≡_, refl, sym, ap, _∙_}
+use Prim.Native.Nat.{ℕ, zero, suc, _*_, _/_, _%_, _≤_, _<_}
+use mathlib.Core.Path.{_≡_, refl, ap, _∙_}
 use mathlib.Core.Bool.{Bool, true, false}
-use mathlib.Core.Logic.{⊎-elim}
-use mathlib.Core.List.{List, [], _∷_}
+use mathlib.Core.List.{List, _∷_}
 use native.Mathlib.Omega.{arith}
 use lib.ListN.{length, getD, length-set}
 use lib.Dec.{ltb}
 use borrow.Author.Tests.{ltb-true}
-use Rattle.rules.specs.Lists.{pick, sift, below}
+use Rattle.rules.specs.Lists.{sift, below}
 use Rattle.laws.specs.Lists.{case, In, sift-in, sift-le, below-in}
-use Rattle.sets.specs.Sets.{fill, members}
+use Rattle.sets.specs.Sets.{members}
 use Rattle.sets.proofs.Arrays.{fill-length, fill-at, fill-le, zeros, members-less}
-use Rattle.sheet.specs.Sheet.{rowYear, rowDraw}
-use Rattle.totals.specs.Totals.{Checked, Priced, Valued, listed, dearest, worthOf, totalOf}
+use Rattle.sheet.specs.Sheet.{rowDraw}
+use Rattle.totals.specs.Totals.{Valued, listed, dearest}
 use Rattle.totals.proofs.Laws.{worth-le, total-le}
 use Rattle.totals.proofs.Listed.{listed-more, listed-length, in-listed}
 use Rattle.ties.specs.Ties.{raisedTo, baseAt, noBase, basesOf, Base, noList, compactOf, aboveOf, rankOf, ranksOf, startOf, startsOf, ownAt, noOwn, ownsOf, Numbers, Summed, Placed}

@@ -1,5 +1,5 @@
 -- How a pot's totals fall apart: what the winners cost, and what is added to them. Assumes nothing.
-use Prim.Native.Nat.{ℕ, zero, suc, _+_, _≤_, _<_}
+use Prim.Native.Nat.{ℕ, _+_}
 use mathlib.Core.Path.{_≡_, refl, sym, ap, ap₂, _∙_}
 use mathlib.Core.Bool.{Bool, true, false, _&&_, _||_}
 use mathlib.Core.Logic.{⊎-elim}
@@ -7,9 +7,9 @@ use mathlib.Core.List.{List, [], _∷_, _++_, map}
 use native.Mathlib.Omega.{arith}
 use lib.Dec.{eqb}
 use borrow.Author.Tests.{eqb-true, eqb-false, eq-eqb, ne-eqb}
-use Rattle.rules.specs.Lists.{pick, memb, keep, sift, below, sum}
+use Rattle.rules.specs.Lists.{pick, memb, sift, sum}
 use Rattle.rules.specs.Pot.{Pot, priceFrom, clearing, tally}
-use Rattle.laws.specs.Lists.{case, clash, In, here, there, memb-in, in-memb, in-none, in-tail, in-sift, sift-in, sift-same, sift-both, in-below, below-in}
+use Rattle.laws.specs.Lists.{case, In, here, there, in-memb, in-none, in-tail, sift-in, sift-same, sift-both}
 
 pub sum-same : (f g : ℕ → ℕ) (l : List ℕ) → ((k : ℕ) → In k l → f k ≡ g k) → sum f l ≡ sum g l
 unfolding sum

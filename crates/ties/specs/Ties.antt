@@ -2,7 +2,6 @@
 use Prim.Native.Nat.{ℕ, zero, suc, _+_, _-_, _*_, _/_, _%_, _^_, _≤_, _<_}
 use mathlib.Core.Bool.{Bool, true, false, _&&_}
 use mathlib.Core.List.{List}
-use mathlib.Core.Path.{_≡_}
 use lib.Bits.{bitOr}
 use lib.ListN.{length, getD, set, replicate}
 use lib.Dec.{leb, ltb}
@@ -10,7 +9,7 @@ use Rattle.rules.specs.Lists.{pick, sift}
 use Rattle.rules.specs.Pot.{has, best}
 use Rattle.sets.specs.Sets.{fill, none, members}
 use Rattle.sheet.specs.Sheet.{rowYear, rowDraw}
-use Rattle.totals.specs.Totals.{Priced, listed, dearest, worthOf, totalOf, fitsTo}
+use Rattle.totals.specs.Totals.{listed, dearest, worthOf, totalOf, fitsTo}
 use Rattle.ties.specs.declared.Best.{Best}
 
 -- ---- the present winners, for each set t of delivery years, a number with one binary place for each

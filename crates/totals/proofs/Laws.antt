@@ -7,7 +7,7 @@ use native.Mathlib.Numerals.{add-one}
 use native.Mathlib.Omega.{arith}
 use lib.ListN.{length, getD, set}
 use lib.Seq.{getD-set-other, ext-getD}
-use lib.Dec.{eqb, leb, ltb}
+use lib.Dec.{eqb, ltb}
 use borrow.Author.Tests.{eq-eqb, ne-eqb, le-ltb, lt-ltb, lt-leb, le-leb, ltb-true, ltb-false}
 use Rattle.rules.specs.Names.{becauseWon}
 use Rattle.rules.specs.Lists.{pick, keep, sift, below, sum}
@@ -16,7 +16,7 @@ use Rattle.laws.specs.Lists.{case, In, here, there, below-in}
 use Rattle.sets.specs.Sets.{fill}
 use Rattle.sets.proofs.Laws.{done, fill-next}
 use Rattle.sets.proofs.Arrays.{fill-at, fill-length, zeros}
-use Rattle.sheet.specs.Sheet.{rowStanding, rowApp, rowYear, rowPrice, rowCap, figReference, figEnergy, figShare, sheetCost, inTest, absent}
+use Rattle.sheet.specs.Sheet.{rowStanding, rowYear, rowPrice, rowCap, figReference, figEnergy, figShare, sheetCost, inTest, absent}
 use Rattle.value.specs.Laws.{at-most}
 use Rattle.totals.specs.Totals.{Priced, Valued, Adding, dearest, worthOf, costOf, totalOf, noRow, filled, raised, fitsTo, autoTotal}
 
@@ -73,6 +73,12 @@ module _ (f : ℕ → ℕ) (budgets : List ℕ) (z : ℕ) {x : ℕ} (e : x ≡ f
   pub fits-more : {b : Bool} → x ≤ getD budgets z 0 → b ≡ fitsTo f budgets z → b ≡ fitsTo f budgets (z + 1)
   unfolding fitsTo
   fits-more h g = rw (add-one z, ← e, le-leb _ _ h) g
+
+-- the same figures fit alike
+pub fits-same : (f g : ℕ → ℕ) (budgets : List ℕ) (n : ℕ) → ((z : ℕ) → z < n → f z ≡ g z) → fitsTo f budgets n ≡ fitsTo g budgets n
+unfolding fitsTo
+fits-same f g budgets zero h = refl
+fits-same f g budgets (suc n) h = rw (h n (omega arith), fits-same f g budgets n (λ z l. h z (omega arith)))
 
 -- ---- rows of totals
 

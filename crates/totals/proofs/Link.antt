@@ -1,19 +1,19 @@
 -- From the sheet to the pot that it shows: its bids, and what their totals are in the words of the rules. Assumes nothing.
-use Prim.Native.Nat.{ℕ, zero, suc, _+_, _*_, _≤_, _<_}
+use Prim.Native.Nat.{ℕ, zero, suc, _+_, _≤_, _<_}
 use mathlib.Core.Path.{_≡_, refl, sym, ap, ap₂, _∙_}
-use mathlib.Core.Bool.{Bool, true, false, _&&_}
+use mathlib.Core.Bool.{Bool, true, false}
 use mathlib.Core.List.{List, [], _∷_}
 use native.Mathlib.Omega.{arith}
 use lib.ListN.{length, getD}
-use lib.Dec.{eqb, leb, ltb}
+use lib.Dec.{eqb}
 use borrow.Author.Tests.{lt-ltb}
 use Rattle.rules.specs.Names.{becauseWon}
 use Rattle.rules.specs.Lists.{pick, memb, sift, below, sum}
 use Rattle.rules.specs.Pot.{Pot, value, tally, within, adminTotal, adminFits}
-use Rattle.laws.specs.Lists.{case, clash, In, here, there, memb-in, in-memb, in-sift, sift-in, in-below, below-in}
+use Rattle.laws.specs.Lists.{case, clash, In, memb-in, in-sift, sift-in, in-below, below-in}
 use Rattle.sets.proofs.Arrays.{fill-at}
 use Rattle.sheet.specs.Sheet.{potIn, Ready, inAuction, inTest, rowYear, rowPrice}
-use Rattle.totals.specs.Totals.{Checked, Priced, Valued, worthOf, costOf, totalOf, noRow, filled, fitsTo, rowFits, autoTotal}
+use Rattle.totals.specs.Totals.{Checked, Valued, worthOf, costOf, totalOf, noRow, filled, fitsTo, rowFits, autoTotal}
 
 -- the marks say that of the pot's bids those of ws have won, and no other bid
 pub record Marked (P : Pot) (ws marks : List ℕ) : Type 0 where

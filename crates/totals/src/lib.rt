@@ -1,10 +1,9 @@
 // What bids cost on the sheet of a pot: the value of one of them in a year, the year totals of those that have won, whether these fit, and the
 // totals of the first test. specs/Totals.antt says what each function computes.
 ghost use mathlib.Core.Path.{_≡_};
-ghost use Prim.Native.Nat.{_+_, _*_, _≤_, _<_};
+ghost use Prim.Native.Nat.{_+_, _≤_, _<_};
 ghost use lib.ListN.{length};
-ghost use Rattle.sheet.specs.Sheet.{inTest};
-ghost use Rattle.totals.specs.Totals.{Checked, Valued, Priced, Adding, Listed, dearest, worthOf, totalOf, partOf, filled, raised, rowFits, autoTotal};
+ghost use Rattle.totals.specs.Totals.{Valued, Priced, Adding, Listed, dearest, worthOf, totalOf, partOf, filled, raised, rowFits, autoTotal};
 
 // The mark of a bid that has won.
 pub const WON: u16 = 1;
