@@ -18,47 +18,44 @@ use Rattle.sets.proofs.Arrays.{put-is, zeros, fill-at}
 use Rattle.sheet.specs.Sheet.{inAuction, rowStanding, rowYear}
 use Rattle.totals.specs.Totals.{Checked, Valued, dearest, worthOf, totalOf, partOn, partOf, noRow, filled, fitsTo, rowFits}
 use Rattle.totals.proofs.Laws.{fits-same}
+use Rattle.ties.specs.Ties.{laidTo}
 use Rattle.totals.proofs.Parts.{part-most, total-parts}
 use Rattle.pot.specs.declared.PotState.{PotState}
-use Rattle.pot.specs.Marks.{winOf, winAll, turnAll, turnOf, turnedOf, hungOf, shutOf, settledOf, widened, aloneOf, followsOf, sharedOf, choiceIn, restOf, tieOf, firstMark, noMarks, startedOf, placed, yearSum, mostSum, withSums, renewedOf, renewedTo, Summed}
+use Rattle.pot.specs.Marks.{winOf, winAll, turnAll, turnOf, turnedOf, hungOf, shutOf, settledOf, widened, aloneOf, followsOf, sharedOf, choiceIn, restOf, tieOf, firstMark, noMarks, startedOf, yearSum, mostSum, withSums, renewedOf, renewedTo, Summed}
 use Rattle.pot.specs.Rep.{Rep, Stands}
 
 -- ---- a row of the sums is written
 module _ (l : List ℕ) (d : ℕ) (row : List ℕ) where
-  pub placed-next : (z : ℕ) {o : List ℕ} → o ≡ placed l d row z → set o (d * 8 + z) (getD row z 0) ≡ placed l d row (z + 1)
-  unfolding placed
-  placed-next z e = rw (add-one z, e)
-
-  placed-length : (n : ℕ) → length (placed l d row n) ≡ length l
-  unfolding placed
-  placed-length zero = refl
-  placed-length (suc n) = length-set (placed l d row n) (d * 8 + n) (getD row n 0) ∙ placed-length n
+  laid-length : (n : ℕ) → length (laidTo l row d n) ≡ length l
+  unfolding laidTo
+  laid-length zero = refl
+  laid-length (suc n) = length-set (laidTo l row d n) (d * 8 + n) (getD row n 0) ∙ laid-length n
 
   -- its own places, and those of another year
-  placed-own : (n z : ℕ) → length l ≡ 32 → d < 4 → n ≤ 8 → z < n → getD (placed l d row n) (d * 8 + z) 0 ≡ getD row z 0
-  unfolding placed
-  placed-own zero z h g k i = absurd (omega arith)
-  placed-own (suc n) z h g k i =
-      put-is (placed l d row n) (d * 8 + n) (d * 8 + z) (getD row n 0) 0 (omega (arith, placed-length n))
+  laid-own : (n z : ℕ) → length l ≡ 32 → d < 4 → n ≤ 8 → z < n → getD (laidTo l row d n) (d * 8 + z) 0 ≡ getD row z 0
+  unfolding laidTo
+  laid-own zero z h g k i = absurd (omega arith)
+  laid-own (suc n) z h g k i =
+      put-is (laidTo l row d n) (d * 8 + n) (d * 8 + z) (getD row n 0) 0 (omega (arith, laid-length n))
       ∙ case (eqb z n)
       (λ t. let e = eqb-true z n t in rw (e, eq-eqb (d * 8 + n) (d * 8 + n) refl))
-      (λ t. let e = eqb-false z n t in rw (ne-eqb (d * 8 + z) (d * 8 + n) (λ q. e (omega arith))) (placed-own n z h g (omega arith) (omega arith)))
+      (λ t. let e = eqb-false z n t in rw (ne-eqb (d * 8 + z) (d * 8 + n) (λ q. e (omega arith))) (laid-own n z h g (omega arith) (omega arith)))
 
-  placed-other : (n c z : ℕ) → (c ≡ d → ⊥) → n ≤ 8 → z < 8 → getD (placed l d row n) (c * 8 + z) 0 ≡ getD l (c * 8 + z) 0
-  unfolding placed
-  placed-other zero c z h k i = refl
-  placed-other (suc n) c z h k i =
-      getD-set-other (placed l d row n) (d * 8 + n) (c * 8 + z) (getD row n 0) 0 (λ q. h (omega arith)) ∙ placed-other n c z h (omega arith) i
+  laid-other : (n c z : ℕ) → (c ≡ d → ⊥) → n ≤ 8 → z < 8 → getD (laidTo l row d n) (c * 8 + z) 0 ≡ getD l (c * 8 + z) 0
+  unfolding laidTo
+  laid-other zero c z h k i = refl
+  laid-other (suc n) c z h k i =
+      getD-set-other (laidTo l row d n) (d * 8 + n) (c * 8 + z) (getD row n 0) 0 (λ q. h (omega arith)) ∙ laid-other n c z h (omega arith) i
 
 -- where the row was filled
-placed-filled : (l : List ℕ) (d : ℕ) (f : ℕ → ℕ) (y z : ℕ) → length l ≡ 32 → d < 4 → y ≤ 8 → z < y → getD (placed l d (filled f y) y) (d * 8 + z) 0 ≡ f z
-placed-filled l d f y z h g k i = placed-own l d (filled f y) y z h g k i ∙ fill-at noRow f y z 0 (size k) i
+laid-filled : (l : List ℕ) (d : ℕ) (f : ℕ → ℕ) (y z : ℕ) → length l ≡ 32 → d < 4 → y ≤ 8 → z < y → getD (laidTo l (filled f y) d y) (d * 8 + z) 0 ≡ f z
+laid-filled l d f y z h g k i = laid-own l d (filled f y) y z h g k i ∙ fill-at noRow f y z 0 (size k) i
   where
     size : y ≤ 8 → y ≤ length noRow
     size g = unfold noRow in g
 
 pub renewed-is : (rows figures : List ℕ) (m y d : ℕ) (s : PotState) {row sums : List ℕ} → row ≡ filled (λ z. partOf rows figures (s .reasons) (getD (s .prices) d 0) d z m) y
-    → sums ≡ placed (s .sums) d row y
+    → sums ≡ laidTo (s .sums) row d y
     → _≡_ {A = PotState} (record { reasons = s .reasons; won = s .won; opened = s .opened; prices = s .prices; sums = sums; hang = s .hang; wide = s .wide }) (renewedOf rows figures m y d s)
 unfolding renewedOf withSums
 renewed-is rows figures m y d s er es = rw (es, er)
@@ -143,12 +140,12 @@ module _ (rows figures : List ℕ) (m y : ℕ) where
   pub summed-win : (p i : ℕ) (s : PotState) {d : ℕ} {u r : PotState} → y ≤ 8 → rowYear rows i < 4 → d ≡ rowYear rows i → u ≡ winOf rows p i s → r ≡ renewedOf rows figures m y d u → Summed rows figures m y s → Summed rows figures m y r
   unfolding renewedOf withSums winOf partOf
   summed-win p i s {d} ly ld ed eu er S = rw (er, eu, ed) (record {
-    size = placed-length (s .sums) (rowYear rows i) (filled part y) y ∙ S .size;
+    size = laid-length (s .sums) (rowYear rows i) (filled part y) y ∙ S .size;
     part = λ c z g k. case (eqb c (rowYear rows i))
-        (λ t. rw (eqb-true c (rowYear rows i) t) (placed-filled (s .sums) (rowYear rows i) part y z (S .size) ld ly k))
+        (λ t. rw (eqb-true c (rowYear rows i) t) (laid-filled (s .sums) (rowYear rows i) part y z (S .size) ld ly k))
         (λ f.
         let n = eqb-false c (rowYear rows i) f in
-        placed-other (s .sums) (rowYear rows i) (filled part y) y c z n ly (omega arith) ∙ S .part c z g k
+        laid-other (s .sums) (rowYear rows i) (filled part y) y c z n ly (omega arith) ∙ S .part c z g k
         ∙ rw (getD-set-other (s .prices) (rowYear rows i) c p 0 n) (sym (part-other rows figures (s .reasons) (getD (s .prices) c 0) i becauseWon c z (sift (inAuction rows) (below m)) (λ e. n (sym e)))));
   })
     where
@@ -165,15 +162,15 @@ module _ (rows figures : List ℕ) (m y : ℕ) where
     renewed-size : (n : ℕ) → length ((renewedTo rows figures m y s n) .sums) ≡ length (s .sums)
     unfolding renewedTo renewedOf withSums
     renewed-size zero = refl
-    renewed-size (suc n) = placed-length ((renewedTo rows figures m y s n) .sums) n _ y ∙ renewed-size n
+    renewed-size (suc n) = laid-length ((renewedTo rows figures m y s n) .sums) n _ y ∙ renewed-size n
 
     renewed-parts : (n : ℕ) → length (s .sums) ≡ 32 → y ≤ 8 → n ≤ 4 → (d z : ℕ) → d < n → z < y
         → getD ((renewedTo rows figures m y s n) .sums) (d * 8 + z) 0 ≡ partOf rows figures (s .reasons) (getD (s .prices) d 0) d z m
     unfolding renewedTo renewedOf withSums
     renewed-parts zero h g k d z i j = absurd (omega arith)
     renewed-parts (suc n) h g k d z i j = case (eqb d n)
-        (λ t. rw (eqb-true d n t) (placed-filled ((renewedTo rows figures m y s n) .sums) n part y z (renewed-size n ∙ h) k g j ∙ same))
-        (λ f. let e = eqb-false d n f in placed-other ((renewedTo rows figures m y s n) .sums) n (filled part y) y d z e g (omega arith) ∙ renewed-parts n h g (omega arith) d z (omega arith) j)
+        (λ t. rw (eqb-true d n t) (laid-filled ((renewedTo rows figures m y s n) .sums) n part y z (renewed-size n ∙ h) k g j ∙ same))
+        (λ f. let e = eqb-false d n f in laid-other ((renewedTo rows figures m y s n) .sums) n (filled part y) y d z e g (omega arith) ∙ renewed-parts n h g (omega arith) d z (omega arith) j)
       where
         part : ℕ → ℕ
         part z = partOf rows figures ((renewedTo rows figures m y s n) .reasons) (getD ((renewedTo rows figures m y s n) .prices) n 0) n z m

@@ -11,7 +11,7 @@ use Rattle.rules.specs.Lists.{pick, sift, below}
 use Rattle.sets.specs.Sets.{fill, built, members, headOr, without}
 use Rattle.sheet.specs.Sheet.{rowStanding, rowApp, rowYear, rowPrice, inAuction, entered}
 use Rattle.totals.specs.Totals.{dearest, partOf, filled}
-use Rattle.ties.specs.Ties.{basesOf, keepsOf, choiceOf}
+use Rattle.ties.specs.Ties.{laidTo, basesOf, keepsOf, choiceOf}
 use Rattle.pot.specs.declared.PotState.{PotState}
 use Rattle.pot.specs.declared.Look.{Look}
 
@@ -110,11 +110,6 @@ sharedOf rows m l wins p s = hungOf noYear (turnAll rows downTied (winAll rows p
 
 -- ---- the sums by delivery year
 
--- sums with the first n numbers of a row written as those of year d
-unfoldable pub placed : (sums : List ℕ) (d : ℕ) (row : List ℕ) → ℕ → List ℕ
-placed sums d row zero = sums
-placed sums d row (suc z) = set (placed sums d row z) (d * 8 + z) (getD row z 0)
-
 -- what the winners of the four delivery years cost in year z, and the most that this can be
 unfoldable pub yearSum : List ℕ → ℕ → ℕ
 yearSum l z = getD l z 0 + (getD l (8 + z) 0 + (getD l (16 + z) 0 + getD l (24 + z) 0))
@@ -128,7 +123,7 @@ withSums l s = record { reasons = s .reasons; won = s .won; opened = s .opened; 
 
 -- the winners that start in year d are revalued; and in each year below n
 unfoldable pub renewedOf : (rows figures : List ℕ) (m y d : ℕ) → PotState → PotState
-renewedOf rows figures m y d s = withSums (placed (s .sums) d (filled (λ z. partOf rows figures (s .reasons) (getD (s .prices) d 0) d z m) y) y) s
+renewedOf rows figures m y d s = withSums (laidTo (s .sums) (filled (λ z. partOf rows figures (s .reasons) (getD (s .prices) d 0) d z m) y) d y) s
 
 unfoldable pub renewedTo : (rows figures : List ℕ) (m y : ℕ) → PotState → ℕ → PotState
 renewedTo rows figures m y s zero = s

@@ -9,7 +9,8 @@ ghost use Rattle.rules.specs.Pot.{auction};
 ghost use Rattle.sets.specs.Sets.{built, members};
 ghost use Rattle.sheet.specs.Sheet.{potIn, Ready};
 ghost use Rattle.totals.specs.Totals.{Checked, Valued, Listed, filled};
-ghost use Rattle.pot.specs.Marks.{joinedOf, Others, Looked, atOf, firstMark, winOf, turnOf, winAll, turnAll, turnedOf, hungOf, shutOf, settledOf, widened, followsOf, aloneOf, sharedOf, tieOf, startedOf, placed, yearSum, mostSum, renewedOf, renewedTo, Summed};
+ghost use Rattle.ties.specs.Ties.{laidTo};
+ghost use Rattle.pot.specs.Marks.{joinedOf, Others, Looked, atOf, firstMark, winOf, turnOf, winAll, turnAll, turnedOf, hungOf, shutOf, settledOf, widened, followsOf, aloneOf, sharedOf, tieOf, startedOf, yearSum, mostSum, renewedOf, renewedTo, Summed};
 ghost use Rattle.pot.specs.Rep.{Stands, Seen, Onward};
 use names::YEARS;
 use totals::WON;
@@ -99,7 +100,7 @@ fn joined(l: Look, price: u64, i: usize) -> Look
 // Sums with a row written as that of delivery year d.
 fn with_row(sums: [u64; 32], row: [u64; 8], y: usize, d: usize) -> [u64; 32]
     requires { ⌜ (y ≤ 8) × (d < 4) ⌝ }
-    ensures { λ r. ⌜ r ≡ placed sums d row y ⌝ }
+    ensures { λ r. ⌜ r ≡ laidTo sums row d y ⌝ }
 {
     let mut out = sums;
     let mut z: usize = 0;
