@@ -1,14 +1,41 @@
--- The sheet of a pot: its bids, their yearly figures and its budgets as numbers in three lists, and the pot that they show. Assumes nothing.
-use Prim.Native.Nat.{ℕ, _+_, _-_, _*_, _≤_, _<_, min}
-use mathlib.Core.Bool.{Bool, not, _&&_}
+-- The sheet of a pot: its limits, the bids that enter its auction, the rows of all bids and their yearly figures, as numbers in one list; and the pot that
+-- it shows. How much of the list is used, a size says. Assumes nothing.
+use Prim.Native.Nat.{ℕ, zero, suc, _+_, _-_, _*_, _≤_, _<_, min}
+use mathlib.Core.Bool.{Bool, true, not, _&&_}
 use mathlib.Core.Path.{_≡_}
-use mathlib.Core.List.{List}
+use mathlib.Core.List.{List, [], _∷_}
 use lib.Dec.{eqb, ltb}
 use lib.ListN.{length, getD}
 use Rattle.rules.specs.Names.{mostBids, mostApps, mostYears, mostDeliveries, highestPrice, highestBudget, whole, longYear, largestCapacity}
 use Rattle.rules.specs.Lists.{pick, sift, below}
 use Rattle.rules.specs.Value.{pound}
 use Rattle.rules.specs.Pot.{Pot}
+use Rattle.sheet.specs.declared.Size.{Size}
+
+-- ---- what stands where: 8 limits, 320 bids that enter, 320 rows of 6, and the figures of 320 bids in 8 years, 3 to a year
+abbrev pub entrantsAt : ℕ
+entrantsAt = 8
+
+abbrev pub rowsAt : ℕ
+rowsAt = 328
+
+abbrev pub figuresAt : ℕ
+figuresAt = 2248
+
+abbrev pub sheetLength : ℕ
+sheetLength = 9928
+
+-- the limit of column c: the budget of a year
+unfoldable pub limitAt : List ℕ → ℕ → ℕ
+limitAt sheet c = getD sheet c 0
+
+-- the bids that enter the auction, in the order of the file; the first k of them, the last first
+unfoldable pub entrantAt : List ℕ → ℕ → ℕ
+entrantAt sheet j = getD sheet (8 + j) 0
+
+unfoldable pub entrants : List ℕ → ℕ → List ℕ
+entrants sheet zero = []
+entrants sheet (suc k) = entrantAt sheet k ∷ entrants sheet k
 
 -- ---- the row of a bid by number, 6 numbers to a row: standing, application, start year, price, draw of the application, administrative price. The numbers
 -- below b are the file's bids; after them comes the automatic bid of each application
@@ -24,57 +51,57 @@ abbrev pub spare : ℕ
 spare = 2
 
 unfoldable pub rowStanding : List ℕ → ℕ → ℕ
-rowStanding rows k = getD rows (k * 6) 0
+rowStanding sheet k = getD sheet (328 + k * 6) 0
 
 unfoldable pub rowApp : List ℕ → ℕ → ℕ
-rowApp rows k = getD rows (k * 6 + 1) 0
+rowApp sheet k = getD sheet (328 + k * 6 + 1) 0
 
 unfoldable pub rowYear : List ℕ → ℕ → ℕ
-rowYear rows k = getD rows (k * 6 + 2) 0
+rowYear sheet k = getD sheet (328 + k * 6 + 2) 0
 
 unfoldable pub rowPrice : List ℕ → ℕ → ℕ
-rowPrice rows k = getD rows (k * 6 + 3) 0
+rowPrice sheet k = getD sheet (328 + k * 6 + 3) 0
 
 unfoldable pub rowDraw : List ℕ → ℕ → ℕ
-rowDraw rows k = getD rows (k * 6 + 4) 0
+rowDraw sheet k = getD sheet (328 + k * 6 + 4) 0
 
 unfoldable pub rowCap : List ℕ → ℕ → ℕ
-rowCap rows k = getD rows (k * 6 + 5) 0
+rowCap sheet k = getD sheet (328 + k * 6 + 5) 0
 
 -- ---- the figures of a bid in a year, 3 numbers to a year and 8 years to a bid: reference price, load factor × hours × capacity, (1 − TLM) × RQM
 unfoldable pub figReference : List ℕ → (k y : ℕ) → ℕ
-figReference figures k y = getD figures (k * 24 + y * 3) 0
+figReference sheet k y = getD sheet (2248 + k * 24 + y * 3) 0
 
 unfoldable pub figEnergy : List ℕ → (k y : ℕ) → ℕ
-figEnergy figures k y = getD figures (k * 24 + y * 3 + 1) 0
+figEnergy sheet k y = getD sheet (2248 + k * 24 + y * 3 + 1) 0
 
 unfoldable pub figShare : List ℕ → (k y : ℕ) → ℕ
-figShare figures k y = getD figures (k * 24 + y * 3 + 2) 0
+figShare sheet k y = getD sheet (2248 + k * 24 + y * 3 + 2) 0
 
 -- the exact cost in parts of bid k in year y at a clearing price
-unfoldable pub sheetCost : (rows figures : List ℕ) → (k price y : ℕ) → ℕ
-sheetCost rows figures k price y = (min price (rowCap rows k) - figReference figures k y) * figEnergy figures k y * figShare figures k y
+unfoldable pub sheetCost : List ℕ → (k price y : ℕ) → ℕ
+sheetCost sheet k price y = (min price (rowCap sheet k) - figReference sheet k y) * figEnergy sheet k y * figShare sheet k y
 
--- ---- the pot that a sheet shows: m numbers of bids, the sealed ones below b, and y years
+-- ---- the pot that a sheet shows, of a size: so many years, sealed bids, and bids with the automatic ones
 abbrev pub inAuction : List ℕ → ℕ → Bool
-inAuction rows k = eqb (rowStanding rows k) entered
+inAuction sheet k = eqb (rowStanding sheet k) entered
 
 abbrev pub inTest : List ℕ → (b k : ℕ) → Bool
-inTest rows b k = not (ltb k b) && not (eqb (rowStanding rows k) absent)
+inTest sheet b k = not (ltb k b) && not (eqb (rowStanding sheet k) absent)
 
-unfoldable pub potIn : (rows figures budgets : List ℕ) → (b m y : ℕ) → Pot
-potIn rows figures budgets b m y = record {
-  bids = sift (inAuction rows) (below m);
-  autos = sift (inTest rows b) (below m);
-  years = y;
+unfoldable pub potIn : List ℕ → Size → Pot
+potIn sheet of = record {
+  bids = sift (inAuction sheet) (below (of .bids));
+  autos = sift (inTest sheet (of .sealed)) (below (of .bids));
+  years = of .years;
   scale = pound;
-  app = rowApp rows;
-  yr = rowYear rows;
-  price = rowPrice rows;
-  cost = λ k price z. pick (ltb z y) (sheetCost rows figures k price z) 0;
-  budget = λ z. pick (ltb z y) (getD budgets z 0) 0;
-  draw = rowDraw rows;
-  cap = rowCap rows;
+  app = rowApp sheet;
+  yr = rowYear sheet;
+  price = rowPrice sheet;
+  cost = λ k price z. pick (ltb z (of .years)) (sheetCost sheet k price z) 0;
+  budget = λ z. pick (ltb z (of .years)) (limitAt sheet z) 0;
+  draw = rowDraw sheet;
+  cap = rowCap sheet;
 }
 
 -- load factor × hours × capacity, and (1 − TLM) × RQM, at their greatest
@@ -85,23 +112,22 @@ abbrev pub mostShare : ℕ
 mostShare = whole * whole
 
 -- what has been seen to before a pot is cleared
-pub record Ready (rows figures budgets : List ℕ) (b m y : ℕ) : Type 0 where
-  pub few : m ≤ mostBids + mostApps
-  pub sealed : b ≤ m
-  pub some : 0 < y
-  pub years : y ≤ mostYears
-  pub rows-whole : m * 6 ≤ length rows
-  pub figures-whole : m * 24 ≤ length figures
-  pub budgets-whole : y ≤ length budgets
-  pub app : (k : ℕ) → k < m → rowApp rows k < mostApps
-  pub year : (k : ℕ) → k < m → rowYear rows k < mostDeliveries
-  pub price : (k : ℕ) → k < m → rowPrice rows k ≤ highestPrice
-  pub cap : (k : ℕ) → k < m → rowCap rows k ≤ highestPrice
-  pub draw : (k : ℕ) → k < m → rowDraw rows k < 65536
-  pub reference : (k z : ℕ) → k < m → z < y → figReference figures k z ≤ highestPrice
-  pub energy : (k z : ℕ) → k < m → z < y → figEnergy figures k z ≤ mostEnergy
-  pub share : (k z : ℕ) → k < m → z < y → figShare figures k z ≤ mostShare
-  pub budget : (z : ℕ) → z < y → getD budgets z 0 ≤ highestBudget
+pub record Ready (sheet : List ℕ) (of : Size) : Type 0 where
+  pub few : of .bids ≤ mostBids + mostApps
+  pub sealed : of .sealed ≤ of .bids
+  pub some : 0 < of .years
+  pub years : of .years ≤ mostYears
+  pub app : (k : ℕ) → k < of .bids → rowApp sheet k < mostApps
+  pub year : (k : ℕ) → k < of .bids → rowYear sheet k < mostDeliveries
+  pub price : (k : ℕ) → k < of .bids → rowPrice sheet k ≤ highestPrice
+  pub cap : (k : ℕ) → k < of .bids → rowCap sheet k ≤ highestPrice
+  pub draw : (k : ℕ) → k < of .bids → rowDraw sheet k < 65536
+  pub reference : (k z : ℕ) → k < of .bids → z < of .years → figReference sheet k z ≤ highestPrice
+  pub energy : (k z : ℕ) → k < of .bids → z < of .years → figEnergy sheet k z ≤ mostEnergy
+  pub share : (k z : ℕ) → k < of .bids → z < of .years → figShare sheet k z ≤ mostShare
+  pub limit : (z : ℕ) → z < of .years → limitAt sheet z ≤ highestBudget
   -- two bids of the auction at one price are of applications with different draws
-  pub apart : (c d : ℕ) → c < m → d < m → inAuction rows c ≡ mathlib.Core.Bool.true → inAuction rows d ≡ mathlib.Core.Bool.true
-      → rowPrice rows c ≡ rowPrice rows d → rowDraw rows c ≡ rowDraw rows d → c ≡ d
+  pub apart : (c d : ℕ) → c < of .bids → d < of .bids → inAuction sheet c ≡ true → inAuction sheet d ≡ true
+      → rowPrice sheet c ≡ rowPrice sheet d → rowDraw sheet c ≡ rowDraw sheet d → c ≡ d
+  -- the entrants are the bids of the auction
+  pub listed : entrants sheet (of .entered) ≡ sift (inAuction sheet) (below (of .bids))

@@ -1,9 +1,22 @@
-// The sheet of a pot: its bids, their yearly figures and its budgets as numbers in lent slices, which the auction reads.
-// specs/Sheet.antt says what stands where.
+// The sheet of a pot: its limits, the bids that enter its auction, the rows of all bids and their yearly figures, as numbers in one lent array, which the
+// auction reads; and its size. specs/Sheet.antt says what stands where.
 ghost use mathlib.Core.Path.{_≡_};
-ghost use Prim.Native.Nat.{_+_, _*_, _≤_, _<_};
-ghost use lib.ListN.{length};
-ghost use Rattle.sheet.specs.Sheet.{rowStanding, rowApp, rowYear, rowPrice, rowDraw, rowCap, figReference, figEnergy, figShare};
+ghost use Prim.Native.Nat.{_<_};
+ghost use Rattle.sheet.specs.Sheet.{limitAt, entrantAt, rowStanding, rowApp, rowYear, rowPrice, rowDraw, rowCap, figReference, figEnergy, figShare};
+
+// How much of a sheet is used: the years of the file; its sealed bids; these and the automatic bid of each application; and the bids that enter the auction.
+pub struct Size {
+    pub years: usize,
+    pub sealed: usize,
+    pub bids: usize,
+    pub entered: usize,
+}
+
+// The columns of a row of totals, and of the limits that it is held to: the years' money.
+pub const COLUMNS: usize = 8;
+
+// The most numbers of bids.
+pub const BIDS: usize = 320;
 
 // Numbers to a row of a bid; to a year of its figures, and to all years of them.
 pub const ROW: usize = 6;
@@ -12,6 +25,17 @@ pub const FIGURE: usize = 3;
 
 pub const FIGURES: usize = 24;
 
+// Where the entrants, the rows and the figures start, after the limits; and the whole.
+pub const ENTRANTS_AT: usize = COLUMNS;
+
+pub const ROWS_AT: usize = ENTRANTS_AT + BIDS;
+
+pub const FIGURES_AT: usize = ROWS_AT + BIDS * ROW;
+
+pub const LENGTH: usize = FIGURES_AT + BIDS * FIGURES;
+
+pub type Sheet = [u64; LENGTH];
+
 // The standings of a bid: of another pot, in the auction, an automatic bid of an application that has sealed ones.
 pub const ABSENT: u64 = 0;
 
@@ -19,66 +43,82 @@ pub const ENTERED: u64 = 1;
 
 pub const SPARE: u64 = 2;
 
+// The limit of a column.
+pub fn limit(sheet: &Sheet, c: usize) -> u64
+    requires { ⌜ c < 8 ⌝ }
+    ensures { λ r. ⌜ r ≡ limitAt (now (sheet .entry)) c ⌝ }
+{
+    sheet[c]
+}
+
+// The bid that enters the auction at place j of their list.
+pub fn entrant(sheet: &Sheet, j: usize) -> usize
+    requires { ⌜ j < 320 ⌝ }
+    ensures { λ r. ⌜ r ≡ entrantAt (now (sheet .entry)) j ⌝ }
+{
+    sheet[ENTRANTS_AT + j] as usize
+}
+
 // Does bid k enter the auction, is it spare, or of another pot?
-pub fn standing(rows: &[u64], k: usize) -> u64
-    requires { ⌜ k * 6 + 6 ≤ length (now rows) ⌝ }
-    ensures { λ r. ⌜ r ≡ rowStanding (now (rows .entry)) k ⌝ }
+pub fn standing(sheet: &Sheet, k: usize) -> u64
+    requires { ⌜ k < 320 ⌝ }
+    ensures { λ r. ⌜ r ≡ rowStanding (now (sheet .entry)) k ⌝ }
 {
-    rows[k * ROW]
+    sheet[ROWS_AT + k * ROW]
 }
 
-pub fn app(rows: &[u64], k: usize) -> usize
-    requires { ⌜ k * 6 + 6 ≤ length (now rows) ⌝ }
-    ensures { λ r. ⌜ r ≡ rowApp (now (rows .entry)) k ⌝ }
+pub fn app(sheet: &Sheet, k: usize) -> usize
+    requires { ⌜ k < 320 ⌝ }
+    ensures { λ r. ⌜ r ≡ rowApp (now (sheet .entry)) k ⌝ }
 {
-    rows[k * ROW + 1] as usize
+    sheet[ROWS_AT + k * ROW + 1] as usize
 }
 
-pub fn year(rows: &[u64], k: usize) -> usize
-    requires { ⌜ k * 6 + 6 ≤ length (now rows) ⌝ }
-    ensures { λ r. ⌜ r ≡ rowYear (now (rows .entry)) k ⌝ }
+pub fn year(sheet: &Sheet, k: usize) -> usize
+    requires { ⌜ k < 320 ⌝ }
+    ensures { λ r. ⌜ r ≡ rowYear (now (sheet .entry)) k ⌝ }
 {
-    rows[k * ROW + 2] as usize
+    sheet[ROWS_AT + k * ROW + 2] as usize
 }
 
-pub fn price(rows: &[u64], k: usize) -> u64
-    requires { ⌜ k * 6 + 6 ≤ length (now rows) ⌝ }
-    ensures { λ r. ⌜ r ≡ rowPrice (now (rows .entry)) k ⌝ }
+pub fn price(sheet: &Sheet, k: usize) -> u64
+    requires { ⌜ k < 320 ⌝ }
+    ensures { λ r. ⌜ r ≡ rowPrice (now (sheet .entry)) k ⌝ }
 {
-    rows[k * ROW + 3]
+    sheet[ROWS_AT + k * ROW + 3]
 }
 
-pub fn draw(rows: &[u64], k: usize) -> u64
-    requires { ⌜ k * 6 + 6 ≤ length (now rows) ⌝ }
-    ensures { λ r. ⌜ r ≡ rowDraw (now (rows .entry)) k ⌝ }
+pub fn draw(sheet: &Sheet, k: usize) -> u64
+    requires { ⌜ k < 320 ⌝ }
+    ensures { λ r. ⌜ r ≡ rowDraw (now (sheet .entry)) k ⌝ }
 {
-    rows[k * ROW + 4]
+    sheet[ROWS_AT + k * ROW + 4]
 }
 
-pub fn cap(rows: &[u64], k: usize) -> u64
-    requires { ⌜ k * 6 + 6 ≤ length (now rows) ⌝ }
-    ensures { λ r. ⌜ r ≡ rowCap (now (rows .entry)) k ⌝ }
+pub fn cap(sheet: &Sheet, k: usize) -> u64
+    requires { ⌜ k < 320 ⌝ }
+    ensures { λ r. ⌜ r ≡ rowCap (now (sheet .entry)) k ⌝ }
 {
-    rows[k * ROW + 5]
+    sheet[ROWS_AT + k * ROW + 5]
 }
 
-pub fn reference(figures: &[u64], k: usize, y: usize) -> u64
-    requires { ⌜ (k * 24 + 24 ≤ length (now figures)) × (y < 8) ⌝ }
-    ensures { λ r. ⌜ r ≡ figReference (now (figures .entry)) k y ⌝ }
+pub fn reference(sheet: &Sheet, k: usize, y: usize) -> u64
+    requires { ⌜ (k < 320) × (y < 8) ⌝ }
+    ensures { λ r. ⌜ r ≡ figReference (now (sheet .entry)) k y ⌝ }
 {
-    figures[k * FIGURES + y * FIGURE]
+    sheet[FIGURES_AT + k * FIGURES + y * FIGURE]
 }
 
-pub fn energy(figures: &[u64], k: usize, y: usize) -> u64
-    requires { ⌜ (k * 24 + 24 ≤ length (now figures)) × (y < 8) ⌝ }
-    ensures { λ r. ⌜ r ≡ figEnergy (now (figures .entry)) k y ⌝ }
+pub fn energy(sheet: &Sheet, k: usize, y: usize) -> u64
+    requires { ⌜ (k < 320) × (y < 8) ⌝ }
+    ensures { λ r. ⌜ r ≡ figEnergy (now (sheet .entry)) k y ⌝ }
 {
-    figures[k * FIGURES + y * FIGURE + 1]
+    sheet[FIGURES_AT + k * FIGURES + y * FIGURE + 1]
 }
 
-pub fn share(figures: &[u64], k: usize, y: usize) -> u64
-    requires { ⌜ (k * 24 + 24 ≤ length (now figures)) × (y < 8) ⌝ }
-    ensures { λ r. ⌜ r ≡ figShare (now (figures .entry)) k y ⌝ }
+pub fn share(sheet: &Sheet, k: usize, y: usize) -> u64
+    requires { ⌜ (k < 320) × (y < 8) ⌝ }
+    ensures { λ r. ⌜ r ≡ figShare (now (sheet .entry)) k y ⌝ }
 {
-    figures[k * FIGURES + y * FIGURE + 2]
+    sheet[FIGURES_AT + k * FIGURES + y * FIGURE + 2]
 }
