@@ -1,4 +1,3 @@
 pub mod Laws
-pub mod Listed
 pub mod Link
 pub mod Parts

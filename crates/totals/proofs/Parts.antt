@@ -12,70 +12,68 @@ use borrow.Author.Tests.{eq-eqb, ne-eqb}
 use Rattle.rules.specs.Names.{becauseWon}
 use Rattle.rules.specs.Lists.{pick, sift, below}
 use Rattle.laws.specs.Lists.{case, In, here, there, sift-in, sift-le, below-in, length-below}
-use Rattle.sheet.specs.Sheet.{inAuction, rowYear}
-use Rattle.totals.specs.Totals.{Checked, Valued, listed, Listed, dearest, worthOf, costOf, totalOf, partOn, partOf, filled, raised}
+use Rattle.sheet.specs.declared.Size.{Size}
+use Rattle.sheet.specs.Sheet.{Ready, entrantAt, entrants, inAuction, rowYear}
+use Rattle.sheet.proofs.Entrants.{entrants-length, passed-small}
+use Rattle.totals.specs.Totals.{dearest, worthOf, costOf, totalOf, partOn, partOf, filled, raised}
 use Rattle.totals.proofs.Laws.{worth-le, pick-le, added-is}
-use Rattle.totals.proofs.Listed.{passed-small, listed-length}
 
-module _ (rows figures marks : List ℕ) (price d : ℕ) where
+module _ (sheet marks : List ℕ) (price d : ℕ) where
   -- of a list of bids, of the bids passed, and of all
-  part-le : (m y z : ℕ) (l : List ℕ) → Valued rows figures m y → z < y → ((k : ℕ) → In k l → k < m) → partOn rows figures marks price d z l ≤ dearest * length l
+  part-le : (of : Size) (z : ℕ) (l : List ℕ) → Ready sheet of → z < of .years → ((k : ℕ) → In k l → k < of .bids) → partOn sheet marks price d z l ≤ dearest * length l
   unfolding partOn
-  part-le m y z [] v h g = omega arith
-  part-le m y z (k ∷ l) v h g =
+  part-le of z [] v h g = omega arith
+  part-le of z (k ∷ l) v h g =
       omega (
         arith,
-        part-le m y z l v h (λ j i. g j (there i)),
-        pick-le (eqb (getD marks k 0) becauseWon && eqb (rowYear rows k) d) (worth-le rows figures k price z (v .priced k z (g k (here refl)) h)),
+        part-le of z l v h (λ j i. g j (there i)),
+        pick-le (eqb (getD marks k 0) becauseWon && eqb (rowYear sheet k) d) (worth-le sheet of k price z v (g k (here refl)) h),
       )
 
-  pub part-passed : {m y : ℕ} {list : List ℕ} {c : ℕ} (j z : ℕ) → Valued rows figures m y → Listed rows m list c → j ≤ c → z < y → partOn rows figures marks price d z (listed list j) ≤ dearest * j
-  part-passed {m} {y} {list} j z v L g h = omega (arith, part-le m y z (listed list j) v h (passed-small L j g), listed-length list j)
+  pub part-passed : {of : Size} (j z : ℕ) → Ready sheet of → j ≤ of .entered → z < of .years → partOn sheet marks price d z (entrants sheet j) ≤ dearest * j
+  part-passed {of} j z v g h = omega (arith, part-le of z (entrants sheet j) v h (passed-small v j g), entrants-length sheet j)
 
-  pub part-most : (m y z : ℕ) → Valued rows figures m y → z < y → partOf rows figures marks price d z m ≤ dearest * m
+  pub part-most : (of : Size) (z : ℕ) → Ready sheet of → z < of .years → partOf sheet marks price d z (of .bids) ≤ dearest * of .bids
   unfolding partOf
-  part-most m y z v h =
+  part-most of z v h =
       omega (
         arith,
-        part-le m y z (sift (inAuction rows) (below m)) v h (λ k i. below-in k m (sift-in k (inAuction rows) (below m) i .0)),
-        sift-le (inAuction rows) (below m),
-        length-below m,
+        part-le of z (sift (inAuction sheet) (below (of .bids))) v h (λ k i. below-in k (of .bids) (sift-in k (inAuction sheet) (below (of .bids)) i .0)),
+        sift-le (inAuction sheet) (below (of .bids)),
+        length-below (of .bids),
       )
 
   -- the row of totals, one bid of the list more: a winner of the year, a bid that has not won, a bid of another year
-  module _ (list : List ℕ) (j y : ℕ) {row : List ℕ} (er : row ≡ filled (λ z. partOn rows figures marks price d z (listed list j)) y) where
-    abbrev i : ℕ
-    i = getD list j 0
-
-    pub part-hit : {s : ℕ} {next : List ℕ} → y ≤ 8 → getD marks i 0 ≡ 1 → s ≡ rowYear rows i → s ≡ d
-        → next ≡ raised (λ z. worthOf rows figures i price z) row y → next ≡ filled (λ z. partOn rows figures marks price d z (listed list (j + 1))) y
+  module _ (j y : ℕ) {i : ℕ} (ei : i ≡ entrantAt sheet j) {row : List ℕ} (er : row ≡ filled (λ z. partOn sheet marks price d z (entrants sheet j)) y) where
+    pub part-hit : {s : ℕ} {next : List ℕ} → y ≤ 8 → getD marks i 0 ≡ 1 → s ≡ rowYear sheet i → s ≡ d
+        → next ≡ raised (λ z. worthOf sheet i price z) row y → next ≡ filled (λ z. partOn sheet marks price d z (entrants sheet (j + 1))) y
     part-hit h w es t en =
-        en ∙ ap (λ (l : List ℕ). raised (λ z. worthOf rows figures i price z) l y) er
-        ∙ added-is (λ z. partOn rows figures marks price d z (listed list j)) (λ z. worthOf rows figures i price z) y h
+        en ∙ ap (λ (l : List ℕ). raised (λ z. worthOf sheet i price z) l y) er
+        ∙ added-is (λ z. partOn sheet marks price d z (entrants sheet j)) (λ z. worthOf sheet i price z) y h
         ∙ ap (λ (f : ℕ → ℕ). filled f y) (λ k z. one z k)
       where
-        one : (z : ℕ) → partOn rows figures marks price d z (listed list j) + worthOf rows figures i price z ≡ partOn rows figures marks price d z (listed list (j + 1))
-        one z = unfold partOn listed in rw (add-one j, eq-eqb _ _ w, eq-eqb (rowYear rows i) d (sym es ∙ t))
+        one : (z : ℕ) → partOn sheet marks price d z (entrants sheet j) + worthOf sheet i price z ≡ partOn sheet marks price d z (entrants sheet (j + 1))
+        one z = unfold partOn entrants in rw (add-one j, ← ei, eq-eqb _ _ w, eq-eqb (rowYear sheet i) d (sym es ∙ t))
 
-    miss : (eqb (getD marks i 0) becauseWon && eqb (rowYear rows i) d) ≡ false → row ≡ filled (λ z. partOn rows figures marks price d z (listed list (j + 1))) y
+    miss : (eqb (getD marks i 0) becauseWon && eqb (rowYear sheet i) d) ≡ false → row ≡ filled (λ z. partOn sheet marks price d z (entrants sheet (j + 1))) y
     miss f = er ∙ ap (λ (f : ℕ → ℕ). filled f y) (λ k z. one z k)
       where
-        one : (z : ℕ) → partOn rows figures marks price d z (listed list j) ≡ partOn rows figures marks price d z (listed list (j + 1))
-        one z = unfold partOn listed in rw (add-one j, f) (omega arith)
+        one : (z : ℕ) → partOn sheet marks price d z (entrants sheet j) ≡ partOn sheet marks price d z (entrants sheet (j + 1))
+        one z = unfold partOn entrants in rw (add-one j, ← ei, f) (omega arith)
 
-    pub part-lost : (getD marks i 0 ≡ 1 → ⊥) → row ≡ filled (λ z. partOn rows figures marks price d z (listed list (j + 1))) y
+    pub part-lost : (getD marks i 0 ≡ 1 → ⊥) → row ≡ filled (λ z. partOn sheet marks price d z (entrants sheet (j + 1))) y
     part-lost n = miss (rw (ne-eqb _ _ n))
 
-    pub part-apart : {s : ℕ} → s ≡ rowYear rows i → (s ≡ d → ⊥) → row ≡ filled (λ z. partOn rows figures marks price d z (listed list (j + 1))) y
-    part-apart es n = miss (rw (ne-eqb (rowYear rows i) d (λ e. n (es ∙ e))) (none (eqb (getD marks i 0) becauseWon)))
+    pub part-apart : {s : ℕ} → s ≡ rowYear sheet i → (s ≡ d → ⊥) → row ≡ filled (λ z. partOn sheet marks price d z (entrants sheet (j + 1))) y
+    part-apart es n = miss (rw (ne-eqb (rowYear sheet i) d (λ e. n (es ∙ e))) (none (eqb (getD marks i 0) becauseWon)))
       where
         none : (b : Bool) → (b && false) ≡ false
         none true = refl
         none false = refl
 
-    pub part-done : {m c : ℕ} → Listed rows m list c → j ≤ c → c ≤ j → row ≡ filled (λ z. partOf rows figures marks price d z m) y
-    unfolding partOf
-    part-done L h g = er ∙ ap (λ (l : List ℕ). filled (λ z. partOn rows figures marks price d z l) y) (ap (listed list) (le-antisymm h g) ∙ L .bids)
+  pub part-done : (j y : ℕ) {of : Size} {row : List ℕ} → row ≡ filled (λ z. partOn sheet marks price d z (entrants sheet j)) y → Ready sheet of → j ≤ of .entered → of .entered ≤ j → row ≡ filled (λ z. partOf sheet marks price d z (of .bids)) y
+  unfolding partOf
+  part-done j y er L h g = er ∙ ap (λ (l : List ℕ). filled (λ z. partOn sheet marks price d z l) y) (ap (entrants sheet) (le-antisymm h g) ∙ L .listed)
 
 -- a bid that starts in one of the four years counts in that year alone
 spread : (t : Bool) (s : ℕ) (w : ℕ → ℕ) → s < 4
@@ -88,23 +86,23 @@ spread true (suc (suc (suc zero))) w h = omega arith
 spread true (suc (suc (suc (suc s)))) w h = absurd (omega arith)
 
 -- the winners all entered the auction
-module _ (rows figures marks prices : List ℕ) (z m : ℕ) (ok : Checked rows m) (others : (k : ℕ) → k < m → inAuction rows k ≡ false → eqb (getD marks k 0) becauseWon ≡ false) where
+module _ (sheet : List ℕ) (of : Size) (marks prices : List ℕ) (z : ℕ) (ok : Ready sheet of) (others : (k : ℕ) → k < of .bids → inAuction sheet k ≡ false → eqb (getD marks k 0) becauseWon ≡ false) where
   abbrev parts : ℕ → ℕ → ℕ
-  parts d n = partOf rows figures marks (getD prices d 0) d z n
+  parts d n = partOf sheet marks (getD prices d 0) d z n
 
-  four : (n : ℕ) → n ≤ m → totalOf rows figures marks prices z n ≡ parts 0 n + (parts 1 n + (parts 2 n + parts 3 n))
+  four : (n : ℕ) → n ≤ of .bids → totalOf sheet marks prices z n ≡ parts 0 n + (parts 1 n + (parts 2 n + parts 3 n))
   unfolding totalOf costOf partOf partOn
   four zero h = omega arith
   four (suc n) h =
-      case (inAuction rows n)
+      case (inAuction sheet n)
       (λ t.
       rw t
       (omega (
         arith,
         four n (omega arith),
-        spread (eqb (getD marks n 0) becauseWon) (rowYear rows n) (λ d. worthOf rows figures n (getD prices d 0) z) (ok .year n h),
+        spread (eqb (getD marks n 0) becauseWon) (rowYear sheet n) (λ d. worthOf sheet n (getD prices d 0) z) (ok .year n h),
       )))
       (λ f. rw (f, others n h f) (omega (arith, four n (omega arith))))
 
-  pub total-parts : totalOf rows figures marks prices z m ≡ parts 0 m + (parts 1 m + (parts 2 m + parts 3 m))
-  total-parts = four m (omega arith)
+  pub total-parts : totalOf sheet marks prices z (of .bids) ≡ parts 0 (of .bids) + (parts 1 (of .bids) + (parts 2 (of .bids) + parts 3 (of .bids)))
+  total-parts = four (of .bids) (omega arith)

@@ -10,34 +10,34 @@ use Rattle.totals.proofs.added.Statement.{statement}
 use Rattle.totals.proofs.added.Tie as tie
 
 abbrev Inv-loop : tie.InvT-loop
-Inv-loop rows figures price k y row₀ z₀ row z = (z ≤ y) × (row ≡ raised (λ x. worthOf rows figures k price x) row₀ z)
+Inv-loop sheet of k price row₀ y z₀ row z = (z ≤ y) × (row ≡ raised (λ x. worthOf sheet k price x) row₀ z)
 
 abbrev μ-loop : tie.MeasureT-loop
-μ-loop rows figures price k y row₀ z₀ row z = y - z
+μ-loop sheet of k price row₀ y z₀ row z = y - z
 
 loop-holds : tie.Need-loop-holds Inv-loop μ-loop
 unfolding fill
 loop-holds c = (omega arith, refl)
 
 worth-requires : tie.Need-worth-requires Inv-loop μ-loop
-worth-requires c κs = c .before .before .before .before .pre .priced _ (c .loop-test .taken)
+worth-requires c κs = let pre = c .before .before .pre in (pre .ready, pre .known, c .loop-test .taken)
 
 mul-row : tie.Need-mul-row Inv-loop μ-loop
-mul-row c = omega (arith, c .before .loop-test .taken, c .before .before .before .before .before .pre .years)
+mul-row c = omega (arith, c .before .loop-test .taken, c .before .before .before .pre .ready .years)
 
 array-read-row : tie.Need-array-read-row Inv-loop μ-loop
-array-read-row c = omega (arith, c .before .loop-test .taken, c .before .before .before .before .before .pre .years)
+array-read-row c = omega (arith, c .before .loop-test .taken, c .before .before .before .pre .ready .years)
 
 add-row : tie.Need-add-row Inv-loop μ-loop
 add-row c =
     omega (
       arith,
       c .worth .ensures .1,
-      raised-low _ _ _ (c .before .before .loop .inv .1) (c .before .before .before .before .before .pre .low _ (c .before .loop-test .taken)),
+      raised-low _ _ _ (c .before .before .loop .inv .1) (c .before .before .before .pre .low _ (c .before .loop-test .taken)),
     )
 
 array-write-row : tie.Need-array-write-row Inv-loop μ-loop
-array-write-row c = omega (arith, c .before .loop-test .taken, c .before .before .before .before .before .pre .years)
+array-write-row c = omega (arith, c .before .loop-test .taken, c .before .before .before .pre .ready .years)
 
 loop-again : tie.Need-loop-again Inv-loop μ-loop
 loop-again c = (omega arith, raised-next _ _ _ (c .before .before .loop .inv .1) (c .worth .ensures .0))

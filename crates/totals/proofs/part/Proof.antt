@@ -4,57 +4,58 @@ use native.Mathlib.Omega.{arith}
 use Prim.Native.Nat.{_≤_, _-_}
 use mathlib.Core.Path.{_≡_, _∙_}
 use mathlib.Core.Logic.{⊎-elim}
-use Rattle.totals.specs.Totals.{listed, partOn, noRow, filled}
+use Rattle.sheet.specs.Sheet.{entrants}
+use Rattle.sheet.proofs.Entrants.{entrant-small, entrants-few}
+use Rattle.totals.specs.Totals.{partOn, noRow, filled}
 use Rattle.totals.proofs.Laws.{row-none, adding}
-use Rattle.totals.proofs.Listed.{listed-small, listed-few}
 use Rattle.totals.proofs.Parts.{part-hit, part-lost, part-apart, part-done, part-passed}
 use Rattle.totals.proofs.part.Statement.{statement}
 use Rattle.totals.proofs.part.Tie as tie
 
 abbrev Inv-loop : tie.InvT-loop
-Inv-loop rows figures list price m y c d marks row₀ j₀ row j = (j ≤ c) × (row ≡ filled (λ z. partOn rows figures marks price d z (listed list j)) y)
+Inv-loop sheet of price d marks row₀ c j₀ row j = (j ≤ c) × (row ≡ filled (λ z. partOn sheet marks price d z (entrants sheet j)) (of .years))
 
 abbrev μ-loop : tie.MeasureT-loop
-μ-loop rows figures list price m y c d marks row₀ j₀ row j = c - j
+μ-loop sheet of price d marks row₀ c j₀ row j = c - j
 
 loop-holds : tie.Need-loop-holds Inv-loop μ-loop
-unfolding listed partOn noRow
-loop-holds c = (omega arith, row-none _ (c .before .before .before .pre .0 .years))
+unfolding entrants partOn noRow
+loop-holds c = (omega arith, row-none _ (c .pre .years))
 
-shared-slice-read-i : tie.Need-shared-slice-read-i Inv-loop μ-loop
-shared-slice-read-i c = omega (arith, c .before .loop-test .taken, c .before .before .before .before .before .before .pre .1 .room)
+entrant-requires : tie.Need-entrant-requires Inv-loop μ-loop
+entrant-requires c κs = omega (arith, c .loop-test .taken, entrants-few (c .before .before .pre), c .before .before .pre .few)
 
 mul-if1 : tie.Need-mul-if1 Inv-loop μ-loop
-mul-if1 c = let pre = c .before .before .before .before .before .before .pre in omega (arith, listed-small (pre .1) _ (c .before .loop-test .taken), pre .0 .checked .few)
+mul-if1 c = let pre = c .before .before .before .pre in omega (arith, c .entrant .ensures, entrant-small pre _ (c .before .loop-test .taken), pre .few)
 
 array-read-if1 : tie.Need-array-read-if1 Inv-loop μ-loop
-array-read-if1 c = let pre = c .before .before .before .before .before .before .pre in omega (arith, listed-small (pre .1) _ (c .before .loop-test .taken), pre .0 .checked .few)
+array-read-if1 c = let pre = c .before .before .before .pre in omega (arith, c .entrant .ensures, entrant-small pre _ (c .before .loop-test .taken), pre .few)
 
 year-requires : tie.Need-year-requires Inv-loop μ-loop
-year-requires c κs = let pre = c .before .before .before .before .before .before .before .pre in omega (arith, listed-small (pre .1) _ (c .before .before .loop-test .taken), pre .0 .checked .rows-whole)
+year-requires c κs = let pre = c .before .before .before .before .pre in omega (arith, c .before .entrant .ensures, entrant-small pre _ (c .before .before .loop-test .taken), pre .few)
 
 added-requires : tie.Need-added-requires Inv-loop μ-loop
 added-requires c κs =
-    let pre = c .before .before .before .before .before .before .before .before .before .pre in
+    let pre = c .before .before .before .before .before .before .pre in
     let inv = c .before .before .before .before .before .loop .inv in
-    adding _ _ _ _ _ _ _ (pre .0) (listed-small (pre .1) _ (c .before .before .before .before .loop-test .taken)) (omega (arith, inv .0, listed-few (pre .1))) (inv .1)
-    (λ z h. part-passed _ _ _ _ _ _ z (pre .0) (pre .1) (inv .0) h)
+    adding _ _ _ _ _ pre (omega (arith, c .before .before .before .entrant .ensures, entrant-small pre _ (c .before .before .before .before .loop-test .taken))) (omega (arith, inv .0, entrants-few pre)) (inv .1)
+    (λ z h. part-passed _ _ _ _ _ z pre (inv .0) h)
 
 loop-again : tie.Need-loop-again Inv-loop μ-loop
 loop-again c =
-    let pre = c .before .before .before .before .before .before .before .pre in
+    let pre = c .before .before .before .before .pre in
     let inv = c .before .before .before .loop .inv in (
       omega (arith, c .before .before .loop-test .taken),
-      ⊎-elim (λ w. w .4 ∙ part-hit _ _ _ _ _ _ _ _ (inv .1) (pre .0 .years) (w .0 .taken) (w .1 .ensures) (w .2 .taken) (w .3 .ensures))
-          (⊎-elim (λ w. w .3 ∙ part-apart _ _ _ _ _ _ _ _ (inv .1) (w .1 .ensures) (w .2 .left))
-          (λ w. w .1 ∙ part-lost _ _ _ _ _ _ _ _ (inv .1) (w .0 .left)))
+      ⊎-elim (λ w. w .4 ∙ part-hit _ _ _ _ _ _ (c .before .entrant .ensures) (inv .1) (pre .years) (w .0 .taken) (w .1 .ensures) (w .2 .taken) (w .3 .ensures))
+          (⊎-elim (λ w. w .3 ∙ part-apart _ _ _ _ _ _ (c .before .entrant .ensures) (inv .1) (w .1 .ensures) (w .2 .left))
+          (λ w. w .1 ∙ part-lost _ _ _ _ _ _ (c .before .entrant .ensures) (inv .1) (w .0 .left)))
           (c .if1 .came),
     )
 
 returns : tie.Need-returns Inv-loop μ-loop
-returns c = part-done _ _ _ _ _ _ _ _ (c .before .loop .inv .1) (c .before .before .before .before .before .pre .1) (c .before .loop .inv .0) (c .loop-test .left)
+returns c = part-done _ _ _ _ _ _ (c .before .loop .inv .1) (c .before .before .pre) (c .before .loop .inv .0) (c .loop-test .left)
 
 pub part-spec : {M : Type 1} → statement M
 part-spec =
-    tie.close (tie.spec Inv-loop μ-loop loop-holds (λ c. search needs) shared-slice-read-i mul-if1 array-read-if1 year-requires added-requires (λ c. omega arith) (λ
+    tie.close (tie.spec Inv-loop μ-loop loop-holds entrant-requires mul-if1 array-read-if1 year-requires added-requires (λ c. omega arith) (λ
     c. omega arith) loop-again returns)

@@ -9,48 +9,48 @@ use Rattle.totals.proofs.revalued.Statement.{statement}
 use Rattle.totals.proofs.revalued.Tie as tie
 
 abbrev Inv-loop : tie.InvT-loop
-Inv-loop rows figures m y marks prices row₀ i₀ row i = (i ≤ m) × (row ≡ filled (λ z. totalOf rows figures marks prices z i) y)
+Inv-loop sheet of marks prices row₀ m i₀ row i = (i ≤ m) × (row ≡ filled (λ z. totalOf sheet marks prices z i) (of .years))
 
 abbrev μ-loop : tie.MeasureT-loop
-μ-loop rows figures m y marks prices row₀ i₀ row i = m - i
+μ-loop sheet of marks prices row₀ m i₀ row i = m - i
 
 loop-holds : tie.Need-loop-holds Inv-loop μ-loop
 unfolding totalOf noRow
-loop-holds c = (omega arith, row-none _ (c .before .before .pre .years))
+loop-holds c = (omega arith, row-none _ (c .pre .years))
 
 mul-if1 : tie.Need-mul-if1 Inv-loop μ-loop
-mul-if1 c = omega (arith, c .loop-test .taken, c .before .before .before .before .pre .checked .few)
+mul-if1 c = omega (arith, c .loop-test .taken, c .before .before .pre .few)
 
 array-read-if1 : tie.Need-array-read-if1 Inv-loop μ-loop
-array-read-if1 c = omega (arith, c .loop-test .taken, c .before .before .before .before .pre .checked .few)
+array-read-if1 c = omega (arith, c .loop-test .taken, c .before .before .pre .few)
 
 year-requires : tie.Need-year-requires Inv-loop μ-loop
-year-requires c κs = omega (arith, c .before .loop-test .taken, c .before .before .before .before .before .pre .checked .rows-whole)
+year-requires c κs = omega (arith, c .before .loop-test .taken, c .before .before .before .pre .few)
 
 mul-added : tie.Need-mul-added Inv-loop μ-loop
-mul-added c = omega (arith, c .year .ensures, c .before .before .before .before .before .before .pre .checked .year _ (c .before .before .loop-test .taken))
+mul-added c = omega (arith, c .year .ensures, c .before .before .before .before .pre .year _ (c .before .before .loop-test .taken))
 
 array-read-added : tie.Need-array-read-added Inv-loop μ-loop
-array-read-added c = omega (arith, c .year .ensures, c .before .before .before .before .before .before .pre .checked .year _ (c .before .before .loop-test .taken))
+array-read-added c = omega (arith, c .year .ensures, c .before .before .before .before .pre .year _ (c .before .before .loop-test .taken))
 
 added-requires : tie.Need-added-requires Inv-loop μ-loop
 added-requires c κs =
-    let v = c .before .before .before .before .before .before .pre in
+    let v = c .before .before .before .before .pre in
     let inv = c .before .before .before .loop .inv in
-    adding _ _ _ _ _ _ _ v (c .before .before .loop-test .taken) (inv .0) (inv .1) (λ z h. total-le _ _ _ _ _ _ z _ v h (inv .0))
+    adding _ _ _ _ _ v (c .before .before .loop-test .taken) (inv .0) (inv .1) (λ z h. total-le _ _ _ _ z _ v h (inv .0))
 
 loop-again : tie.Need-loop-again Inv-loop μ-loop
 loop-again c =
     let inv = c .before .before .loop .inv in
-    let v = c .before .before .before .before .before .pre in (
+    let v = c .before .before .before .pre in (
       omega (arith, c .before .loop-test .taken),
-      ⊎-elim (λ w. w .3 ∙ row-hit _ _ _ _ _ _ (v .years) (w .0 .taken) (w .1 .ensures) (inv .1) (w .2 .ensures))
-          (λ w. w .1 ∙ row-miss _ _ _ _ _ _ (w .0 .left) (inv .1))
+      ⊎-elim (λ w. w .3 ∙ row-hit _ _ _ _ _ (v .years) (w .0 .taken) (w .1 .ensures) (inv .1) (w .2 .ensures))
+          (λ w. w .1 ∙ row-miss _ _ _ _ _ (w .0 .left) (inv .1))
           (c .if1 .came),
     )
 
 returns : tie.Need-returns Inv-loop μ-loop
-returns c = row-done _ _ _ _ _ _ (c .before .loop .inv .1) (c .before .loop .inv .0) (c .loop-test .left)
+returns c = row-done _ _ _ _ _ (c .before .loop .inv .1) (c .before .loop .inv .0) (c .loop-test .left)
 
 pub revalued-spec : {M : Type 1} → statement M
 revalued-spec =

@@ -11,10 +11,10 @@ use Rattle.totals.proofs.within.Statement.{statement}
 use Rattle.totals.proofs.within.Tie as tie
 
 abbrev Inv-loop : tie.InvT-loop
-Inv-loop budgets y row ok₀ z₀ ok z = (z ≤ y) × (ok ≡ rowFits row budgets z)
+Inv-loop sheet row ok₀ y z₀ ok z = (z ≤ y) × (ok ≡ rowFits sheet row z)
 
 abbrev μ-loop : tie.MeasureT-loop
-μ-loop budgets y row ok₀ z₀ ok z = y - z
+μ-loop sheet row ok₀ y z₀ ok z = y - z
 
 loop-holds : tie.Need-loop-holds Inv-loop μ-loop
 unfolding fitsTo
@@ -23,7 +23,7 @@ loop-holds c = search needs
 loop-again : tie.Need-loop-again Inv-loop μ-loop
 loop-again c = (
   omega arith,
-  ⊎-elim (λ w. w .1 ∙ fits-not _ _ _ refl (w .0 .taken)) (λ w. w .1 ∙ fits-more _ _ _ refl (w .0 .left) (c .before .before .before .loop .inv .1)) (c .if1 .came),
+  ⊎-elim (λ w. w .1 ∙ fits-not _ _ _ refl (c .before .limit .ensures) (w .0 .taken)) (λ w. w .1 ∙ fits-more _ _ _ refl (c .before .limit .ensures) (w .0 .left) (c .before .before .before .loop .inv .1)) (c .if1 .came),
 )
 
 returns : tie.Need-returns Inv-loop μ-loop
@@ -31,5 +31,5 @@ returns c = done (fitsTo _ _) (c .before .loop .inv .1) (c .before .loop .inv .0
 
 pub within-spec : {M : Type 1} → statement M
 within-spec =
-    tie.close (tie.spec Inv-loop μ-loop loop-holds (λ c. search needs) (λ c. search needs) (λ c. search needs) (λ c. search needs) (λ c. omega arith)
+    tie.close (tie.spec Inv-loop μ-loop loop-holds (λ c. search needs) (λ c. search needs) (λ c κs. search needs) (λ c. omega arith)
     (λ c. omega arith) loop-again returns)
