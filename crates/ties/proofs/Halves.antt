@@ -18,6 +18,7 @@ use Rattle.sets.specs.Sets.{fill}
 use Rattle.sets.proofs.Arrays.{zeros, fill-at, fill-length, fill-le}
 use Rattle.totals.specs.Totals.{dearest}
 use Rattle.totals.proofs.Laws.{fits-same}
+use Rattle.sheet.specs.declared.Size.{Size}
 use Rattle.ties.specs.Ties.{touchOf, touchedOf, addedOf, oneAt, noOnes, onesOf, costAt, noCosts, costsOf, oneYearAt, noOneYears, oneYearsOf, yearAt, noYears, yearsOf, maskTotal, figure, okMask, lastMask, bestMask, jointOf, unionOf, okBy, lastBy, bestBy, Base, Summed, Placed, Tabled, Dated}
 
 -- ---- binary places
@@ -343,22 +344,22 @@ best-le f t (suc n) =
     case (f n && leb (t (best f t n)) (t n)) (λ e. rw e (omega arith)) (λ e. rw e (omega arith))
 
 best-alike : (f g : ℕ → Bool) (t u : ℕ → ℕ) (most n : ℕ) → n ≤ most
-    → ((m : ℕ) → m < most → f m ≡ g m) → ((m : ℕ) → m < most → t m ≡ u m) → best f t n ≡ best g u n
+    → ((x : ℕ) → x < most → f x ≡ g x) → ((x : ℕ) → x < most → t x ≡ u x) → best f t n ≡ best g u n
 unfolding best
 best-alike f g t u most zero l h k = refl
 best-alike f g t u most (suc n) l h k =
     rw (h n l, k n l, best-alike f g t u most n (omega arith) h k, k (best g u n) (omega (arith, best-le g u n)))
 
-pub best-is : (base own ranks starts budgets : List ℕ) (k y : ℕ) {low high lows highs : List ℕ} {r : ℕ} → k ≤ 10 → 0 < y → y ≤ 8
+pub best-is : (sheet : List ℕ) (of : Size) (base own ranks starts : List ℕ) (k : ℕ) {low high lows highs : List ℕ} {r : ℕ} → k ≤ 10 → 0 < of .years → of .years ≤ 8
     → low ≡ costsOf own ranks k 0 → high ≡ costsOf own ranks k 5 → lows ≡ yearsOf ranks starts k 0 → highs ≡ yearsOf ranks starts k 5
-    → r ≡ bestBy base low high lows highs budgets k y → r ≡ bestMask base own ranks starts budgets k y
+    → r ≡ bestBy sheet of base low high lows highs k → r ≡ bestMask sheet of base own ranks starts k
 unfolding bestBy bestMask okBy okMask lastBy lastMask
-best-is base own ranks starts budgets k y {low} {high} {lows} {highs} hk some most el eh ey ez er =
+best-is sheet of base own ranks starts k {low} {high} {lows} {highs} hk some most el eh ey ez er =
     er
-    ∙ best-alike (okBy base low high lows highs budgets y) (okMask base own ranks starts budgets k y) (lastBy base low high lows highs y)
-    (lastMask base own ranks starts k y) 1024 (2 ^ k) (pow-mono {j = 10} hk)
-    (λ m h. fits-same _ _ budgets y (λ z g. total m z h (omega arith))) (λ m h. total m (y - 1) h (omega arith))
+    ∙ best-alike (okBy sheet of base low high lows highs) (okMask sheet of base own ranks starts k) (lastBy of base low high lows highs)
+    (lastMask of base own ranks starts k) 1024 (2 ^ k) (pow-mono {j = 10} hk)
+    (λ x h. fits-same _ _ sheet (of .years) (λ z g. total x z h (omega arith))) (λ x h. total x (of .years - 1) h (omega arith))
   where
-    total : (m z : ℕ) → m < 1024 → z < 8 → jointOf base low high m (unionOf lows highs m) z ≡ figure base own ranks k m (touchedOf ranks starts m k) z
-    total m z h g =
-        ap (λ (t : ℕ). jointOf base low high m t z) (union-touched ranks starts k m ey ez h) ∙ joint-figure own ranks k base m (touchedOf ranks starts m k) z el eh h g
+    total : (x z : ℕ) → x < 1024 → z < 8 → jointOf base low high x (unionOf lows highs x) z ≡ figure base own ranks k x (touchedOf ranks starts x k) z
+    total x z h g =
+        ap (λ (t : ℕ). jointOf base low high x t z) (union-touched ranks starts k x ey ez h) ∙ joint-figure own ranks k base x (touchedOf ranks starts x k) z el eh h g

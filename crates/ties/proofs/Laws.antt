@@ -16,10 +16,11 @@ use Rattle.laws.specs.Lists.{case}
 use Rattle.laws.specs.Bits.{add-lt}
 use Rattle.sets.specs.Sets.{fill, members}
 use Rattle.sets.proofs.Arrays.{put-is, fill-length, fill-at, zeros}
-use Rattle.sheet.specs.Sheet.{rowYear, rowDraw}
-use Rattle.totals.specs.Totals.{listed, worthOf, totalOf, noRow, filled, fitsTo}
+use Rattle.sheet.specs.declared.Size.{Size}
+use Rattle.sheet.specs.Sheet.{limitAt, rowYear, rowDraw}
+use Rattle.totals.specs.Totals.{worthOf, totalOf, noRow, filled, fitsTo}
 use Rattle.ties.specs.declared.Best.{Best}
-use Rattle.ties.specs.Ties.{raisedTo, baseAt, noBase, laidTo, aloneTotal, aloneFits, keepsOf, compactOf, aboveOf, rankOf, startOf, ownAt, touchOf, touchedOf, bestOf, considered, bestMask, combinationOf, addedOf, oneAt, oneYearAt, jointOf, unionOf, okBy, lastBy, lookedAt, bestBy, ranksOf, startsOf, ownsOf, choiceAt, choiceOf}
+use Rattle.ties.specs.Ties.{raisedTo, baseAt, noBase, laidTo, aloneTotal, aloneFits, keepsOf, compactOf, listed, aboveOf, rankOf, startOf, ownAt, touchOf, touchedOf, bestOf, considered, bestMask, combinationOf, addedOf, oneAt, oneYearAt, jointOf, unionOf, okBy, lastBy, lookedAt, bestBy, ranksOf, startsOf, ownsOf, choiceAt, choiceOf}
 
 -- ---- the present winners
 module _ (prices : List ℕ) (p t d : ℕ) {b : Bool} {row : List ℕ} (eb : b ≡ has t d) (er : row ≡ raisedTo prices p t d) where
@@ -45,17 +46,17 @@ fill-past l f (suc n) z g h =
     ∙ rw (ne-eqb z n (λ e. let q : ⊥ = omega arith in q)) (fill-past l f n z (omega arith) (omega arith))
 
 -- a row of totals at the prices of the set t is that set's row of the table
-row-is : (rows figures marks prices : List ℕ) (p m y t z : ℕ) → y ≤ 8 → z < 8
-    → getD (filled (λ z. totalOf rows figures marks (raisedTo prices p t 4) z m) y) z 0 ≡ baseAt rows figures marks prices p m y (t * 8 + z)
+row-is : (sheet : List ℕ) (of : Size) (marks prices : List ℕ) (p t z : ℕ) → of .years ≤ 8 → z < 8
+    → getD (filled (λ z. totalOf sheet marks (raisedTo prices p t 4) z (of .bids)) (of .years)) z 0 ≡ baseAt sheet of marks prices p (t * 8 + z)
 unfolding baseAt noRow
-row-is rows figures marks prices p m y t z h g =
+row-is sheet of marks prices p t z h g =
     rw (q, w)
-    (case (ltb z y)
-    (λ u. rw u (fill-at noRow f y z 0 h (ltb-true z y u)))
-    (λ u. rw u (fill-past noRow f y z h (ltb-false z y u) ∙ zeros 8 z)))
+    (case (ltb z (of .years))
+    (λ u. rw u (fill-at noRow f (of .years) z 0 h (ltb-true z (of .years) u)))
+    (λ u. rw u (fill-past noRow f (of .years) z h (ltb-false z (of .years) u) ∙ zeros 8 z)))
   where
     f : ℕ → ℕ
-    f z = totalOf rows figures marks (raisedTo prices p t 4) z m
+    f z = totalOf sheet marks (raisedTo prices p t 4) z (of .bids)
 
     q : (t * 8 + z) / 8 ≡ t
     q = omega arith
@@ -68,16 +69,16 @@ unfolding laidTo fill
 laid-fill l f row t zero h = let e : t * 8 ≡ t * 8 + 0 = omega arith in ap (fill l f) e
 laid-fill l f row t (suc n) h = rw (laid-fill l f row t n (λ z g. h z (omega arith)), h n (omega arith), add-suc (t * 8) n)
 
-pub bases-next : (rows figures marks prices : List ℕ) (p m y t : ℕ) {trial row base r : List ℕ} → y ≤ 8 → trial ≡ raisedTo prices p t 4
-    → row ≡ filled (λ z. totalOf rows figures marks trial z m) y → base ≡ fill noBase (baseAt rows figures marks prices p m y) (t * 8) → r ≡ laidTo base row t 8
-    → r ≡ fill noBase (baseAt rows figures marks prices p m y) ((t + 1) * 8)
-bases-next rows figures marks prices p m y t {trial} {row} {base} {r} h et ew eb er =
+pub bases-next : (sheet : List ℕ) (of : Size) (marks prices : List ℕ) (p t : ℕ) {trial row base r : List ℕ} → of .years ≤ 8 → trial ≡ raisedTo prices p t 4
+    → row ≡ filled (λ z. totalOf sheet marks trial z (of .bids)) (of .years) → base ≡ fill noBase (baseAt sheet of marks prices p) (t * 8) → r ≡ laidTo base row t 8
+    → r ≡ fill noBase (baseAt sheet of marks prices p) ((t + 1) * 8)
+bases-next sheet of marks prices p t {trial} {row} {base} {r} h et ew eb er =
     er ∙ ap (λ (l : List ℕ). laidTo l row t 8) eb
-    ∙ laid-fill noBase (baseAt rows figures marks prices p m y) row t 8 (λ z g. ap (λ (l : List ℕ). getD l z 0) ew′ ∙ row-is rows figures marks prices p m y t z h g)
-    ∙ ap (fill noBase (baseAt rows figures marks prices p m y)) next
+    ∙ laid-fill noBase (baseAt sheet of marks prices p) row t 8 (λ z g. ap (λ (l : List ℕ). getD l z 0) ew′ ∙ row-is sheet of marks prices p t z h g)
+    ∙ ap (fill noBase (baseAt sheet of marks prices p)) next
   where
-    ew′ : row ≡ filled (λ z. totalOf rows figures marks (raisedTo prices p t 4) z m) y
-    ew′ = ew ∙ ap (λ (u : List ℕ). filled (λ z. totalOf rows figures marks u z m) y) et
+    ew′ : row ≡ filled (λ z. totalOf sheet marks (raisedTo prices p t 4) z (of .bids)) (of .years)
+    ew′ = ew ∙ ap (λ (u : List ℕ). filled (λ z. totalOf sheet marks u z (of .bids)) (of .years)) et
 
     next : t * 8 + 8 ≡ (t + 1) * 8
     next = omega arith
@@ -93,9 +94,9 @@ pow-low (suc (suc (suc (suc d)))) h = absurd (omega arith)
 pub pow-at : {d r : ℕ} (e : ℕ) → d ≡ e → e < 4 → r ≡ 2 ^ d → r ≤ 8
 pow-at e q h er = rw (er, q) (pow-low e h)
 
-pub alone-is : (rows figures base : List ℕ) (p k z : ℕ) {d t w : ℕ} → d ≡ rowYear rows k → t ≡ 2 ^ d → w ≡ worthOf rows figures k p z → getD base (t * 8 + z) 0 + w ≡ aloneTotal rows figures base p k z
+pub alone-is : (sheet base : List ℕ) (p k z : ℕ) {d t w : ℕ} → d ≡ rowYear sheet k → t ≡ 2 ^ d → w ≡ worthOf sheet k p z → getD base (t * 8 + z) 0 + w ≡ aloneTotal sheet base p k z
 unfolding aloneTotal
-alone-is rows figures base p k z ed et ew = rw (ew, et, ed)
+alone-is sheet base p k z ed et ew = rw (ew, et, ed)
 
 pub and-yes : {a b c : Bool} → a ≡ true → c ≡ b → c ≡ (a && b)
 and-yes h e = rw (h, e)
@@ -103,9 +104,9 @@ and-yes h e = rw (h, e)
 pub and-no : {a : Bool} (b : Bool) → a ≡ false → false ≡ (a && b)
 and-no b h = rw h
 
-pub keeps-is : (rows figures base budgets : List ℕ) (p y : ℕ) (l : List Bool) (k : ℕ) {b : Bool} → b ≡ (getD l k false && aloneFits rows figures base budgets p k y) → b ≡ keepsOf rows figures base budgets p y l k
+pub keeps-is : (sheet : List ℕ) (of : Size) (base : List ℕ) (p : ℕ) (l : List Bool) (k : ℕ) {b : Bool} → b ≡ (getD l k false && aloneFits sheet of base p k) → b ≡ keepsOf sheet of base p l k
 unfolding keepsOf
-keeps-is rows figures base budgets p y l k e = e
+keeps-is sheet of base p l k e = e
 
 -- ---- the list
 module _ (l : List Bool) (i : ℕ) {a : List ℕ} (ea : a ≡ compactOf l i) where
@@ -117,31 +118,31 @@ module _ (l : List Bool) (i : ℕ) {a : List ℕ} (ea : a ≡ compactOf l i) whe
   unfolding compactOf
   compact-miss h = rw (add-one i, ea, h)
 
-module _ (rows list : List ℕ) (x j : ℕ) {n d : ℕ} (en : n ≡ aboveOf rows list x j) (ed : d ≡ rowDraw rows (getD list j 0)) where
-  pub above-hit : x < d → n + 1 ≡ aboveOf rows list x (j + 1)
+module _ (sheet list : List ℕ) (x j : ℕ) {n d : ℕ} (en : n ≡ aboveOf sheet list x j) (ed : d ≡ rowDraw sheet (getD list j 0)) where
+  pub above-hit : x < d → n + 1 ≡ aboveOf sheet list x (j + 1)
   unfolding aboveOf listed
   above-hit h = rw (add-one j, ← ed, lt-ltb x d h, en) (add-one _)
 
-  pub above-miss : d ≤ x → n ≡ aboveOf rows list x (j + 1)
+  pub above-miss : d ≤ x → n ≡ aboveOf sheet list x (j + 1)
   unfolding aboveOf listed
   above-miss h = rw (add-one j, ← ed, le-ltb x d h, en)
 
-pub rank-is : (rows list : List ℕ) (k j : ℕ) {x r : ℕ} → x ≡ rowDraw rows (getD list j 0) → r ≡ aboveOf rows list x k → r ≡ rankOf rows list k j
+pub rank-is : (sheet list : List ℕ) (k j : ℕ) {x r : ℕ} → x ≡ rowDraw sheet (getD list j 0) → r ≡ aboveOf sheet list x k → r ≡ rankOf sheet list k j
 unfolding rankOf
-rank-is rows list k j ex er = rw (er, ex)
+rank-is sheet list k j ex er = rw (er, ex)
 
-pub start-is : (rows list : List ℕ) (j : ℕ) {r : ℕ} → r ≡ rowYear rows (getD list j 0) → r ≡ startOf rows list j
+pub start-is : (sheet list : List ℕ) (j : ℕ) {r : ℕ} → r ≡ rowYear sheet (getD list j 0) → r ≡ startOf sheet list j
 unfolding startOf
-start-is rows list j er = er
+start-is sheet list j er = er
 
-module _ (rows figures list : List ℕ) (p y i : ℕ) where
-  pub own-in : {r : ℕ} → i % 8 < y → r ≡ worthOf rows figures (getD list (i / 8) 0) p (i % 8) → r ≡ ownAt rows figures list p y i
+module _ (sheet : List ℕ) (of : Size) (list : List ℕ) (p i : ℕ) where
+  pub own-in : {r : ℕ} → i % 8 < of .years → r ≡ worthOf sheet (getD list (i / 8) 0) p (i % 8) → r ≡ ownAt sheet of list p i
   unfolding ownAt
-  own-in h e = rw (e, lt-ltb (i % 8) y h)
+  own-in h e = rw (e, lt-ltb (i % 8) (of .years) h)
 
-  pub own-out : y ≤ i % 8 → 0 ≡ ownAt rows figures list p y i
+  pub own-out : of .years ≤ i % 8 → 0 ≡ ownAt sheet of list p i
   unfolding ownAt
-  own-out h = rw (le-ltb (i % 8) y h)
+  own-out h = rw (le-ltb (i % 8) (of .years) h)
 
 -- ---- combinations
 module _ (t d : ℕ) {b : Bool} (eb : b ≡ has t d) where
@@ -200,41 +201,41 @@ unfolding jointOf
 joint-is base low high mask t z el eh = rw (el, eh)
 
 -- a year above its budget, whatever the others
-pub fits-stops : (f : ℕ → ℕ) (budgets : List ℕ) (z y : ℕ) {x : ℕ} → x ≡ f z → getD budgets z 0 < x → z < y → false ≡ fitsTo f budgets y
+pub fits-stops : (f : ℕ → ℕ) (sheet : List ℕ) (z n : ℕ) {x q : ℕ} → x ≡ f z → q ≡ limitAt sheet z → q < x → z < n → false ≡ fitsTo f sheet n
 unfolding fitsTo
-fits-stops f budgets z zero e h g = absurd (omega arith)
-fits-stops f budgets z (suc y) e h g =
-    case (eqb z y) (λ t. rw (← (eqb-true z y t), ← e, lt-leb _ _ h))
-    (λ u. let d = eqb-false z y u in rw (← (fits-stops f budgets z y e h (omega arith))) (no (leb (f y) (getD budgets y 0))))
+fits-stops f sheet z zero e l h g = absurd (omega arith)
+fits-stops f sheet z (suc n) e l h g =
+    case (eqb z n) (λ t. rw (← (eqb-true z n t), ← e, ← l, lt-leb _ _ h))
+    (λ u. let d = eqb-false z n u in rw (← (fits-stops f sheet z n e l h (omega arith))) (no (leb (f n) (limitAt sheet n))))
   where
     no : (b : Bool) → false ≡ (b && false)
     no true = refl
     no false = refl
 
 -- the ways that a look at a combination goes
-module _ (base low high budgets : List ℕ) (y mask t : ℕ) (b : Best) {f : Bool} (ef : f ≡ fitsTo (jointOf base low high mask t) budgets y) where
-  pub looked-not : f ≡ false → b ≡ lookedAt base low high budgets y mask t b
+module _ (sheet : List ℕ) (of : Size) (base low high : List ℕ) (mask t : ℕ) (b : Best) {f : Bool} (ef : f ≡ fitsTo (jointOf base low high mask t) sheet (of .years)) where
+  pub looked-not : f ≡ false → b ≡ lookedAt sheet of base low high mask t b
   unfolding lookedAt
   looked-not h = rw (← ef, h)
 
-  module _ {w : ℕ} (h : f ≡ true) (ew : w ≡ jointOf base low high mask t (y - 1)) where
-    pub looked-less : w < b .total → b ≡ lookedAt base low high budgets y mask t b
+  module _ {w : ℕ} (h : f ≡ true) (ew : w ≡ jointOf base low high mask t (of .years - 1)) where
+    pub looked-less : w < b .total → b ≡ lookedAt sheet of base low high mask t b
     unfolding lookedAt
     looked-less g = rw (← ef, h, ← ew, lt-leb (b .total) w g)
 
-    pub looked-more : b .total ≤ w → _≡_ {A = Best} (record { mask = mask; total = w }) (lookedAt base low high budgets y mask t b)
+    pub looked-more : b .total ≤ w → _≡_ {A = Best} (record { mask = mask; total = w }) (lookedAt sheet of base low high mask t b)
     unfolding lookedAt
     looked-more g = rw (← ef, h, ← ew, le-leb (b .total) w g)
 
-pub looked-is : (base low high lows highs budgets : List ℕ) (y mask : ℕ) (b : Best) {t : ℕ} {r : Best} → t ≡ bitOr (getD lows (mask % 32) 0) (getD highs (mask / 32) 0)
-    → r ≡ lookedAt base low high budgets y mask t b → r ≡ considered (okBy base low high lows highs budgets y) (lastBy base low high lows highs y) mask b
+pub looked-is : (sheet : List ℕ) (of : Size) (base low high lows highs : List ℕ) (mask : ℕ) (b : Best) {t : ℕ} {r : Best} → t ≡ bitOr (getD lows (mask % 32) 0) (getD highs (mask / 32) 0)
+    → r ≡ lookedAt sheet of base low high mask t b → r ≡ considered (okBy sheet of base low high lows highs) (lastBy of base low high lows highs) mask b
 unfolding lookedAt considered okBy lastBy unionOf
-looked-is base low high lows highs budgets y mask b et er = rw (er, et)
+looked-is sheet of base low high lows highs mask b et er = rw (er, et)
 
-pub last-first : (base low high lows highs : List ℕ) (y : ℕ) {t w : ℕ} → t ≡ bitOr (getD lows 0 0) (getD highs 0 0)
-    → w ≡ jointOf base low high 0 t (y - 1) → w ≡ lastBy base low high lows highs y 0
+pub last-first : (of : Size) (base low high lows highs : List ℕ) {t w : ℕ} → t ≡ bitOr (getD lows 0 0) (getD highs 0 0)
+    → w ≡ jointOf base low high 0 t (of .years - 1) → w ≡ lastBy of base low high lows highs 0
 unfolding lastBy unionOf
-last-first base low high lows highs y et ew = rw (ew, et)
+last-first of base low high lows highs et ew = rw (ew, et)
 
 pub best-none : (ok : ℕ → Bool) (tot : ℕ → ℕ) {w : ℕ} → w ≡ tot 0 → _≡_ {A = Best} (record { mask = 0; total = w }) (bestOf ok tot 0)
 unfolding best
@@ -249,14 +250,14 @@ best-next ok tot n eb er = rw (er, eb, add-one n) (go (ok n && leb (tot (best ok
     go true = refl
     go false = refl
 
-pub best-ends : (base low high lows highs budgets : List ℕ) (k y : ℕ) {n e : ℕ} {b : Best}
-    → b ≡ bestOf (okBy base low high lows highs budgets y) (lastBy base low high lows highs y) n → n ≤ e → e ≤ n → e ≡ 2 ^ k → b .mask ≡ bestBy base low high lows highs budgets k y
+pub best-ends : (sheet : List ℕ) (of : Size) (base low high lows highs : List ℕ) (k : ℕ) {n e : ℕ} {b : Best}
+    → b ≡ bestOf (okBy sheet of base low high lows highs) (lastBy of base low high lows highs) n → n ≤ e → e ≤ n → e ≡ 2 ^ k → b .mask ≡ bestBy sheet of base low high lows highs k
 unfolding bestBy
-best-ends base low high lows highs budgets k y eb h g ee =
-    ap (λ (x : Best). x .mask) eb ∙ ap (best (okBy base low high lows highs budgets y) (lastBy base low high lows highs y)) (le-antisymm h g ∙ ee)
+best-ends sheet of base low high lows highs k eb h g ee =
+    ap (λ (x : Best). x .mask) eb ∙ ap (best (okBy sheet of base low high lows highs) (lastBy of base low high lows highs)) (le-antisymm h g ∙ ee)
 
 -- the parts of a choice
-pub choice-is : (rows figures base budgets : List ℕ) (l : List Bool) (k p m y : ℕ) {list ranks starts own : List ℕ} {mask : ℕ} {r : List Bool} → list ≡ compactOf l m → ranks ≡ ranksOf rows list k
-    → starts ≡ startsOf rows list k → own ≡ ownsOf rows figures list p k y → mask ≡ bestMask base own ranks starts budgets k y → r ≡ combinationOf list ranks mask k → r ≡ choiceOf rows figures base budgets l k p m y
+pub choice-is : (sheet : List ℕ) (of : Size) (base : List ℕ) (l : List Bool) (k p : ℕ) {list ranks starts own : List ℕ} {mask : ℕ} {r : List Bool} → list ≡ compactOf l (of .bids) → ranks ≡ ranksOf sheet list k
+    → starts ≡ startsOf sheet list k → own ≡ ownsOf sheet of list p k → mask ≡ bestMask sheet of base own ranks starts k → r ≡ combinationOf list ranks mask k → r ≡ choiceOf sheet of base l k p
 unfolding choiceOf choiceAt
-choice-is rows figures base budgets l k p m y el ek es eo em er = rw (er, em, eo, es, ek, el)
+choice-is sheet of base l k p el ek es eo em er = rw (er, em, eo, es, ek, el)

@@ -15,11 +15,12 @@ use Rattle.laws.specs.Bits.{has-none, add-adds, add-other}
 use Rattle.laws.specs.Tie.{tally-same, best-same, combination-in}
 use Rattle.sets.specs.Sets.{none, built, members}
 use Rattle.sets.proofs.Arrays.{put-is, at-start, fill-at, members-built}
+use Rattle.sheet.specs.declared.Size.{Size}
 use Rattle.sheet.specs.Sheet.{potIn, Ready, inAuction, rowYear, rowDraw}
-use Rattle.totals.specs.Totals.{Valued, listed, worthOf, totalOf}
+use Rattle.totals.specs.Totals.{worthOf, totalOf}
 use Rattle.totals.proofs.Link as link
 use Rattle.totals.proofs.Link.{Marked}
-use Rattle.ties.specs.Ties.{raisedTo, baseAt, noBase, basesOf, aloneTotal, aloneFits, keepsOf, compactOf, aboveOf, rankOf, ranksOf, startOf, startsOf, ownAt, noOwn, ownsOf, Numbers, touchOf, touchedOf, maskTotal, figure, okMask, lastMask, bestMask, combinationOf, choiceAt, choiceOf}
+use Rattle.ties.specs.Ties.{raisedTo, baseAt, noBase, basesOf, aloneTotal, aloneFits, keepsOf, compactOf, listed, aboveOf, rankOf, ranksOf, startOf, startsOf, ownAt, noOwn, ownsOf, Numbers, touchOf, touchedOf, maskTotal, figure, okMask, lastMask, bestMask, combinationOf, choiceAt, choiceOf}
 use Rattle.ties.proofs.Laws.{pow-low}
 use Rattle.ties.proofs.Halves.{touch-low}
 use Rattle.ties.proofs.Lists.{listed-is, numbers, rank-at, start-at}
@@ -72,24 +73,24 @@ touch-has t d e =
     (λ u. rw u (case (eqb e d) (λ q. rw (q, eqb-true e d q, u)) (λ q. rw q)))
     (λ u. rw u (case (eqb e d) (λ q. rw (q, eqb-true e d q) (add-adds t d u)) (λ q. rw q (add-other t d e u (eqb-false e d q)))))
 
-module _ (rows figures budgets : List ℕ) (b m y : ℕ) (ok : Ready rows figures budgets b m y) where
+module _ (sheet : List ℕ) (of : Size) (ok : Ready sheet of) where
   abbrev P : Pot
-  P = potIn rows figures budgets b m y
+  P = potIn sheet of
 
   -- a bid of the pot is a part of it
   pub part-one : (i : ℕ) → In i (P .bids) → Part P (i ∷ [])
   part-one i h = record {
     part =
         opened
-        ∙ sift-same (λ k. inAuction rows k && memb k (i ∷ [])) (λ k. eqb k i) (below m) (λ k j. alike k)
-        ∙ one m (link.bid-lt rows figures budgets b m y ok i h);
+        ∙ sift-same (λ k. inAuction sheet k && memb k (i ∷ [])) (λ k. eqb k i) (below (of .bids)) (λ k j. alike k)
+        ∙ one (of .bids) (link.bid-lt sheet of ok i h);
   }
     where
-      opened : sift (λ k. memb k (i ∷ [])) (P .bids) ≡ sift (λ k. inAuction rows k && memb k (i ∷ [])) (below m)
-      opened = unfold potIn in sift-both (λ k. memb k (i ∷ [])) (inAuction rows) (below m)
+      opened : sift (λ k. memb k (i ∷ [])) (P .bids) ≡ sift (λ k. inAuction sheet k && memb k (i ∷ [])) (below (of .bids))
+      opened = unfold potIn in sift-both (λ k. memb k (i ∷ [])) (inAuction sheet) (below (of .bids))
 
-      alike : (k : ℕ) → (inAuction rows k && memb k (i ∷ [])) ≡ eqb k i
-      alike k = case (eqb k i) (λ t. rw (t, eqb-true k i t, link.bid-in rows figures budgets b m y ok i h)) (λ f. rw f (no (inAuction rows k)))
+      alike : (k : ℕ) → (inAuction sheet k && memb k (i ∷ [])) ≡ eqb k i
+      alike k = case (eqb k i) (λ t. rw (t, eqb-true k i t, link.bid-in sheet of ok i h)) (λ f. rw f (no (inAuction sheet k)))
         where
           no : (t : Bool) → (t && false) ≡ false
           no true = refl
@@ -107,39 +108,39 @@ module _ (rows figures budgets : List ℕ) (b m y : ℕ) (ok : Ready rows figure
           (λ f. rw f (one n (let d = eqb-false n i f in omega arith)))
 
   -- the members of a set that has the bids of a part
-  pub part-members : (c : List ℕ) (s : List Bool) → Part P c → ((i : ℕ) → i < m → getD s i false ≡ memb i c) → members s m ≡ c
+  pub part-members : (c : List ℕ) (s : List Bool) → Part P c → ((i : ℕ) → i < of .bids → getD s i false ≡ memb i c) → members s (of .bids) ≡ c
   part-members c s Q h =
       opened
-      ∙ sift-same (λ i. getD s i false) (λ i. inAuction rows i && memb i c) (below m) (λ i j. h i (below-in i m j) ∙ alike i)
-      ∙ sym (sift-both (λ i. memb i c) (inAuction rows) (below m)) ∙ closed
+      ∙ sift-same (λ i. getD s i false) (λ i. inAuction sheet i && memb i c) (below (of .bids)) (λ i j. h i (below-in i (of .bids) j) ∙ alike i)
+      ∙ sym (sift-both (λ i. memb i c) (inAuction sheet) (below (of .bids))) ∙ closed
     where
-      opened : members s m ≡ sift (λ i. getD s i false) (below m)
+      opened : members s (of .bids) ≡ sift (λ i. getD s i false) (below (of .bids))
       opened = unfold members in refl
 
-      closed : sift (λ i. memb i c) (sift (inAuction rows) (below m)) ≡ c
+      closed : sift (λ i. memb i c) (sift (inAuction sheet) (below (of .bids))) ≡ c
       closed = unfold potIn in (Q .part)
 
-      alike : (i : ℕ) → memb i c ≡ (inAuction rows i && memb i c)
-      alike i = case (memb i c) (λ t. rw (t, link.bid-in rows figures budgets b m y ok i (part-in P i Q (memb-in i c t)))) (λ f. rw f (no (inAuction rows i)))
+      alike : (i : ℕ) → memb i c ≡ (inAuction sheet i && memb i c)
+      alike i = case (memb i c) (λ t. rw (t, link.bid-in sheet of ok i (part-in P i Q (memb-in i c t)))) (λ f. rw f (no (inAuction sheet i)))
         where
           no : (t : Bool) → false ≡ (t && false)
           no true = refl
           no false = refl
 
   -- ---- the winners ws, as marks and a row of prices, and bids at price p that are tried on top of them
-  module _ (ws marks prices : List ℕ) (M : Marked P ws marks) (size : length prices ≡ 4) (at : (d : ℕ) → d < 4 → getD prices d 0 ≡ priceFrom P noPrice ws d) (p : ℕ) {base : List ℕ} (eb : base ≡ basesOf rows figures marks prices p m y) where
+  module _ (ws marks prices : List ℕ) (M : Marked P ws marks) (size : length prices ≡ 4) (at : (d : ℕ) → d < 4 → getD prices d 0 ≡ priceFrom P noPrice ws d) (p : ℕ) {base : List ℕ} (eb : base ≡ basesOf sheet of marks prices p) where
     -- the clearing prices where p is that of the years t
     abbrev over : ℕ → ℕ → ℕ
     over t d = pick (has t d) p (clearing P ws d)
 
-    start : (i : ℕ) → In i (P .bids) → rowYear rows i < 4
-    start i h = ok .year i (link.bid-lt rows figures budgets b m y ok i h)
+    start : (i : ℕ) → In i (P .bids) → rowYear sheet i < 4
+    start i h = ok .year i (link.bid-lt sheet of ok i h)
 
-    row-at : (t z : ℕ) → t < 16 → z < y → getD base (t * 8 + z) 0 ≡ totalOf rows figures marks (raisedTo prices p t 4) z m
+    row-at : (t z : ℕ) → t < 16 → z < of .years → getD base (t * 8 + z) 0 ≡ totalOf sheet marks (raisedTo prices p t 4) z (of .bids)
     unfolding noBase baseAt
     row-at t z h g =
-        ap (λ (l : List ℕ). getD l (t * 8 + z) 0) eb ∙ fill-at noBase (baseAt rows figures marks prices p m y) 128 (t * 8 + z) 0 (omega arith) (omega (arith, ok .years))
-        ∙ rw (over8, by8, lt-ltb z y g)
+        ap (λ (l : List ℕ). getD l (t * 8 + z) 0) eb ∙ fill-at noBase (baseAt sheet of marks prices p) 128 (t * 8 + z) 0 (omega arith) (omega (arith, ok .years))
+        ∙ rw (over8, by8, lt-ltb z (of .years) g)
       where
         over8 : (t * 8 + z) % 8 ≡ z
         over8 = omega (arith, ok .years)
@@ -147,17 +148,17 @@ module _ (rows figures budgets : List ℕ) (b m y : ℕ) (ok : Ready rows figure
         by8 : (t * 8 + z) / 8 ≡ t
         by8 = omega (arith, ok .years)
 
-    base-is : (t z : ℕ) → t < 16 → z < y → getD base (t * 8 + z) 0 ≡ tally P (value P) (λ i. memb i ws) (over t) z (P .bids)
+    base-is : (t z : ℕ) → t < 16 → z < of .years → getD base (t * 8 + z) 0 ≡ tally P (value P) (λ i. memb i ws) (over t) z (P .bids)
     base-is t z h g =
         row-at t z h g
-        ∙ link.total-at rows figures budgets b m y ok ws marks (raisedTo prices p t 4) M (over t) same z g
+        ∙ link.total-at sheet of ok ws marks (raisedTo prices p t 4) M (over t) same z g
       where
-        same : (i : ℕ) → In i (P .bids) → memb i ws ≡ true → getD (raisedTo prices p t 4) (rowYear rows i) 0 ≡ over t (rowYear rows i)
+        same : (i : ℕ) → In i (P .bids) → memb i ws ≡ true → getD (raisedTo prices p t 4) (rowYear sheet i) 0 ≡ over t (rowYear sheet i)
         same i j w =
-            raised-at prices p t 4 (rowYear rows i) (start i j) (omega (arith, size))
-            ∙ ap (pick (has t (rowYear rows i)) p) (at (rowYear rows i) (start i j) ∙ opened (price-won P noPrice i ws (memb-in i ws w)))
+            raised-at prices p t 4 (rowYear sheet i) (start i j) (omega (arith, size))
+            ∙ ap (pick (has t (rowYear sheet i)) p) (at (rowYear sheet i) (start i j) ∙ opened (price-won P noPrice i ws (memb-in i ws w)))
           where
-            opened : priceFrom P noPrice ws (P .yr i) ≡ clearing P ws (P .yr i) → priceFrom P noPrice ws (rowYear rows i) ≡ clearing P ws (rowYear rows i)
+            opened : priceFrom P noPrice ws (P .yr i) ≡ clearing P ws (P .yr i) → priceFrom P noPrice ws (rowYear sheet i) ≡ clearing P ws (rowYear sheet i)
             opened e = unfold potIn in e
 
     -- bids at price p that have not won, and the years in which they start
@@ -168,65 +169,65 @@ module _ (rows figures budgets : List ℕ) (b m y : ℕ) (ok : Ready rows figure
       pub low : t < 16
       pub years : (d : ℕ) → d < 4 → has t d ≡ memb d (map (P .yr) c)
 
-    pub joined : (c : List ℕ) (t z : ℕ) → Tried c t → z < y → getD base (t * 8 + z) 0 + sum (λ i. worthOf rows figures i p z) c ≡ total P (c ++ ws) z
+    pub joined : (c : List ℕ) (t z : ℕ) → Tried c t → z < of .years → getD base (t * 8 + z) 0 + sum (λ i. worthOf sheet i p z) c ≡ total P (c ++ ws) z
     joined c t z T g = sym (
         tally-same P (value P) (λ i. memb i (c ++ ws)) (λ i. memb i c || memb i ws) (clearing P (c ++ ws)) (over t) z (P .bids) (λ i j. memb-join i c ws) (λ i j u. price i j)
         ∙ tally-split P (value P) (λ i. memb i c) (λ i. memb i ws) (over t) z (P .bids) (λ i j u. T .fresh i (memb-in i c u))
-        ∙ ap₂ _+_ (sym (base-is t z (T .low) g)) (tally-sum P (value P) (λ i. memb i c) (over t) z (P .bids) ∙ ap (sum (λ i. value P i (over t (P .yr i)) z)) (T .part .part) ∙ sum-same (λ i. value P i (over t (P .yr i)) z) (λ i. worthOf rows figures i p z) c own)
+        ∙ ap₂ _+_ (sym (base-is t z (T .low) g)) (tally-sum P (value P) (λ i. memb i c) (over t) z (P .bids) ∙ ap (sum (λ i. value P i (over t (P .yr i)) z)) (T .part .part) ∙ sum-same (λ i. value P i (over t (P .yr i)) z) (λ i. worthOf sheet i p z) c own)
         )
       where
         years : (i : ℕ) → In i (P .bids) → has t (P .yr i) ≡ memb (P .yr i) (map (P .yr) c)
         years i j = T .years (P .yr i) (low (start i j))
           where
-            low : rowYear rows i < 4 → P .yr i < 4
+            low : rowYear sheet i < 4 → P .yr i < 4
             low h = unfold potIn in h
 
         price : (i : ℕ) → In i (P .bids) → clearing P (c ++ ws) (P .yr i) ≡ over t (P .yr i)
         price i j = price-one P 0 p c ws (P .yr i) (T .price) ∙ ap (λ (u : Bool). pick u p (clearing P ws (P .yr i))) (sym (years i j))
 
-        own : (i : ℕ) → In i c → value P i (over t (P .yr i)) z ≡ worthOf rows figures i p z
-        own i j = rw (years i (part-in P i (T .part) j), in-memb (in-map (P .yr) j)) (link.value-is rows figures budgets b m y ok i p z g)
+        own : (i : ℕ) → In i c → value P i (over t (P .yr i)) z ≡ worthOf sheet i p z
+        own i j = rw (years i (part-in P i (T .part) j), in-memb (in-map (P .yr) j)) (link.value-is sheet of ok i p z g)
 
     -- ---- what fits alone
-    module _ (a : List Bool) (l : List ℕ) (of-set : members a m ≡ l) (Q : Part P l) (pl : (i : ℕ) → In i l → P .price i ≡ p) (fl : (i : ℕ) → In i l → memb i ws ≡ false) where
-      alone-is : (i z : ℕ) → In i l → z < y → aloneTotal rows figures base p i z ≡ total P (i ∷ ws) z
+    module _ (a : List Bool) (l : List ℕ) (of-set : members a (of .bids) ≡ l) (Q : Part P l) (pl : (i : ℕ) → In i l → P .price i ≡ p) (fl : (i : ℕ) → In i l → memb i ws ≡ false) where
+      alone-is : (i z : ℕ) → In i l → z < of .years → aloneTotal sheet base p i z ≡ total P (i ∷ ws) z
       unfolding aloneTotal
-      alone-is i z j g = omega (arith, plus) ∙ joined (i ∷ []) (2 ^ rowYear rows i) z tried g
+      alone-is i z j g = omega (arith, plus) ∙ joined (i ∷ []) (2 ^ rowYear sheet i) z tried g
         where
-          plus : sum (λ i. worthOf rows figures i p z) (i ∷ []) ≡ worthOf rows figures i p z + 0
+          plus : sum (λ i. worthOf sheet i p z) (i ∷ []) ≡ worthOf sheet i p z + 0
           plus = unfold sum in refl
 
-          tried : Tried (i ∷ []) (2 ^ rowYear rows i)
+          tried : Tried (i ∷ []) (2 ^ rowYear sheet i)
           tried = record {
             part = part-one i (part-in P i Q j);
             price = λ h q. rw (in-one q) (pl i j);
             fresh = λ h q. rw (in-one q) (fl i j);
-            low = omega (arith, pow-low (rowYear rows i) (start i (part-in P i Q j)));
-            years = λ d h. one-year (rowYear rows i) d ∙ opened d;
+            low = omega (arith, pow-low (rowYear sheet i) (start i (part-in P i Q j)));
+            years = λ d h. one-year (rowYear sheet i) d ∙ opened d;
           }
             where
-              opened : (d : ℕ) → (eqb d (rowYear rows i) || false) ≡ (eqb d (P .yr i) || false)
+              opened : (d : ℕ) → (eqb d (rowYear sheet i) || false) ≡ (eqb d (P .yr i) || false)
               opened d = unfold potIn in refl
 
-      alone-fits : (i : ℕ) → In i l → aloneFits rows figures base budgets p i y ≡ fits P (i ∷ ws)
-      alone-fits i j = link.fits-is rows figures budgets b m y ok (aloneTotal rows figures base p i) (total P (i ∷ ws)) y (omega arith) (λ z h. alone-is i z j h) ∙ opened
+      alone-fits : (i : ℕ) → In i l → aloneFits sheet of base p i ≡ fits P (i ∷ ws)
+      alone-fits i j = link.fits-is sheet of ok (aloneTotal sheet base p i) (total P (i ∷ ws)) (of .years) (omega arith) (λ z h. alone-is i z j h) ∙ opened
         where
-          opened : within P (total P (i ∷ ws)) y ≡ fits P (i ∷ ws)
+          opened : within P (total P (i ∷ ws)) (of .years) ≡ fits P (i ∷ ws)
           opened = unfold potIn in refl
 
-      module _ (s : List Bool) (es : s ≡ built (keepsOf rows figures base budgets p y a) m) where
+      module _ (s : List Bool) (es : s ≡ built (keepsOf sheet of base p a) (of .bids)) where
         abbrev r : List ℕ
         r = remaining P ws l
 
-        pub of-rest : members s m ≡ r
+        pub of-rest : members s (of .bids) ≡ r
         unfolding keepsOf remaining
         of-rest =
-            ap (λ (x : List Bool). members x m) es ∙ members-built (keepsOf rows figures base budgets p y a) m (ok .few)
-            ∙ sym (sift-both (λ i. aloneFits rows figures base budgets p i y) (λ i. getD a i false) (below m))
-            ∙ ap (sift (λ i. aloneFits rows figures base budgets p i y)) (opened ∙ of-set)
-            ∙ sift-same (λ i. aloneFits rows figures base budgets p i y) (λ c. fits P (c ∷ ws)) l alone-fits
+            ap (λ (x : List Bool). members x (of .bids)) es ∙ members-built (keepsOf sheet of base p a) (of .bids) (ok .few)
+            ∙ sym (sift-both (λ i. aloneFits sheet of base p i) (λ i. getD a i false) (below (of .bids)))
+            ∙ ap (sift (λ i. aloneFits sheet of base p i)) (opened ∙ of-set)
+            ∙ sift-same (λ i. aloneFits sheet of base p i) (λ c. fits P (c ∷ ws)) l alone-fits
           where
-            opened : sift (λ i. getD a i false) (below m) ≡ members a m
+            opened : sift (λ i. getD a i false) (below (of .bids)) ≡ members a (of .bids)
             opened = unfold members in refl
 
         among : (i : ℕ) → In i r → In i l
@@ -238,40 +239,37 @@ module _ (rows figures budgets : List ℕ) (b m y : ℕ) (ok : Ready rows figure
         part-r = part-sift P (λ c. fits P (c ∷ ws)) Q
 
         -- ---- combinations of the k bids that remain
-        module _ {k : ℕ} (ek : k ≡ length (members s m)) (few : k ≤ 10) where
+        module _ {k : ℕ} (ek : k ≡ length (members s (of .bids))) (few : k ≤ 10) where
           abbrev list : List ℕ
-          list = compactOf s m
+          list = compactOf s (of .bids)
 
           abbrev ranks : List ℕ
-          ranks = ranksOf rows list k
+          ranks = ranksOf sheet list k
 
           abbrev starts : List ℕ
-          starts = startsOf rows list k
+          starts = startsOf sheet list k
 
           abbrev own : List ℕ
-          own = ownsOf rows figures list p k y
+          own = ownsOf sheet of list p k
 
           in-list : listed list k ≡ r
-          in-list = listed-is s m ek few refl ∙ of-rest
+          in-list = listed-is s (of .bids) ek few refl ∙ of-rest
 
-          N : Numbers list k m
-          N = numbers s m ek few refl
-
-          valued : Valued rows figures m y
-          valued = link.valued rows figures budgets b m y ok
+          N : Numbers list k (of .bids)
+          N = numbers s (of .bids) ek few refl
 
           rank-is : (j : ℕ) → j < k → getD ranks j 0 ≡ rank P r (getD list j 0)
           unfolding rank rankOf aboveOf potIn
-          rank-is j g = rank-at rows figures list p k m y valued N few j g ∙ ap (λ (x : List ℕ). length (sift (λ c. ltb (rowDraw rows (getD list j 0)) (rowDraw rows c)) x)) in-list
+          rank-is j g = rank-at sheet of list p k ok N few j g ∙ ap (λ (x : List ℕ). length (sift (λ c. ltb (rowDraw sheet (getD list j 0)) (rowDraw sheet c)) x)) in-list
 
           start-is : (j : ℕ) → j < k → getD starts j 0 ≡ P .yr (getD list j 0)
           unfolding startOf potIn
-          start-is j g = start-at rows figures list p k m y valued N few j g
+          start-is j g = start-at sheet of list p k ok N few j g
 
-          own-is : (j z : ℕ) → j < k → z < y → getD own (j * 8 + z) 0 ≡ worthOf rows figures (getD list j 0) p z
+          own-is : (j z : ℕ) → j < k → z < of .years → getD own (j * 8 + z) 0 ≡ worthOf sheet (getD list j 0) p z
           unfolding noOwn ownAt
           own-is j z g h =
-              fill-at noOwn (ownAt rows figures list p y) (k * 8) (j * 8 + z) 0 (omega arith) (omega (arith, ok .years)) ∙ rw (over8, by8, lt-ltb z y h)
+              fill-at noOwn (ownAt sheet of list p) (k * 8) (j * 8 + z) 0 (omega arith) (omega (arith, ok .years)) ∙ rw (over8, by8, lt-ltb z (of .years) h)
             where
               over8 : (j * 8 + z) % 8 ≡ z
               over8 = omega (arith, ok .years)
@@ -301,7 +299,7 @@ module _ (rows figures budgets : List ℕ) (b m y : ℕ) (ok : Ready rows figure
                 low : (n : ℕ) → n < k → P .yr (getD list n 0) < 4
                 low n g = unfold potIn in ok .year (getD list n 0) (N .small n g)
 
-            sum-is : (t z n : ℕ) → n ≤ k → z < y → maskTotal base own ranks mask t z n ≡ getD base (t * 8 + z) 0 + sum (λ i. worthOf rows figures i p z) (sift sel (listed list n))
+            sum-is : (t z n : ℕ) → n ≤ k → z < of .years → maskTotal base own ranks mask t z n ≡ getD base (t * 8 + z) 0 + sum (λ i. worthOf sheet i p z) (sift sel (listed list n))
             unfolding maskTotal listed sum
             sum-is t z zero h g = omega arith
             sum-is t z (suc n) h g =
@@ -315,7 +313,7 @@ module _ (rows figures budgets : List ℕ) (b m y : ℕ) (ok : Ready rows figure
             set-size zero = refl
             set-size (suc n) = case (has mask (getD ranks n 0)) (λ u. rw u (length-set (combinationOf list ranks mask n) (getD list n 0) true ∙ set-size n)) (λ u. rw u (set-size n))
 
-            set-is : (n i : ℕ) → n ≤ k → i < m → getD (combinationOf list ranks mask n) i false ≡ memb i (sift sel (listed list n))
+            set-is : (n i : ℕ) → n ≤ k → i < of .bids → getD (combinationOf list ranks mask n) i false ≡ memb i (sift sel (listed list n))
             unfolding combinationOf listed none
             set-is zero i h g = at-start 320 i false false (omega (arith, ok .few))
             set-is (suc n) i h g =
@@ -355,44 +353,44 @@ module _ (rows figures budgets : List ℕ) (b m y : ℕ) (ok : Ready rows figure
                   years = λ d g. z .1 d g ∙ ap (λ (x : List ℕ). memb d (map (P .yr) x)) of-com;
                 }
 
-            figure-is : (z : ℕ) → z < y → figure base own ranks k mask years z ≡ total P (cs ++ ws) z
+            figure-is : (z : ℕ) → z < of .years → figure base own ranks k mask years z ≡ total P (cs ++ ws) z
             unfolding figure
-            figure-is z g = sum-is years z k (omega arith) g ∙ ap (λ (x : List ℕ). getD base (years * 8 + z) 0 + sum (λ i. worthOf rows figures i p z) x) of-com ∙ joined cs years z tried g
+            figure-is z g = sum-is years z k (omega arith) g ∙ ap (λ (x : List ℕ). getD base (years * 8 + z) 0 + sum (λ i. worthOf sheet i p z) x) of-com ∙ joined cs years z tried g
 
-            ok-is : okMask base own ranks starts budgets k y mask ≡ fits P (cs ++ ws)
+            ok-is : okMask sheet of base own ranks starts k mask ≡ fits P (cs ++ ws)
             unfolding okMask
-            ok-is = link.fits-is rows figures budgets b m y ok (figure base own ranks k mask years) (total P (cs ++ ws)) y (omega arith) figure-is ∙ opened
+            ok-is = link.fits-is sheet of ok (figure base own ranks k mask years) (total P (cs ++ ws)) (of .years) (omega arith) figure-is ∙ opened
               where
-                opened : within P (total P (cs ++ ws)) y ≡ fits P (cs ++ ws)
+                opened : within P (total P (cs ++ ws)) (of .years) ≡ fits P (cs ++ ws)
                 opened = unfold potIn in refl
 
-            last-is : lastMask base own ranks starts k y mask ≡ total P (cs ++ ws) (P .years - 1)
+            last-is : lastMask of base own ranks starts k mask ≡ total P (cs ++ ws) (P .years - 1)
             unfolding lastMask
-            last-is = figure-is (y - 1) (omega (arith, ok .some)) ∙ opened
+            last-is = figure-is (of .years - 1) (omega (arith, ok .some)) ∙ opened
               where
-                opened : total P (cs ++ ws) (y - 1) ≡ total P (cs ++ ws) (P .years - 1)
+                opened : total P (cs ++ ws) (of .years - 1) ≡ total P (cs ++ ws) (P .years - 1)
                 opened = unfold potIn in refl
 
-            of-set-com : members (combinationOf list ranks mask k) m ≡ cs
+            of-set-com : members (combinationOf list ranks mask k) (of .bids) ≡ cs
             of-set-com = part-members cs (combinationOf list ranks mask k) part-com (λ i g. set-is k i (omega arith) g ∙ ap (memb i) of-com)
 
           -- the number of the best combination
-          best-is : bestMask base own ranks starts budgets k y ≡ best (λ x. fits P (combination P r x ++ ws)) (λ x. total P (combination P r x ++ ws) (P .years - 1)) (2 ^ length r)
+          best-is : bestMask sheet of base own ranks starts k ≡ best (λ x. fits P (combination P r x ++ ws)) (λ x. total P (combination P r x ++ ws) (P .years - 1)) (2 ^ length r)
           unfolding bestMask
           best-is =
-              best-same (okMask base own ranks starts budgets k y) (λ x. fits P (combination P r x ++ ws)) (lastMask base own ranks starts k y) (λ x. total P (combination P r x ++ ws) (P .years - 1)) (2 ^ k) ok-is last-is
+              best-same (okMask sheet of base own ranks starts k) (λ x. fits P (combination P r x ++ ws)) (lastMask of base own ranks starts k) (λ x. total P (combination P r x ++ ws) (P .years - 1)) (2 ^ k) ok-is last-is
               ∙ ap (λ (n : ℕ). best (λ x. fits P (combination P r x ++ ws)) (λ x. total P (combination P r x ++ ws) (P .years - 1)) (2 ^ n)) (ek ∙ ap length of-rest)
 
-          pub of-choice : {w : List Bool} → w ≡ choiceOf rows figures base budgets s k p m y → members w m ≡ choose P ws l
+          pub of-choice : {w : List Bool} → w ≡ choiceOf sheet of base s k p → members w (of .bids) ≡ choose P ws l
           unfolding choiceOf choiceAt choose chosen
-          of-choice ew = ap (λ (x : List Bool). members x m) ew ∙ of-set-com (bestMask base own ranks starts budgets k y) ∙ ap (combination P r) best-is
+          of-choice ew = ap (λ (x : List Bool). members x (of .bids)) ew ∙ of-set-com (bestMask sheet of base own ranks starts k) ∙ ap (combination P r) best-is
 
           -- the chosen bids as a set
-          pub choice-at : {w : List Bool} → w ≡ choiceOf rows figures base budgets s k p m y → (i : ℕ) → i < m → getD w i false ≡ memb i (choose P ws l)
+          pub choice-at : {w : List Bool} → w ≡ choiceOf sheet of base s k p → (i : ℕ) → i < of .bids → getD w i false ≡ memb i (choose P ws l)
           unfolding choiceOf choiceAt choose chosen
           choice-at ew i g =
-              ap (λ (x : List Bool). getD x i false) ew ∙ set-is (bestMask base own ranks starts budgets k y) k i (omega arith) g
-              ∙ ap (memb i) (of-com (bestMask base own ranks starts budgets k y) ∙ ap (combination P r) best-is)
+              ap (λ (x : List Bool). getD x i false) ew ∙ set-is (bestMask sheet of base own ranks starts k) k i (omega arith) g
+              ∙ ap (memb i) (of-com (bestMask sheet of base own ranks starts k) ∙ ap (combination P r) best-is)
 
           pub chosen-among : (i : ℕ) → In i (choose P ws l) → In i l
           unfolding choose chosen

@@ -1,15 +1,16 @@
 -- What the functions of `ties` compute from a sheet and rows of numbers, and what they need. No rule of document 01 is stated here. Assumes nothing.
 use Prim.Native.Nat.{ℕ, zero, suc, _+_, _-_, _*_, _/_, _%_, _^_, _≤_, _<_}
 use mathlib.Core.Bool.{Bool, true, false, _&&_}
-use mathlib.Core.List.{List}
+use mathlib.Core.List.{List, [], _∷_}
 use lib.Bits.{bitOr}
 use lib.ListN.{length, getD, set, replicate}
 use lib.Dec.{leb, ltb}
 use Rattle.rules.specs.Lists.{pick, sift}
 use Rattle.rules.specs.Pot.{has, best}
 use Rattle.sets.specs.Sets.{fill, none, members}
+use Rattle.sheet.specs.declared.Size.{Size}
 use Rattle.sheet.specs.Sheet.{rowYear, rowDraw}
-use Rattle.totals.specs.Totals.{listed, dearest, worthOf, totalOf, fitsTo}
+use Rattle.totals.specs.Totals.{dearest, worthOf, totalOf, fitsTo}
 use Rattle.ties.specs.declared.Best.{Best}
 
 -- ---- the present winners, for each set t of delivery years, a number with one binary place for each
@@ -20,14 +21,14 @@ raisedTo prices p t zero = prices
 raisedTo prices p t (suc d) = pick (has t d) (set (raisedTo prices p t d) d p) (raisedTo prices p t d)
 
 -- what the winners cost: 8 years to a set
-unfoldable pub baseAt : (rows figures marks prices : List ℕ) (p m y i : ℕ) → ℕ
-baseAt rows figures marks prices p m y i = pick (ltb (i % 8) y) (totalOf rows figures marks (raisedTo prices p (i / 8) 4) (i % 8) m) 0
+unfoldable pub baseAt : (sheet : List ℕ) (of : Size) (marks prices : List ℕ) (p i : ℕ) → ℕ
+baseAt sheet of marks prices p i = pick (ltb (i % 8) (of .years)) (totalOf sheet marks (raisedTo prices p (i / 8) 4) (i % 8) (of .bids)) 0
 
 unfoldable pub noBase : List ℕ
 noBase = replicate 128 0
 
-abbrev pub basesOf : (rows figures marks prices : List ℕ) (p m y : ℕ) → List ℕ
-basesOf rows figures marks prices p m y = fill noBase (baseAt rows figures marks prices p m y) 128
+abbrev pub basesOf : (sheet : List ℕ) (of : Size) (marks prices : List ℕ) (p : ℕ) → List ℕ
+basesOf sheet of marks prices p = fill noBase (baseAt sheet of marks prices p) 128
 
 -- the first n places of a row, laid at place t of a table of rows of 8
 unfoldable pub laidTo : (table row : List ℕ) (t : ℕ) → ℕ → List ℕ
@@ -41,17 +42,22 @@ pub record Base (base : List ℕ) : Type 0 where
 
 -- ---- a bid alone
 
-unfoldable pub aloneTotal : (rows figures base : List ℕ) (p k z : ℕ) → ℕ
-aloneTotal rows figures base p k z = getD base (2 ^ rowYear rows k * 8 + z) 0 + worthOf rows figures k p z
+unfoldable pub aloneTotal : (sheet base : List ℕ) (p k z : ℕ) → ℕ
+aloneTotal sheet base p k z = getD base (2 ^ rowYear sheet k * 8 + z) 0 + worthOf sheet k p z
 
-abbrev pub aloneFits : (rows figures base budgets : List ℕ) (p k y : ℕ) → Bool
-aloneFits rows figures base budgets p k y = fitsTo (aloneTotal rows figures base p k) budgets y
+abbrev pub aloneFits : (sheet : List ℕ) (of : Size) (base : List ℕ) (p k : ℕ) → Bool
+aloneFits sheet of base p k = fitsTo (aloneTotal sheet base p k) sheet (of .years)
 
 -- of the set, and fits alone
-unfoldable pub keepsOf : (rows figures base budgets : List ℕ) (p y : ℕ) → List Bool → ℕ → Bool
-keepsOf rows figures base budgets p y l k = getD l k false && aloneFits rows figures base budgets p k y
+unfoldable pub keepsOf : (sheet : List ℕ) (of : Size) (base : List ℕ) (p : ℕ) → List Bool → ℕ → Bool
+keepsOf sheet of base p l k = getD l k false && aloneFits sheet of base p k
 
 -- ---- the bids that remain, as a list of numbers
+
+-- the first k of an array, the last first
+unfoldable pub listed : List ℕ → ℕ → List ℕ
+listed a zero = []
+listed a (suc k) = getD a k 0 ∷ listed a k
 
 unfoldable pub noList : List ℕ
 noList = replicate 10 0
@@ -62,30 +68,30 @@ compactOf l zero = noList
 compactOf l (suc i) = pick (getD l i false) (set (compactOf l i) (length (members l i)) i) (compactOf l i)
 
 -- how many of the first k have a draw above x; the binary place, the start year of the bid at place j
-unfoldable pub aboveOf : (rows list : List ℕ) (x k : ℕ) → ℕ
-aboveOf rows list x k = length (sift (λ c. ltb x (rowDraw rows c)) (listed list k))
+unfoldable pub aboveOf : (sheet list : List ℕ) (x k : ℕ) → ℕ
+aboveOf sheet list x k = length (sift (λ c. ltb x (rowDraw sheet c)) (listed list k))
 
-unfoldable pub rankOf : (rows list : List ℕ) (k j : ℕ) → ℕ
-rankOf rows list k j = aboveOf rows list (rowDraw rows (getD list j 0)) k
+unfoldable pub rankOf : (sheet list : List ℕ) (k j : ℕ) → ℕ
+rankOf sheet list k j = aboveOf sheet list (rowDraw sheet (getD list j 0)) k
 
-unfoldable pub startOf : (rows list : List ℕ) (j : ℕ) → ℕ
-startOf rows list j = rowYear rows (getD list j 0)
+unfoldable pub startOf : (sheet list : List ℕ) (j : ℕ) → ℕ
+startOf sheet list j = rowYear sheet (getD list j 0)
 
-abbrev pub ranksOf : (rows list : List ℕ) (k : ℕ) → List ℕ
-ranksOf rows list k = fill noList (rankOf rows list k) k
+abbrev pub ranksOf : (sheet list : List ℕ) (k : ℕ) → List ℕ
+ranksOf sheet list k = fill noList (rankOf sheet list k) k
 
-abbrev pub startsOf : (rows list : List ℕ) (k : ℕ) → List ℕ
-startsOf rows list k = fill noList (startOf rows list) k
+abbrev pub startsOf : (sheet list : List ℕ) (k : ℕ) → List ℕ
+startsOf sheet list k = fill noList (startOf sheet list) k
 
 -- what the bids cost at price p: 8 years to a bid
-unfoldable pub ownAt : (rows figures list : List ℕ) (p y i : ℕ) → ℕ
-ownAt rows figures list p y i = pick (ltb (i % 8) y) (worthOf rows figures (getD list (i / 8) 0) p (i % 8)) 0
+unfoldable pub ownAt : (sheet : List ℕ) (of : Size) (list : List ℕ) (p i : ℕ) → ℕ
+ownAt sheet of list p i = pick (ltb (i % 8) (of .years)) (worthOf sheet (getD list (i / 8) 0) p (i % 8)) 0
 
 unfoldable pub noOwn : List ℕ
 noOwn = replicate 80 0
 
-abbrev pub ownsOf : (rows figures list : List ℕ) (p k y : ℕ) → List ℕ
-ownsOf rows figures list p k y = fill noOwn (ownAt rows figures list p y) (k * 8)
+abbrev pub ownsOf : (sheet : List ℕ) (of : Size) (list : List ℕ) (p k : ℕ) → List ℕ
+ownsOf sheet of list p k = fill noOwn (ownAt sheet of list p) (k * 8)
 
 -- the first k of the list are numbers of bids below m
 pub record Numbers (list : List ℕ) (k m : ℕ) : Type 0 where
@@ -110,11 +116,11 @@ maskTotal base own ranks mask t z (suc j) = maskTotal base own ranks mask t z j 
 unfoldable pub figure : (base own ranks : List ℕ) (k mask t z : ℕ) → ℕ
 figure base own ranks k mask t z = maskTotal base own ranks mask t z k
 
-unfoldable pub okMask : (base own ranks starts budgets : List ℕ) (k y mask : ℕ) → Bool
-okMask base own ranks starts budgets k y mask = fitsTo (figure base own ranks k mask (touchedOf ranks starts mask k)) budgets y
+unfoldable pub okMask : (sheet : List ℕ) (of : Size) (base own ranks starts : List ℕ) (k mask : ℕ) → Bool
+okMask sheet of base own ranks starts k mask = fitsTo (figure base own ranks k mask (touchedOf ranks starts mask k)) sheet (of .years)
 
-unfoldable pub lastMask : (base own ranks starts : List ℕ) (k y mask : ℕ) → ℕ
-lastMask base own ranks starts k y mask = figure base own ranks k mask (touchedOf ranks starts mask k) (y - 1)
+unfoldable pub lastMask : (of : Size) (base own ranks starts : List ℕ) (k mask : ℕ) → ℕ
+lastMask of base own ranks starts k mask = figure base own ranks k mask (touchedOf ranks starts mask k) (of .years - 1)
 
 -- the best combination so far, with its figure
 abbrev pub bestOf : (ℕ → Bool) → (ℕ → ℕ) → ℕ → Best
@@ -123,8 +129,8 @@ bestOf ok tot n = record { mask = best ok tot n; total = tot (best ok tot n) }
 unfoldable pub considered : (ℕ → Bool) → (ℕ → ℕ) → ℕ → Best → Best
 considered ok tot n b = pick (ok n && leb (b .total) (tot n)) (record { mask = n; total = tot n }) b
 
-unfoldable pub bestMask : (base own ranks starts budgets : List ℕ) (k y : ℕ) → ℕ
-bestMask base own ranks starts budgets k y = best (okMask base own ranks starts budgets k y) (lastMask base own ranks starts k y) (2 ^ k)
+unfoldable pub bestMask : (sheet : List ℕ) (of : Size) (base own ranks starts : List ℕ) (k : ℕ) → ℕ
+bestMask sheet of base own ranks starts k = best (okMask sheet of base own ranks starts k) (lastMask of base own ranks starts k) (2 ^ k)
 
 -- the bids of a combination, as a set
 unfoldable pub combinationOf : (list ranks : List ℕ) (mask k : ℕ) → List Bool
@@ -197,20 +203,20 @@ jointOf base low high mask t z = getD base (t * 8 + z) 0 + getD low (mask % 32 *
 unfoldable pub unionOf : (lows highs : List ℕ) (mask : ℕ) → ℕ
 unionOf lows highs mask = bitOr (getD lows (mask % 32) 0) (getD highs (mask / 32) 0)
 
-unfoldable pub okBy : (base low high lows highs budgets : List ℕ) (y mask : ℕ) → Bool
-okBy base low high lows highs budgets y mask = fitsTo (jointOf base low high mask (unionOf lows highs mask)) budgets y
+unfoldable pub okBy : (sheet : List ℕ) (of : Size) (base low high lows highs : List ℕ) (mask : ℕ) → Bool
+okBy sheet of base low high lows highs mask = fitsTo (jointOf base low high mask (unionOf lows highs mask)) sheet (of .years)
 
-unfoldable pub lastBy : (base low high lows highs : List ℕ) (y mask : ℕ) → ℕ
-lastBy base low high lows highs y mask = jointOf base low high mask (unionOf lows highs mask) (y - 1)
+unfoldable pub lastBy : (of : Size) (base low high lows highs : List ℕ) (mask : ℕ) → ℕ
+lastBy of base low high lows highs mask = jointOf base low high mask (unionOf lows highs mask) (of .years - 1)
 
 -- a look at one of them, which touches the years t; and the best of those of k bids
-unfoldable pub lookedAt : (base low high budgets : List ℕ) (y mask t : ℕ) → Best → Best
-lookedAt base low high budgets y mask t b =
-    pick (fitsTo (jointOf base low high mask t) budgets y && leb (b .total) (jointOf base low high mask t (y - 1)))
-    (record { mask = mask; total = jointOf base low high mask t (y - 1) }) b
+unfoldable pub lookedAt : (sheet : List ℕ) (of : Size) (base low high : List ℕ) (mask t : ℕ) → Best → Best
+lookedAt sheet of base low high mask t b =
+    pick (fitsTo (jointOf base low high mask t) sheet (of .years) && leb (b .total) (jointOf base low high mask t (of .years - 1)))
+    (record { mask = mask; total = jointOf base low high mask t (of .years - 1) }) b
 
-unfoldable pub bestBy : (base low high lows highs budgets : List ℕ) (k y : ℕ) → ℕ
-bestBy base low high lows highs budgets k y = best (okBy base low high lows highs budgets y) (lastBy base low high lows highs y) (2 ^ k)
+unfoldable pub bestBy : (sheet : List ℕ) (of : Size) (base low high lows highs : List ℕ) (k : ℕ) → ℕ
+bestBy sheet of base low high lows highs k = best (okBy sheet of base low high lows highs) (lastBy of base low high lows highs) (2 ^ k)
 
 -- what the tables hold: no combination is dearer than its bids, and there are four delivery years
 pub record Tabled (base low high : List ℕ) : Type 0 where
@@ -227,10 +233,10 @@ pub record Dated (lows highs : List ℕ) : Type 0 where
   pub high-small : (v : ℕ) → getD highs v 0 < 16
 
 -- ---- the combination that is chosen among the k bids of a set
-unfoldable pub choiceAt : (rows figures base budgets list : List ℕ) (p k y : ℕ) → List Bool
-choiceAt rows figures base budgets list p k y =
-    combinationOf list (ranksOf rows list k)
-    (bestMask base (ownsOf rows figures list p k y) (ranksOf rows list k) (startsOf rows list k) budgets k y) k
+unfoldable pub choiceAt : (sheet : List ℕ) (of : Size) (base list : List ℕ) (p k : ℕ) → List Bool
+choiceAt sheet of base list p k =
+    combinationOf list (ranksOf sheet list k)
+    (bestMask sheet of base (ownsOf sheet of list p k) (ranksOf sheet list k) (startsOf sheet list k) k) k
 
-unfoldable pub choiceOf : (rows figures base budgets : List ℕ) → List Bool → (k p m y : ℕ) → List Bool
-choiceOf rows figures base budgets l k p m y = choiceAt rows figures base budgets (compactOf l m) p k y
+unfoldable pub choiceOf : (sheet : List ℕ) (of : Size) (base : List ℕ) (l : List Bool) (k p : ℕ) → List Bool
+choiceOf sheet of base l k p = choiceAt sheet of base (compactOf l (of .bids)) p k

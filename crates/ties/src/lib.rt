@@ -7,9 +7,11 @@ ghost use Prim.Native.Nat.{ℕ, _+_, _-_, _*_, _/_, _^_, _≤_, _<_};
 ghost use lib.ListN.{length, getD};
 ghost use Rattle.rules.specs.Pot.{has};
 ghost use Rattle.sets.specs.Sets.{built, members};
-ghost use Rattle.totals.specs.Totals.{Checked, Valued, Priced, fitsTo};
+ghost use Rattle.sheet.specs.Sheet.{Ready};
+ghost use Rattle.totals.specs.Totals.{fitsTo};
 ghost use Rattle.ties.specs.Ties.{raisedTo, laidTo, basesOf, Base, aloneTotal, aloneFits, keepsOf, compactOf, aboveOf, ranksOf, startsOf, ownAt, ownsOf, Numbers, touchOf, touchedOf, bestMask, combinationOf, Summed, Placed, addedOf, onesOf, costsOf, oneYearsOf, yearsOf, jointOf, lookedAt, bestBy, Tabled, Dated, choiceOf};
 use names::YEARS;
+use sheet::{Sheet, Size};
 
 // The sets of delivery years.
 const SETS: usize = 16;
@@ -72,22 +74,20 @@ fn laid(table: [u64; 128], row: [u64; 8], t: usize) -> [u64; 128]
 
 // What the present winners cost, a row of years for each set of delivery years that has the price p.
 pub fn bases(
-    rows: &[u64],
-    figures: &[u64],
+    sheet: &Sheet,
+    of: Size,
     marks: [u16; 320],
     prices: [u64; 4],
     p: u64,
-    m: usize,
-    y: usize,
 ) -> [u64; 128]
-    requires { ⌜ Valued (now rows) (now figures) m y ⌝ }
-    ensures { λ r. ⌜ r ≡ basesOf (now (rows .entry)) (now (figures .entry)) marks prices p m y ⌝ }
+    requires { ⌜ Ready (now sheet) of ⌝ }
+    ensures { λ r. ⌜ r ≡ basesOf (now (sheet .entry)) of marks prices p ⌝ }
 {
     let mut base = [0u64; 128];
     let mut t: usize = 0;
     while t < SETS {
         let trial = raised(prices, p, t as u32);
-        let row = totals::revalued(rows, figures, marks, trial, m, y);
+        let row = totals::revalued(sheet, of, marks, trial);
         let next = laid(base, row, t);
         base = next;
         t += 1;
@@ -96,31 +96,24 @@ pub fn bases(
 }
 
 // The total in year z where bid k alone is added to the winners.
-fn alone_total(rows: &[u64], figures: &[u64], base: &[u64], p: u64, k: usize, z: usize) -> u64
-    requires { ⌜ Priced (now rows) (now figures) k z × Base (now base) ⌝ }
-    ensures { λ r. ⌜ r ≡ aloneTotal (now (rows .entry)) (now (figures .entry)) (now (base .entry)) p k z ⌝ }
+fn alone_total(sheet: &Sheet, of: Size, base: &[u64], p: u64, k: usize, z: usize) -> u64
+    requires { ⌜ Ready (now sheet) of × (k < of .bids) × (z < of .years) × Base (now base) ⌝ }
+    ensures { λ r. ⌜ r ≡ aloneTotal (now (sheet .entry)) (now (base .entry)) p k z ⌝ }
 {
-    let t = power(sheet::year(rows, k) as u32) as usize;
-    base[t * YEARS + z] + totals::worth(rows, figures, k, p, z)
+    let t = power(sheet::year(sheet, k) as u32) as usize;
+    base[t * YEARS + z] + totals::worth(sheet, of, k, p, z)
 }
 
 // Does bid k fit alone?
-fn fits_alone(
-    rows: &[u64],
-    figures: &[u64],
-    base: &[u64],
-    budgets: &[u64],
-    p: u64,
-    k: usize,
-    y: usize,
-) -> bool
-    requires { ⌜ ((z : ℕ) → z < y → Priced (now rows) (now figures) k z) × Base (now base) × (y ≤ length (now budgets)) ⌝ }
-    ensures { λ r. ⌜ r ≡ aloneFits (now (rows .entry)) (now (figures .entry)) (now (base .entry)) (now (budgets .entry)) p k y ⌝ }
+fn fits_alone(sheet: &Sheet, of: Size, base: &[u64], p: u64, k: usize) -> bool
+    requires { ⌜ Ready (now sheet) of × (k < of .bids) × Base (now base) ⌝ }
+    ensures { λ r. ⌜ r ≡ aloneFits (now (sheet .entry)) of (now (base .entry)) p k ⌝ }
 {
     let mut ok = true;
+    let y = of.years;
     let mut z: usize = 0;
     while z < y {
-        if alone_total(rows, figures, base, p, k, z) > budgets[z] {
+        if alone_total(sheet, of, base, p, k, z) > sheet::limit(sheet, z) {
             ok = false;
         }
         z += 1;
@@ -129,44 +122,27 @@ fn fits_alone(
 }
 
 // Is bid k of the set, and does it fit alone?
-fn keeps(
-    rows: &[u64],
-    figures: &[u64],
-    base: &[u64],
-    budgets: &[u64],
-    p: u64,
-    of: bool,
-    k: usize,
-    y: usize,
-) -> bool
-    requires { ⌜ ((z : ℕ) → z < y → Priced (now rows) (now figures) k z) × Base (now base) × (y ≤ length (now budgets)) ⌝ }
-    ensures { λ r. ⌜ r ≡ (of && aloneFits (now (rows .entry)) (now (figures .entry)) (now (base .entry)) (now (budgets .entry)) p k y) ⌝ }
+fn keeps(sheet: &Sheet, of: Size, base: &[u64], p: u64, taken: bool, k: usize) -> bool
+    requires { ⌜ Ready (now sheet) of × (k < of .bids) × Base (now base) ⌝ }
+    ensures { λ r. ⌜ r ≡ (taken && aloneFits (now (sheet .entry)) of (now (base .entry)) p k) ⌝ }
 {
-    if of {
-        fits_alone(rows, figures, base, budgets, p, k, y)
+    if taken {
+        fits_alone(sheet, of, base, p, k)
     } else {
         false
     }
 }
 
 // Those of a set that fit alone.
-pub fn rest(
-    rows: &[u64],
-    figures: &[u64],
-    base: &[u64],
-    budgets: &[u64],
-    set: [bool; 320],
-    p: u64,
-    m: usize,
-    y: usize,
-) -> [bool; 320]
-    requires { ⌜ Valued (now rows) (now figures) m y × Base (now base) × (y ≤ length (now budgets)) ⌝ }
-    ensures { λ r. ⌜ r ≡ built (keepsOf (now (rows .entry)) (now (figures .entry)) (now (base .entry)) (now (budgets .entry)) p y set) m ⌝ }
+pub fn rest(sheet: &Sheet, of: Size, base: &[u64], set: [bool; 320], p: u64) -> [bool; 320]
+    requires { ⌜ Ready (now sheet) of × Base (now base) ⌝ }
+    ensures { λ r. ⌜ r ≡ built (keepsOf (now (sheet .entry)) of (now (base .entry)) p set) (of .bids) ⌝ }
 {
     let mut out = [false; 320];
+    let m = of.bids;
     let mut i: usize = 0;
     while i < m {
-        out[i] = keeps(rows, figures, base, budgets, p, set[i], i, y);
+        out[i] = keeps(sheet, of, base, p, set[i], i);
         i += 1;
     }
     out
@@ -191,14 +167,14 @@ fn compact(set: [bool; 320], m: usize) -> [usize; 10]
 }
 
 // How many of the first k bids of a list have a draw above x.
-fn above(rows: &[u64], list: &[usize], k: usize, m: usize, x: u64) -> u32
-    requires { ⌜ Numbers (now list) k m × (m * 6 ≤ length (now rows)) × (k < 32) ⌝ }
-    ensures { λ r. ⌜ r ≡ aboveOf (now (rows .entry)) (now (list .entry)) x k ⌝ }
+fn above(sheet: &Sheet, of: Size, list: &[usize], k: usize, x: u64) -> u32
+    requires { ⌜ Ready (now sheet) of × Numbers (now list) k (of .bids) × (k < 32) ⌝ }
+    ensures { λ r. ⌜ r ≡ aboveOf (now (sheet .entry)) (now (list .entry)) x k ⌝ }
 {
     let mut n: u32 = 0;
     let mut j: usize = 0;
     while j < k {
-        if sheet::draw(rows, list[j]) > x {
+        if sheet::draw(sheet, list[j]) > x {
             n += 1;
         }
         j += 1;
@@ -207,63 +183,55 @@ fn above(rows: &[u64], list: &[usize], k: usize, m: usize, x: u64) -> u32
 }
 
 // The binary place of each of k bids: the lowest draw highest.
-fn ranks(rows: &[u64], list: &[usize], k: usize, m: usize) -> [u32; 10]
-    requires { ⌜ Numbers (now list) k m × (m * 6 ≤ length (now rows)) × (k ≤ 10) ⌝ }
-    ensures { λ r. ⌜ r ≡ ranksOf (now (rows .entry)) (now (list .entry)) k ⌝ }
+fn ranks(sheet: &Sheet, of: Size, list: &[usize], k: usize) -> [u32; 10]
+    requires { ⌜ Ready (now sheet) of × Numbers (now list) k (of .bids) × (k ≤ 10) ⌝ }
+    ensures { λ r. ⌜ r ≡ ranksOf (now (sheet .entry)) (now (list .entry)) k ⌝ }
 {
     let mut out = [0u32; 10];
     let mut j: usize = 0;
     while j < k {
-        out[j] = above(rows, list, k, m, sheet::draw(rows, list[j]));
+        out[j] = above(sheet, of, list, k, sheet::draw(sheet, list[j]));
         j += 1;
     }
     out
 }
 
 // The start year of each of k bids.
-fn starts(rows: &[u64], list: &[usize], k: usize, m: usize) -> [u32; 10]
-    requires { ⌜ Numbers (now list) k m × Checked (now rows) m × (k ≤ 10) ⌝ }
-    ensures { λ r. ⌜ r ≡ startsOf (now (rows .entry)) (now (list .entry)) k ⌝ }
+fn starts(sheet: &Sheet, of: Size, list: &[usize], k: usize) -> [u32; 10]
+    requires { ⌜ Ready (now sheet) of × Numbers (now list) k (of .bids) × (k ≤ 10) ⌝ }
+    ensures { λ r. ⌜ r ≡ startsOf (now (sheet .entry)) (now (list .entry)) k ⌝ }
 {
     let mut out = [0u32; 10];
     let mut j: usize = 0;
     while j < k {
-        out[j] = sheet::year(rows, list[j]) as u32;
+        out[j] = sheet::year(sheet, list[j]) as u32;
         j += 1;
     }
     out
 }
 
 // One place of `owns`.
-fn own_at(rows: &[u64], figures: &[u64], list: &[usize], p: u64, y: usize, i: usize) -> u64
-    requires { ⌜ ((z : ℕ) → z < y → Priced (now rows) (now figures) (getD (now list) (i / 8) 0) z) × (i / 8 < length (now list)) ⌝ }
-    ensures { λ r. ⌜ r ≡ ownAt (now (rows .entry)) (now (figures .entry)) (now (list .entry)) p y i ⌝ }
+fn own_at(sheet: &Sheet, of: Size, list: &[usize], p: u64, i: usize) -> u64
+    requires { ⌜ Ready (now sheet) of × (getD (now list) (i / 8) 0 < of .bids) × (i / 8 < length (now list)) ⌝ }
+    ensures { λ r. ⌜ r ≡ ownAt (now (sheet .entry)) of (now (list .entry)) p i ⌝ }
 {
     let z = i % YEARS;
-    if z < y {
-        return totals::worth(rows, figures, list[i / YEARS], p, z);
+    if z < of.years {
+        return totals::worth(sheet, of, list[i / YEARS], p, z);
     }
     0
 }
 
 // What each of k bids costs at price p, a row of years for each.
-fn owns(
-    rows: &[u64],
-    figures: &[u64],
-    list: &[usize],
-    p: u64,
-    k: usize,
-    m: usize,
-    y: usize,
-) -> [u64; 80]
-    requires { ⌜ Valued (now rows) (now figures) m y × Numbers (now list) k m × (k ≤ 10) ⌝ }
-    ensures { λ r. ⌜ r ≡ ownsOf (now (rows .entry)) (now (figures .entry)) (now (list .entry)) p k y ⌝ }
+fn owns(sheet: &Sheet, of: Size, list: &[usize], p: u64, k: usize) -> [u64; 80]
+    requires { ⌜ Ready (now sheet) of × Numbers (now list) k (of .bids) × (k ≤ 10) ⌝ }
+    ensures { λ r. ⌜ r ≡ ownsOf (now (sheet .entry)) of (now (list .entry)) p k ⌝ }
 {
     let mut own = [0u64; 80];
     let end = k * YEARS;
     let mut i: usize = 0;
     while i < end {
-        own[i] = own_at(rows, figures, list, p, y, i);
+        own[i] = own_at(sheet, of, list, p, i);
         i += 1;
     }
     own
@@ -404,20 +372,21 @@ fn joint(base: &[u64], low: &[u64], high: &[u64], mask: u32, t: u32, z: usize) -
 
 // Does the combination fit?
 fn joint_fits(
+    sheet: &Sheet,
+    of: Size,
     base: &[u64],
     low: &[u64],
     high: &[u64],
-    budgets: &[u64],
-    y: usize,
     mask: u32,
     t: u32,
 ) -> bool
-    requires { ⌜ Tabled (now base) (now low) (now high) × (mask < 1024) × (t < 16) × (y ≤ 8) × (y ≤ length (now budgets)) ⌝ }
-    ensures { λ r. ⌜ r ≡ fitsTo (jointOf (now (base .entry)) (now (low .entry)) (now (high .entry)) mask t) (now (budgets .entry)) y ⌝ }
+    requires { ⌜ Tabled (now base) (now low) (now high) × (mask < 1024) × (t < 16) × (of .years ≤ 8) ⌝ }
+    ensures { λ r. ⌜ r ≡ fitsTo (jointOf (now (base .entry)) (now (low .entry)) (now (high .entry)) mask t) (now (sheet .entry)) (of .years) ⌝ }
 {
+    let y = of.years;
     let mut z: usize = 0;
     while z < y {
-        if joint(base, low, high, mask, t, z) > budgets[z] {
+        if joint(base, low, high, mask, t, z) > sheet::limit(sheet, z) {
             return false;
         }
         z += 1;
@@ -427,20 +396,20 @@ fn joint_fits(
 
 // Looks at one combination: it takes the place of the best so far where it fits and its total in the last year is no smaller.
 fn consider(
+    sheet: &Sheet,
+    of: Size,
     base: &[u64],
     low: &[u64],
     high: &[u64],
-    budgets: &[u64],
-    y: usize,
     mask: u32,
     t: u32,
     b: Best,
 ) -> Best
-    requires { ⌜ Tabled (now base) (now low) (now high) × (mask < 1024) × (t < 16) × (0 < y) × (y ≤ 8) × (y ≤ length (now budgets)) ⌝ }
-    ensures { λ r. ⌜ r ≡ lookedAt (now (base .entry)) (now (low .entry)) (now (high .entry)) (now (budgets .entry)) y mask t b ⌝ }
+    requires { ⌜ Tabled (now base) (now low) (now high) × (mask < 1024) × (t < 16) × (0 < of .years) × (of .years ≤ 8) ⌝ }
+    ensures { λ r. ⌜ r ≡ lookedAt (now (sheet .entry)) of (now (base .entry)) (now (low .entry)) (now (high .entry)) mask t b ⌝ }
 {
-    if joint_fits(base, low, high, budgets, y, mask, t) {
-        let w = joint(base, low, high, mask, t, y - 1);
+    if joint_fits(sheet, of, base, low, high, mask, t) {
+        let w = joint(base, low, high, mask, t, of.years - 1);
         if w < b.total {
             return b;
         }
@@ -452,27 +421,27 @@ fn consider(
 
 // The best combination of k bids, by looking at each: of equals the largest number. Its halves cost `low` and `high` and touch the years `lows` and `highs`.
 fn search(
+    sheet: &Sheet,
+    of: Size,
     base: &[u64],
     low: &[u64],
     high: &[u64],
     lows: &[u32],
     highs: &[u32],
-    budgets: &[u64],
     k: usize,
-    y: usize,
 ) -> u32
-    requires { ⌜ Tabled (now base) (now low) (now high) × Dated (now lows) (now highs) × (k ≤ 10) × (0 < y) × (y ≤ 8) × (y ≤ length (now budgets)) ⌝ }
-    ensures { λ r. ⌜ r ≡ bestBy (now (base .entry)) (now (low .entry)) (now (high .entry)) (now (lows .entry)) (now (highs .entry)) (now (budgets .entry)) k y ⌝ }
+    requires { ⌜ Tabled (now base) (now low) (now high) × Dated (now lows) (now highs) × (k ≤ 10) × (0 < of .years) × (of .years ≤ 8) ⌝ }
+    ensures { λ r. ⌜ r ≡ bestBy (now (sheet .entry)) of (now (base .entry)) (now (low .entry)) (now (high .entry)) (now (lows .entry)) (now (highs .entry)) k ⌝ }
 {
     let end = power(k as u32);
     let mut b = Best {
         mask: 0,
-        total: joint(base, low, high, 0, lows[0] | highs[0], y - 1),
+        total: joint(base, low, high, 0, lows[0] | highs[0], of.years - 1),
     };
     let mut mask: u32 = 0;
     while mask < end {
         let t = lows[mask as usize % HALF] | highs[mask as usize / HALF];
-        b = consider(base, low, high, budgets, y, mask, t, b);
+        b = consider(sheet, of, base, low, high, mask, t, b);
         mask += 1;
     }
     b.mask
@@ -480,22 +449,22 @@ fn search(
 
 // The same, by tables of its two halves.
 fn best_mask(
+    sheet: &Sheet,
+    of: Size,
     base: &[u64],
     own: &[u64],
     ranks: &[u32],
     starts: &[u32],
-    budgets: &[u64],
     k: usize,
-    y: usize,
 ) -> u32
-    requires { ⌜ Base (now base) × Summed (now own) (now ranks) k × Placed (now ranks) (now starts) k × (0 < y) × (y ≤ 8) × (y ≤ length (now budgets)) ⌝ }
-    ensures { λ r. ⌜ r ≡ bestMask (now (base .entry)) (now (own .entry)) (now (ranks .entry)) (now (starts .entry)) (now (budgets .entry)) k y ⌝ }
+    requires { ⌜ Base (now base) × Summed (now own) (now ranks) k × Placed (now ranks) (now starts) k × (0 < of .years) × (of .years ≤ 8) ⌝ }
+    ensures { λ r. ⌜ r ≡ bestMask (now (sheet .entry)) of (now (base .entry)) (now (own .entry)) (now (ranks .entry)) (now (starts .entry)) k ⌝ }
 {
     let low = costs(own, ranks, k, 0);
     let high = costs(own, ranks, k, HALF_PLACES as u32);
     let lows = years(ranks, starts, k, 0);
     let highs = years(ranks, starts, k, HALF_PLACES as u32);
-    search(base, &low, &high, &lows, &highs, budgets, k, y)
+    search(sheet, of, base, &low, &high, &lows, &highs, k)
 }
 
 // The bids of a combination, as a set.
@@ -516,24 +485,20 @@ fn combination(list: &[usize], ranks: &[u32], k: usize, mask: u32) -> [bool; 320
 
 // The combination that is chosen among the k bids of a set.
 pub fn choose(
-    rows: &[u64],
-    figures: &[u64],
+    sheet: &Sheet,
+    of: Size,
     base: &[u64],
-    budgets: &[u64],
     set: [bool; 320],
     k: usize,
     p: u64,
-    m: usize,
-    y: usize,
 ) -> [bool; 320]
-    requires { ⌜ Valued (now rows) (now figures) m y × Base (now base) × (0 < y) × (y ≤ length (now budgets)) ⌝ }
-    requires { ⌜ (k ≡ length (members set m)) × (k ≤ 10) ⌝ }
-    ensures { λ r. ⌜ r ≡ choiceOf (now (rows .entry)) (now (figures .entry)) (now (base .entry)) (now (budgets .entry)) set k p m y ⌝ }
+    requires { ⌜ Ready (now sheet) of × Base (now base) × (k ≡ length (members set (of .bids))) × (k ≤ 10) ⌝ }
+    ensures { λ r. ⌜ r ≡ choiceOf (now (sheet .entry)) of (now (base .entry)) set k p ⌝ }
 {
-    let list = compact(set, m);
-    let places = ranks(rows, &list, k, m);
-    let years = starts(rows, &list, k, m);
-    let own = owns(rows, figures, &list, p, k, m, y);
-    let mask = best_mask(base, &own, &places, &years, budgets, k, y);
+    let list = compact(set, of.bids);
+    let places = ranks(sheet, of, &list, k);
+    let years = starts(sheet, of, &list, k);
+    let own = owns(sheet, of, &list, p, k);
+    let mask = best_mask(sheet, of, base, &own, &places, &years, k);
     combination(&list, &places, k, mask)
 }

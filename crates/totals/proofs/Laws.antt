@@ -78,8 +78,8 @@ module _ (f : ℕ → ℕ) (sheet : List ℕ) (z : ℕ) {x : ℕ} (e : x ≡ f z
 -- the same figures fit alike
 pub fits-same : (f g : ℕ → ℕ) (sheet : List ℕ) (n : ℕ) → ((z : ℕ) → z < n → f z ≡ g z) → fitsTo f sheet n ≡ fitsTo g sheet n
 unfolding fitsTo
-fits-same sheet f g zero h = refl
-fits-same sheet f g (suc n) h = rw (h n (omega arith), fits-same sheet f g n (λ z l. h z (omega arith)))
+fits-same f g sheet zero h = refl
+fits-same f g sheet (suc n) h = rw (h n (omega arith), fits-same f g sheet n (λ z l. h z (omega arith)))
 
 -- ---- rows of totals
 

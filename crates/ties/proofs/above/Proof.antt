@@ -5,27 +5,27 @@ use Prim.Native.Nat.{_≤_, _-_}
 use mathlib.Core.Path.{_≡_, _∙_}
 use mathlib.Core.Logic.{⊎-elim}
 use Rattle.sets.proofs.Laws.{done}
-use Rattle.totals.specs.Totals.{listed}
+use Rattle.ties.specs.Ties.{listed}
 use Rattle.ties.specs.Ties.{aboveOf}
 use Rattle.ties.proofs.Laws.{above-hit, above-miss}
 use Rattle.ties.proofs.above.Statement.{statement}
 use Rattle.ties.proofs.above.Tie as tie
 
 abbrev Inv-loop : tie.InvT-loop
-Inv-loop rows list k m x n₀ j₀ n j = (j ≤ k) × (n ≡ aboveOf rows list x j) × (n ≤ j)
+Inv-loop sheet list k x n₀ j₀ n j = (j ≤ k) × (n ≡ aboveOf sheet list x j) × (n ≤ j)
 
 abbrev μ-loop : tie.MeasureT-loop
-μ-loop rows list k m x n₀ j₀ n j = k - j
+μ-loop sheet list k x n₀ j₀ n j = k - j
 
 loop-holds : tie.Need-loop-holds Inv-loop μ-loop
 unfolding aboveOf listed
 loop-holds c = search needs
 
 shared-slice-read-draw : tie.Need-shared-slice-read-draw Inv-loop μ-loop
-shared-slice-read-draw c = omega (arith, c .before .before .before .before .before .pre .0 .room, c .before .loop-test .taken)
+shared-slice-read-draw c = omega (arith, c .before .before .before .before .pre .1 .room, c .before .loop-test .taken)
 
 draw-requires : tie.Need-draw-requires Inv-loop μ-loop
-draw-requires c κs = omega (arith, c .before .before .before .before .before .pre .0 .small _ (c .before .loop-test .taken), c .before .before .before .before .before .pre .1)
+draw-requires c κs = omega (arith, c .before .before .before .before .pre .1 .small _ (c .before .loop-test .taken), c .before .before .before .before .pre .0 .few)
 
 loop-again : tie.Need-loop-again Inv-loop μ-loop
 loop-again c =

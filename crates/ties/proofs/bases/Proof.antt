@@ -11,10 +11,10 @@ use Rattle.ties.proofs.bases.Statement.{statement}
 use Rattle.ties.proofs.bases.Tie as tie
 
 abbrev Inv-loop : tie.InvT-loop
-Inv-loop rows figures marks prices p m y base₀ t₀ base t = (t ≤ 16) × (base ≡ fill noBase (baseAt rows figures marks prices p m y) (t * 8))
+Inv-loop sheet of marks prices p base₀ t₀ base t = (t ≤ 16) × (base ≡ fill noBase (baseAt sheet of marks prices p) (t * 8))
 
 abbrev μ-loop : tie.MeasureT-loop
-μ-loop rows figures marks prices p m y base₀ t₀ base t = 16 - t
+μ-loop sheet of marks prices p base₀ t₀ base t = 16 - t
 
 loop-holds : tie.Need-loop-holds Inv-loop μ-loop
 unfolding fill noBase
@@ -23,7 +23,7 @@ loop-holds c = search needs
 loop-again : tie.Need-loop-again Inv-loop μ-loop
 loop-again c =
     let inv = c .before .before .before .before .loop .inv in
-    (omega arith, bases-next _ _ _ _ _ _ _ _ (c .before .before .before .before .before .before .before .pre .years) (c .before .before .raised .ensures) (c .before .revalued .ensures) (inv .1) (c .laid .ensures))
+    (omega arith, bases-next _ _ _ _ _ _ (c .before .before .before .before .before .pre .years) (c .before .before .raised .ensures) (c .before .revalued .ensures) (inv .1) (c .laid .ensures))
 
 returns : tie.Need-returns Inv-loop μ-loop
 returns c = done-by (fill noBase _) (λ t. t * 8) (c .before .loop .inv .1) (c .before .loop .inv .0) (c .loop-test .left)

@@ -6,18 +6,17 @@ use Rattle.ties.proofs.best_mask.Tie as tie
 
 search-requires : tie.Need-search-requires
 search-requires c κs =
-    let g = c .before .before .before .before .before .before .before .before .before .before .before .before .before .pre in (
+    let g = c .before .before .before .before .before .before .before .before .before .before .before .before .pre in (
       tabled _ _ _ (g .0) (g .1) (c .before .before .before .before .before .before .before .costs .ensures) (c .before .before .before .before .before .before .costs2 .ensures),
       dated _ _ _ (g .2) (c .before .before .before .before .before .years .ensures) (c .before .before .before .before .years2 .ensures),
       g .1 .few,
       g .3,
       g .4,
-      g .5,
     )
 
 returns : tie.Need-returns
 returns c =
-    let g = c .before .before .before .before .before .before .before .before .before .before .before .before .before .before .pre in
+    let g = c .before .before .before .before .before .before .before .before .before .before .before .before .before .pre in
     let low = c .before .before .before .before .before .before .before .before .costs .ensures in
     let high = c .before .before .before .before .before .before .before .costs2 .ensures in
     let lows = c .before .before .before .before .before .before .years .ensures in

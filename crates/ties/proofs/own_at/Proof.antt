@@ -5,13 +5,13 @@ use Rattle.ties.proofs.own_at.Statement.{statement}
 use Rattle.ties.proofs.own_at.Tie as tie
 
 worth-requires : tie.Need-worth-requires
-worth-requires c κs = c .before .before .before .before .before .pre .0 _ (c .before .if1 .taken)
+worth-requires c κs = let pre = c .before .before .before .before .pre in (pre .0, pre .1, c .before .if1 .taken)
 
 returns : tie.Need-returns
-returns c = own-in _ _ _ _ _ _ (c .before .before .if1 .taken) (c .worth .ensures .0)
+returns c = own-in _ _ _ _ _ (c .before .before .if1 .taken) (c .worth .ensures .0)
 
 returns-2 : tie.Need-returns-2
-returns-2 c = own-out _ _ _ _ _ _ (c .if1 .left)
+returns-2 c = own-out _ _ _ _ _ (c .if1 .left)
 
 pub own-at-spec : {M : Type 1} → statement M
 own-at-spec =

@@ -10,23 +10,23 @@ use Rattle.ties.proofs.owns.Statement.{statement}
 use Rattle.ties.proofs.owns.Tie as tie
 
 abbrev Inv-loop : tie.InvT-loop
-Inv-loop rows figures list p k m y own₀ end i₀ own i = (i ≤ end) × (own ≡ fill noOwn (ownAt rows figures list p y) i)
+Inv-loop sheet of list p k own₀ end i₀ own i = (i ≤ end) × (own ≡ fill noOwn (ownAt sheet of list p) i)
 
 abbrev μ-loop : tie.MeasureT-loop
-μ-loop rows figures list p k m y own₀ end i₀ own i = end - i
+μ-loop sheet of list p k own₀ end i₀ own i = end - i
 
 loop-holds : tie.Need-loop-holds Inv-loop μ-loop
 unfolding fill noOwn
 loop-holds c = search needs
 
 own-at-requires : tie.Need-own-at-requires Inv-loop μ-loop
-own-at-requires c κs = (λ z h. c .before .before .before .before .before .pre .0 .priced _ z (c .before .before .before .before .before .pre .1 .small _ (omega (arith, c .loop-test .taken))) h, omega (arith, c .before .before .before .before .before .pre .1 .room, c .loop-test .taken))
+own-at-requires c κs = let pre = c .before .before .before .pre in (pre .0, pre .1 .small _ (omega (arith, c .loop-test .taken)), omega (arith, pre .1 .room, c .loop-test .taken))
 
 loop-again : tie.Need-loop-again Inv-loop μ-loop
 loop-again c = (omega arith, fill-next _ _ _ (c .before .before .loop .inv .1) (c .own-at .ensures))
 
 returns : tie.Need-returns Inv-loop μ-loop
-returns c = done (fill noOwn (ownAt _ _ _ _ _)) (c .before .loop .inv .1) (c .before .loop .inv .0) (c .loop-test .left)
+returns c = done (fill noOwn (ownAt _ _ _ _)) (c .before .loop .inv .1) (c .before .loop .inv .0) (c .loop-test .left)
 
 pub owns-spec : {M : Type 1} → statement M
 owns-spec =

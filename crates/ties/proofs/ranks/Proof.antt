@@ -11,23 +11,23 @@ use Rattle.ties.proofs.ranks.Statement.{statement}
 use Rattle.ties.proofs.ranks.Tie as tie
 
 abbrev Inv-loop : tie.InvT-loop
-Inv-loop rows list k m out₀ j₀ out j = (j ≤ k) × (out ≡ fill noList (rankOf rows list k) j)
+Inv-loop sheet of list k out₀ j₀ out j = (j ≤ k) × (out ≡ fill noList (rankOf sheet list k) j)
 
 abbrev μ-loop : tie.MeasureT-loop
-μ-loop rows list k m out₀ j₀ out j = k - j
+μ-loop sheet of list k out₀ j₀ out j = k - j
 
 loop-holds : tie.Need-loop-holds Inv-loop μ-loop
 unfolding fill noList
 loop-holds c = search needs
 
 shared-slice-read-draw : tie.Need-shared-slice-read-draw Inv-loop μ-loop
-shared-slice-read-draw c = omega (arith, c .before .before .before .before .before .pre .0 .room, c .before .loop-test .taken)
+shared-slice-read-draw c = omega (arith, c .before .before .before .before .pre .1 .room, c .before .loop-test .taken)
 
 draw-requires : tie.Need-draw-requires Inv-loop μ-loop
-draw-requires c κs = omega (arith, c .before .before .before .before .before .pre .0 .small _ (c .before .loop-test .taken), c .before .before .before .before .before .pre .1)
+draw-requires c κs = omega (arith, c .before .before .before .before .pre .1 .small _ (c .before .loop-test .taken), c .before .before .before .before .pre .0 .few)
 
 above-requires : tie.Need-above-requires Inv-loop μ-loop
-above-requires c κs = (c .before .before .before .before .before .before .pre .0, c .before .before .before .before .before .before .pre .1, omega (arith, c .before .before .before .before .before .before .pre .2))
+above-requires c κs = (c .before .before .before .before .before .pre .0, c .before .before .before .before .before .pre .1, omega (arith, c .before .before .before .before .before .pre .2))
 
 loop-again : tie.Need-loop-again Inv-loop μ-loop
 loop-again c = (omega arith, fill-next _ _ _ (c .before .before .before .before .loop .inv .1) (rank-is _ _ _ _ (c .before .draw .ensures) (c .above .ensures)))

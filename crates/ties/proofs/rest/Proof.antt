@@ -11,23 +11,23 @@ use Rattle.ties.proofs.rest.Statement.{statement}
 use Rattle.ties.proofs.rest.Tie as tie
 
 abbrev Inv-loop : tie.InvT-loop
-Inv-loop rows figures base budgets p m y l out₀ i₀ out i = (i ≤ m) × (out ≡ built (keepsOf rows figures base budgets p y l) i)
+Inv-loop sheet of base p l out₀ m i₀ out i = (i ≤ m) × (out ≡ built (keepsOf sheet of base p l) i)
 
 abbrev μ-loop : tie.MeasureT-loop
-μ-loop rows figures base budgets p m y l out₀ i₀ out i = m - i
+μ-loop sheet of base p l out₀ m i₀ out i = m - i
 
 loop-holds : tie.Need-loop-holds Inv-loop μ-loop
 unfolding fill none
 loop-holds c = search needs
 
 keeps-requires : tie.Need-keeps-requires Inv-loop μ-loop
-keeps-requires c κs = (λ z h. c .before .before .before .before .before .before .pre .0 .priced _ z (c .loop-test .taken) h, c .before .before .before .before .before .before .pre .1, c .before .before .before .before .before .before .pre .2)
+keeps-requires c κs = let pre = c .before .before .before .pre in (pre .0, c .loop-test .taken, pre .1)
 
 loop-again : tie.Need-loop-again Inv-loop μ-loop
-loop-again c = (omega arith, fill-next _ _ _ (c .before .before .loop .inv .1) (keeps-is _ _ _ _ _ _ _ _ (c .keeps .ensures)))
+loop-again c = (omega arith, fill-next _ _ _ (c .before .before .loop .inv .1) (keeps-is _ _ _ _ _ _ (c .keeps .ensures)))
 
 returns : tie.Need-returns Inv-loop μ-loop
-returns c = done (built (keepsOf _ _ _ _ _ _ _)) (c .before .loop .inv .1) (c .before .loop .inv .0) (c .loop-test .left)
+returns c = done (built (keepsOf _ _ _ _ _)) (c .before .loop .inv .1) (c .before .loop .inv .0) (c .loop-test .left)
 
 pub rest-spec : {M : Type 1} → statement M
 rest-spec =

@@ -10,16 +10,16 @@ use Rattle.ties.proofs.search.Statement.{statement}
 use Rattle.ties.proofs.search.Tie as tie
 
 abbrev Inv-loop : tie.InvT-loop
-Inv-loop base low high lows highs budgets k y end b₀ mask₀ b mask = (mask ≤ end) × (b ≡ bestOf (okBy base low high lows highs budgets y) (lastBy base low high lows highs y) mask)
+Inv-loop sheet of base low high lows highs k end b₀ mask₀ b mask = (mask ≤ end) × (b ≡ bestOf (okBy sheet of base low high lows highs) (lastBy of base low high lows highs) mask)
 
 abbrev μ-loop : tie.MeasureT-loop
-μ-loop base low high lows highs budgets k y end b₀ mask₀ b mask = end - mask
+μ-loop sheet of base low high lows highs k end b₀ mask₀ b mask = end - mask
 
 shared-slice-read-joint : tie.Need-shared-slice-read-joint Inv-loop μ-loop
-shared-slice-read-joint c = omega (arith, c .before .before .before .before .before .before .before .before .pre .1 .low-room)
+shared-slice-read-joint c = omega (arith, c .before .before .before .before .before .before .before .pre .1 .low-room)
 
 shared-slice-read-joint-2 : tie.Need-shared-slice-read-joint-2 Inv-loop μ-loop
-shared-slice-read-joint-2 c = omega (arith, c .before .before .before .before .before .before .before .before .before .pre .1 .high-room)
+shared-slice-read-joint-2 c = omega (arith, c .before .before .before .before .before .before .before .before .pre .1 .high-room)
 
 joint-requires : tie.Need-joint-requires Inv-loop μ-loop
 joint-requires c κs = let g = c .before .before .before .before .before .before .before .before .before .pre in (g .0, omega arith, union-low (g .1) 0 0, omega (arith, g .3, g .4))
@@ -33,18 +33,18 @@ shared-slice-read-t c = omega (arith, c .before .before .before .before .before 
 shared-slice-read-t-2 : tie.Need-shared-slice-read-t-2 Inv-loop μ-loop
 shared-slice-read-t-2 c =
     let g = c .before .before .before .before .before .before .before .before .before .before .before .before .before .before .pre in
-    omega (arith, g .1 .high-room, mask-low (g .2) (c .before .before .before .before .before .before .before .power .ensures) (c .before .before .loop-test .taken))
+    omega (arith, g .1 .high-room, mask-low (g .2) (c .before .before .before .before .before .before .before .before .power .ensures) (c .before .before .loop-test .taken))
 
 consider-requires : tie.Need-consider-requires Inv-loop μ-loop
 consider-requires c κs =
     let g = c .before .before .before .before .before .before .before .before .before .before .before .before .before .before .pre in
-    (g .0, mask-low (g .2) (c .before .before .before .before .before .before .before .power .ensures) (c .before .before .loop-test .taken), union-low (g .1) _ _, g .3, g .4, g .5)
+    (g .0, mask-low (g .2) (c .before .before .before .before .before .before .before .before .power .ensures) (c .before .before .loop-test .taken), union-low (g .1) _ _, g .3, g .4)
 
 loop-again : tie.Need-loop-again Inv-loop μ-loop
 loop-again c = (omega arith, best-next _ _ _ (c .before .before .before .before .loop .inv .1) (looked-is _ _ _ _ _ _ _ _ _ refl (c .consider .ensures)))
 
 returns : tie.Need-returns Inv-loop μ-loop
-returns c = best-ends _ _ _ _ _ _ _ _ (c .before .loop .inv .1) (c .before .loop .inv .0) (c .loop-test .left) (c .before .before .before .before .before .power .ensures)
+returns c = best-ends _ _ _ _ _ _ _ _ (c .before .loop .inv .1) (c .before .loop .inv .0) (c .loop-test .left) (c .before .before .before .before .before .before .power .ensures)
 
 pub search-spec : {M : Type 1} → statement M
 search-spec =

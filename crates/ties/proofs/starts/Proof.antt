@@ -11,23 +11,23 @@ use Rattle.ties.proofs.starts.Statement.{statement}
 use Rattle.ties.proofs.starts.Tie as tie
 
 abbrev Inv-loop : tie.InvT-loop
-Inv-loop rows list k m out₀ j₀ out j = (j ≤ k) × (out ≡ fill noList (startOf rows list) j)
+Inv-loop sheet list k out₀ j₀ out j = (j ≤ k) × (out ≡ fill noList (startOf sheet list) j)
 
 abbrev μ-loop : tie.MeasureT-loop
-μ-loop rows list k m out₀ j₀ out j = k - j
+μ-loop sheet list k out₀ j₀ out j = k - j
 
 loop-holds : tie.Need-loop-holds Inv-loop μ-loop
 unfolding fill noList
 loop-holds c = search needs
 
 shared-slice-read-year : tie.Need-shared-slice-read-year Inv-loop μ-loop
-shared-slice-read-year c = omega (arith, c .before .before .before .before .before .pre .0 .room, c .before .loop-test .taken)
+shared-slice-read-year c = omega (arith, c .before .before .before .before .pre .1 .room, c .before .loop-test .taken)
 
 year-requires : tie.Need-year-requires Inv-loop μ-loop
-year-requires c κs = omega (arith, c .before .before .before .before .before .pre .0 .small _ (c .before .loop-test .taken), c .before .before .before .before .before .pre .1 .rows-whole)
+year-requires c κs = omega (arith, c .before .before .before .before .pre .1 .small _ (c .before .loop-test .taken), c .before .before .before .before .pre .0 .few)
 
 cast-out : tie.Need-cast-out Inv-loop μ-loop
-cast-out c = omega (arith, c .year .ensures, c .before .before .before .before .before .before .pre .1 .year _ (c .before .before .before .before .before .before .pre .0 .small _ (c .before .before .loop-test .taken)))
+cast-out c = omega (arith, c .year .ensures, c .before .before .before .before .before .pre .0 .year _ (c .before .before .before .before .before .pre .1 .small _ (c .before .before .loop-test .taken)))
 
 loop-again : tie.Need-loop-again Inv-loop μ-loop
 loop-again c = (omega arith, fill-next _ _ _ (c .before .before .before .loop .inv .1) (start-is _ _ _ (c .year .ensures)))
