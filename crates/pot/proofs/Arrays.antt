@@ -21,91 +21,91 @@ unfolding priceFrom
 price-join P z [] b d = refl
 price-join P z (w ∷ a) b d = rw (price-join P z a b d)
 
-module _ (rows : List ℕ) (p : ℕ) (s : PotState) (S : Sizes s) where
-  pub win-sizes : (l : List ℕ) → Sizes (winAll rows p s l)
+module _ (sheet : List ℕ) (p : ℕ) (s : PotState) (S : Sizes s) where
+  pub win-sizes : (l : List ℕ) → Sizes (winAll sheet p s l)
   unfolding winAll winOf
   win-sizes [] = S
   win-sizes (i ∷ l) =
       let t = win-sizes l in
       record {
-        reasons = length-set ((winAll rows p s l) .reasons) i 1 ∙ t .reasons;
-        won = length-set ((winAll rows p s l) .won) (rowApp rows i) true ∙ t .won;
+        reasons = length-set ((winAll sheet p s l) .reasons) i 1 ∙ t .reasons;
+        won = length-set ((winAll sheet p s l) .won) (rowApp sheet i) true ∙ t .won;
         opened = t .opened;
-        prices = length-set ((winAll rows p s l) .prices) (rowYear rows i) p ∙ t .prices;
+        prices = length-set ((winAll sheet p s l) .prices) (rowYear sheet i) p ∙ t .prices;
       }
 
-  pub win-reasons : (l : List ℕ) (b : ℕ) → ((i : ℕ) → In i l → i < 320) → getD ((winAll rows p s l) .reasons) b 0 ≡ pick (memb b l) 1 (getD (s .reasons) b 0)
+  pub win-reasons : (l : List ℕ) (b : ℕ) → ((i : ℕ) → In i l → i < 320) → getD ((winAll sheet p s l) .reasons) b 0 ≡ pick (memb b l) 1 (getD (s .reasons) b 0)
   unfolding winAll winOf
   win-reasons [] b h = refl
   win-reasons (i ∷ l) b h =
-      put-is ((winAll rows p s l) .reasons) i b 1 0 (omega (arith, win-sizes l .reasons, h i (here refl)))
+      put-is ((winAll sheet p s l) .reasons) i b 1 0 (omega (arith, win-sizes l .reasons, h i (here refl)))
       ∙ ap (pick (eqb b i) 1) (win-reasons l b (λ k j. h k (there j))) ∙ pick-or (eqb b i) (memb b l) 1 (getD (s .reasons) b 0)
 
-  pub win-won : (l : List ℕ) (k : ℕ) → ((i : ℕ) → In i l → rowApp rows i < 64) → getD ((winAll rows p s l) .won) k false ≡ (memb k (map (rowApp rows) l) || getD (s .won) k false)
+  pub win-won : (l : List ℕ) (k : ℕ) → ((i : ℕ) → In i l → rowApp sheet i < 64) → getD ((winAll sheet p s l) .won) k false ≡ (memb k (map (rowApp sheet) l) || getD (s .won) k false)
   unfolding winAll winOf
   win-won [] k h = refl
   win-won (i ∷ l) k h =
-      put-is ((winAll rows p s l) .won) (rowApp rows i) k true false (omega (arith, win-sizes l .won, h i (here refl)))
-      ∙ case (eqb k (rowApp rows i)) (λ t. rw t) (λ f. rw f (win-won l k (λ k j. h k (there j))))
+      put-is ((winAll sheet p s l) .won) (rowApp sheet i) k true false (omega (arith, win-sizes l .won, h i (here refl)))
+      ∙ case (eqb k (rowApp sheet i)) (λ t. rw t) (λ f. rw f (win-won l k (λ k j. h k (there j))))
 
-  pub win-opened : (l : List ℕ) → (winAll rows p s l) .opened ≡ s .opened
+  pub win-opened : (l : List ℕ) → (winAll sheet p s l) .opened ≡ s .opened
   unfolding winAll winOf
   win-opened [] = refl
   win-opened (i ∷ l) = win-opened l
 
-  pub win-hang : (l : List ℕ) → (winAll rows p s l) .hang ≡ s .hang
+  pub win-hang : (l : List ℕ) → (winAll sheet p s l) .hang ≡ s .hang
   unfolding winAll winOf
   win-hang [] = refl
   win-hang (i ∷ l) = win-hang l
 
-  pub win-wide : (l : List ℕ) → (winAll rows p s l) .wide ≡ s .wide
+  pub win-wide : (l : List ℕ) → (winAll sheet p s l) .wide ≡ s .wide
   unfolding winAll winOf
   win-wide [] = refl
   win-wide (i ∷ l) = win-wide l
 
-module _ (rows : List ℕ) (v : ℕ) (s : PotState) (S : Sizes s) where
-  pub turn-sizes : (l : List ℕ) → Sizes (turnAll rows v s l)
+module _ (sheet : List ℕ) (v : ℕ) (s : PotState) (S : Sizes s) where
+  pub turn-sizes : (l : List ℕ) → Sizes (turnAll sheet v s l)
   unfolding turnAll turnOf
   turn-sizes [] = S
   turn-sizes (i ∷ l) =
       let t = turn-sizes l in
       record {
-        reasons = length-set ((turnAll rows v s l) .reasons) i v ∙ t .reasons;
+        reasons = length-set ((turnAll sheet v s l) .reasons) i v ∙ t .reasons;
         won = t .won;
-        opened = length-set ((turnAll rows v s l) .opened) (rowYear rows i) false ∙ t .opened;
+        opened = length-set ((turnAll sheet v s l) .opened) (rowYear sheet i) false ∙ t .opened;
         prices = t .prices;
       }
 
-  pub turn-reasons : (l : List ℕ) (b : ℕ) → ((i : ℕ) → In i l → i < 320) → getD ((turnAll rows v s l) .reasons) b 0 ≡ pick (memb b l) v (getD (s .reasons) b 0)
+  pub turn-reasons : (l : List ℕ) (b : ℕ) → ((i : ℕ) → In i l → i < 320) → getD ((turnAll sheet v s l) .reasons) b 0 ≡ pick (memb b l) v (getD (s .reasons) b 0)
   unfolding turnAll turnOf
   turn-reasons [] b h = refl
   turn-reasons (i ∷ l) b h =
-      put-is ((turnAll rows v s l) .reasons) i b v 0 (omega (arith, turn-sizes l .reasons, h i (here refl)))
+      put-is ((turnAll sheet v s l) .reasons) i b v 0 (omega (arith, turn-sizes l .reasons, h i (here refl)))
       ∙ ap (pick (eqb b i) v) (turn-reasons l b (λ k j. h k (there j))) ∙ pick-or (eqb b i) (memb b l) v (getD (s .reasons) b 0)
 
-  pub turn-opened : (l : List ℕ) (y : ℕ) → ((i : ℕ) → In i l → rowYear rows i < 4) → getD ((turnAll rows v s l) .opened) y false ≡ (not (memb y (map (rowYear rows) l)) && getD (s .opened) y false)
+  pub turn-opened : (l : List ℕ) (y : ℕ) → ((i : ℕ) → In i l → rowYear sheet i < 4) → getD ((turnAll sheet v s l) .opened) y false ≡ (not (memb y (map (rowYear sheet) l)) && getD (s .opened) y false)
   unfolding turnAll turnOf
   turn-opened [] y h = refl
   turn-opened (i ∷ l) y h =
-      put-is ((turnAll rows v s l) .opened) (rowYear rows i) y false false (omega (arith, turn-sizes l .opened, h i (here refl)))
-      ∙ case (eqb y (rowYear rows i)) (λ t. rw t) (λ f. rw f (turn-opened l y (λ k j. h k (there j))))
+      put-is ((turnAll sheet v s l) .opened) (rowYear sheet i) y false false (omega (arith, turn-sizes l .opened, h i (here refl)))
+      ∙ case (eqb y (rowYear sheet i)) (λ t. rw t) (λ f. rw f (turn-opened l y (λ k j. h k (there j))))
 
-  pub turn-won : (l : List ℕ) → (turnAll rows v s l) .won ≡ s .won
+  pub turn-won : (l : List ℕ) → (turnAll sheet v s l) .won ≡ s .won
   unfolding turnAll turnOf
   turn-won [] = refl
   turn-won (i ∷ l) = turn-won l
 
-  pub turn-prices : (l : List ℕ) → (turnAll rows v s l) .prices ≡ s .prices
+  pub turn-prices : (l : List ℕ) → (turnAll sheet v s l) .prices ≡ s .prices
   unfolding turnAll turnOf
   turn-prices [] = refl
   turn-prices (i ∷ l) = turn-prices l
 
-  pub turn-hang : (l : List ℕ) → (turnAll rows v s l) .hang ≡ s .hang
+  pub turn-hang : (l : List ℕ) → (turnAll sheet v s l) .hang ≡ s .hang
   unfolding turnAll turnOf
   turn-hang [] = refl
   turn-hang (i ∷ l) = turn-hang l
 
-  pub turn-wide : (l : List ℕ) → (turnAll rows v s l) .wide ≡ s .wide
+  pub turn-wide : (l : List ℕ) → (turnAll sheet v s l) .wide ≡ s .wide
   unfolding turnAll turnOf
   turn-wide [] = refl
   turn-wide (i ∷ l) = turn-wide l

@@ -10,54 +10,54 @@ use lib.Dec.{eqb}
 use borrow.Author.Tests.{eq-eqb, ne-eqb, lt-ltb, le-ltb}
 use Rattle.rules.specs.Names.{noPrice, widestTie, downTied}
 use Rattle.sets.specs.Sets.{fill, built, members, without}
-use Rattle.sheet.specs.Sheet.{rowStanding, rowApp, rowYear, rowPrice}
-use Rattle.totals.specs.Totals.{Checked}
+use Rattle.sheet.specs.declared.Size.{Size}
+use Rattle.sheet.specs.Sheet.{Ready, rowStanding, rowApp, rowYear, rowPrice}
 use Rattle.ties.specs.Ties.{basesOf, keepsOf, choiceOf}
 use Rattle.pot.specs.declared.PotState.{PotState}
 use Rattle.pot.specs.declared.Look.{Look}
-use Rattle.pot.specs.Marks.{liveOf, atOf, winOf, turnOf, winAll, turnAll, turnedOf, hungOf, shutOf, settledOf, widened, soleOf, followsOf, aloneOf, sharedOf, restOf, choiceIn, tieOf, Others, Looked, firstMark, noMarks, startedOf, renewedTo}
+use Rattle.pot.specs.Marks.{liveOf, atOf, winOf, turnOf, winAll, turnAll, turnedOf, hungOf, shutOf, settledOf, widened, soleOf, followsOf, aloneOf, sharedOf, restOf, choiceIn, tieOf, Others, Looked, firstMark, noMarks, startedOf, revaluedOf}
 
 -- the bounds of a bid's application and year, at what the accessors return
-pub app-ok : {rows : List ℕ} {m : ℕ} (i : ℕ) {a : ℕ} → Checked rows m → i < m → a ≡ rowApp rows i → a < 64
+pub app-ok : {sheet : List ℕ} {of : Size} (i : ℕ) {a : ℕ} → Ready sheet of → i < of .bids → a ≡ rowApp sheet i → a < 64
 app-ok i c h e = rw e (c .app i h)
 
-pub year-ok : {rows : List ℕ} {m : ℕ} (i : ℕ) {d : ℕ} → Checked rows m → i < m → d ≡ rowYear rows i → d < 4
+pub year-ok : {sheet : List ℕ} {of : Size} (i : ℕ) {d : ℕ} → Ready sheet of → i < of .bids → d ≡ rowYear sheet i → d < 4
 year-ok i c h e = rw e (c .year i h)
 
 -- ---- what is live
-module _ (rows : List ℕ) (s : PotState) (i : ℕ) {a d : ℕ} {b : Bool} (ea : a ≡ rowApp rows i) (ed : d ≡ rowYear rows i) (eb : b ≡ (eqb (getD (s .reasons) i 0) 0 && (not (getD (s .won) a false) && getD (s .opened) d false))) where
-  pub live-is : b ≡ liveOf rows s i
+module _ (sheet : List ℕ) (s : PotState) (i : ℕ) {a d : ℕ} {b : Bool} (ea : a ≡ rowApp sheet i) (ed : d ≡ rowYear sheet i) (eb : b ≡ (eqb (getD (s .reasons) i 0) 0 && (not (getD (s .won) a false) && getD (s .opened) d false))) where
+  pub live-is : b ≡ liveOf sheet s i
   unfolding liveOf
   live-is = rw (eb, ea, ed)
 
-  pub at-is : (p : ℕ) {q : ℕ} {r : Bool} → q ≡ rowPrice rows i → r ≡ (b && eqb q p) → r ≡ atOf rows s p i
+  pub at-is : (p : ℕ) {q : ℕ} {r : Bool} → q ≡ rowPrice sheet i → r ≡ (b && eqb q p) → r ≡ atOf sheet s p i
   unfolding atOf
   at-is p eq er = rw (er, live-is, eq)
 
 -- ---- marks, at what the accessors return
-module _ (rows : List ℕ) (s : PotState) (p i : ℕ) {d : ℕ} (ed : d ≡ rowYear rows i) where
-  pub win-is : {a : ℕ} → a ≡ rowApp rows i → _≡_ {A = PotState} (record { reasons = set (s .reasons) i 1; won = set (s .won) a true; opened = s .opened; prices = set (s .prices) d p; sums = s .sums; hang = s .hang; wide = s .wide }) (winOf rows p i s)
+module _ (sheet : List ℕ) (s : PotState) (p i : ℕ) {d : ℕ} (ed : d ≡ rowYear sheet i) where
+  pub win-is : {a : ℕ} → a ≡ rowApp sheet i → _≡_ {A = PotState} (record { reasons = set (s .reasons) i 1; won = set (s .won) a true; opened = s .opened; prices = set (s .prices) d p; sums = s .sums; totals = s .totals; hang = s .hang; wide = s .wide }) (winOf sheet p i s)
   unfolding winOf
   win-is ea = rw (ea, ed)
 
-  pub turn-is : _≡_ {A = PotState} (record { reasons = set (s .reasons) i p; won = s .won; opened = set (s .opened) d false; prices = s .prices; sums = s .sums; hang = s .hang; wide = s .wide }) (turnOf rows p i s)
+  pub turn-is : _≡_ {A = PotState} (record { reasons = set (s .reasons) i p; won = s .won; opened = set (s .opened) d false; prices = s .prices; sums = s .sums; totals = s .totals; hang = s .hang; wide = s .wide }) (turnOf sheet p i s)
   unfolding turnOf
   turn-is = rw ed
 
-module _ (rows : List ℕ) (v : ℕ) (s : PotState) (l : List Bool) (i : ℕ) {t : PotState} where
-  pub winAll-hit : {r : PotState} → getD l i false ≡ true → t ≡ winAll rows v s (members l i) → r ≡ winOf rows v i t → r ≡ winAll rows v s (members l (i + 1))
+module _ (sheet : List ℕ) (v : ℕ) (s : PotState) (l : List Bool) (i : ℕ) {t : PotState} where
+  pub winAll-hit : {r : PotState} → getD l i false ≡ true → t ≡ winAll sheet v s (members l i) → r ≡ winOf sheet v i t → r ≡ winAll sheet v s (members l (i + 1))
   unfolding winAll members
   winAll-hit h et er = rw (add-one i, h, er, et)
 
-  pub winAll-miss : getD l i false ≡ false → t ≡ winAll rows v s (members l i) → t ≡ winAll rows v s (members l (i + 1))
+  pub winAll-miss : getD l i false ≡ false → t ≡ winAll sheet v s (members l i) → t ≡ winAll sheet v s (members l (i + 1))
   unfolding members
   winAll-miss h et = rw (add-one i, h, et)
 
-  pub turnAll-hit : {r : PotState} → getD l i false ≡ true → t ≡ turnAll rows v s (members l i) → r ≡ turnOf rows v i t → r ≡ turnAll rows v s (members l (i + 1))
+  pub turnAll-hit : {r : PotState} → getD l i false ≡ true → t ≡ turnAll sheet v s (members l i) → r ≡ turnOf sheet v i t → r ≡ turnAll sheet v s (members l (i + 1))
   unfolding turnAll members
   turnAll-hit h et er = rw (add-one i, h, er, et)
 
-  pub turnAll-miss : getD l i false ≡ false → t ≡ turnAll rows v s (members l i) → t ≡ turnAll rows v s (members l (i + 1))
+  pub turnAll-miss : getD l i false ≡ false → t ≡ turnAll sheet v s (members l i) → t ≡ turnAll sheet v s (members l (i + 1))
   unfolding members
   turnAll-miss h et = rw (add-one i, h, et)
 
@@ -71,19 +71,19 @@ unfolding settledOf
 settled-none s h e = rw (le-ltb (s .hang) 4 h) e
 
 -- ---- one bid alone
-module _ (rows : List ℕ) (m i : ℕ) (s : PotState) {l : Look} (K : Looked rows m s l) where
-  pub follows-not : (l .count ≡ 1 → ⊥) → false ≡ followsOf rows m i s
+module _ (sheet : List ℕ) (of : Size) (i : ℕ) (s : PotState) {l : Look} (K : Looked sheet of s l) where
+  pub follows-not : (l .count ≡ 1 → ⊥) → false ≡ followsOf sheet of i s
   unfolding followsOf soleOf
   follows-not h = rw (← K .count, ne-eqb (l .count) 1 h)
 
-  module _ {x y : ℕ} (h : l .count ≡ 1) (ex : x ≡ rowApp rows i) (ey : y ≡ rowApp rows (l .last)) where
-    pub follows-other : (y ≡ x → ⊥) → false ≡ followsOf rows m i s
+  module _ {q x : ℕ} (h : l .count ≡ 1) (ex : x ≡ rowApp sheet i) (ey : q ≡ rowApp sheet (l .last)) where
+    pub follows-other : (q ≡ x → ⊥) → false ≡ followsOf sheet of i s
     unfolding followsOf soleOf
-    follows-other g = rw (← K .count, eq-eqb (l .count) 1 h, ← K .last, ← ex, ← ey, ne-eqb y x g)
+    follows-other g = rw (← K .count, eq-eqb (l .count) 1 h, ← K .last, ← ex, ← ey, ne-eqb q x g)
 
-    pub follows-year : {z w : ℕ} → y ≡ x → z ≡ rowYear rows i → w ≡ rowYear rows (l .last) → eqb w z ≡ followsOf rows m i s
+    pub follows-year : {z w : ℕ} → q ≡ x → z ≡ rowYear sheet i → w ≡ rowYear sheet (l .last) → eqb w z ≡ followsOf sheet of i s
     unfolding followsOf soleOf
-    follows-year {z} {w} g ez ew = rw (← K .count, eq-eqb (l .count) 1 h, ← K .last, ← ex, ← ey, eq-eqb y x g, ez, ew)
+    follows-year {z} {w} g ez ew = rw (← K .count, eq-eqb (l .count) 1 h, ← K .last, ← ex, ← ey, eq-eqb q x g, ez, ew)
 
 -- a bid that is turned down is not fresh, and no other gets so
 not-fresh : (l : List ℕ) (i k : ℕ) → eqb (getD l k 0) 0 ≡ false → eqb (getD (set l i 2) k 0) 0 ≡ false
@@ -93,36 +93,36 @@ not-fresh (x ∷ l) zero (suc k) h = h
 not-fresh (x ∷ l) (suc i) zero h = h
 not-fresh (x ∷ l) (suc i) (suc k) h = not-fresh l i k h
 
-pub others-turned : (rows : List ℕ) (m i : ℕ) (s : PotState) {t : PotState} → t ≡ turnedOf i s → Others rows m s → Others rows m t
+pub others-turned : (sheet : List ℕ) (of : Size) (i : ℕ) (s : PotState) {t : PotState} → t ≡ turnedOf i s → Others sheet of s → Others sheet of t
 unfolding turnedOf
-others-turned rows m i s e o = rw e (λ k g f. not-fresh (s .reasons) i k (o k g f))
+others-turned sheet of i s e o = rw e (λ k g f. not-fresh (s .reasons) i k (o k g f))
 
-module _ (rows : List ℕ) (m i : ℕ) (s : PotState) {t r : PotState} {d : ℕ} {g : Bool} (et : t ≡ turnedOf i s) (ed : d ≡ rowYear rows i) (eg : g ≡ followsOf rows m i t) where
-  pub alone-hung : g ≡ true → r ≡ hungOf d t → r ≡ aloneOf rows m i s
+module _ (sheet : List ℕ) (of : Size) (i : ℕ) (s : PotState) {t r : PotState} {d : ℕ} {g : Bool} (et : t ≡ turnedOf i s) (ed : d ≡ rowYear sheet i) (eg : g ≡ followsOf sheet of i t) where
+  pub alone-hung : g ≡ true → r ≡ hungOf d t → r ≡ aloneOf sheet of i s
   unfolding aloneOf
   alone-hung h er = rw (← et, ← eg, h, er, ed)
 
-  pub alone-shut : g ≡ false → r ≡ shutOf d t → r ≡ aloneOf rows m i s
+  pub alone-shut : g ≡ false → r ≡ shutOf d t → r ≡ aloneOf sheet of i s
   unfolding aloneOf
   alone-shut h er = rw (← et, ← eg, h, er, ed)
 
 -- ---- several
-pub shared-is : (rows : List ℕ) (m : ℕ) (l wins : List Bool) (p : ℕ) (s : PotState) {t u r : PotState} {o : List Bool} → t ≡ winAll rows p s (members wins m) → o ≡ built (without l wins) m
-    → u ≡ turnAll rows downTied t (members o m) → r ≡ hungOf 4 u → r ≡ sharedOf rows m l wins p s
+pub shared-is : (sheet : List ℕ) (of : Size) (l wins : List Bool) (p : ℕ) (s : PotState) {t u r : PotState} {o : List Bool} → t ≡ winAll sheet p s (members wins (of .bids)) → o ≡ built (without l wins) (of .bids)
+    → u ≡ turnAll sheet downTied t (members o (of .bids)) → r ≡ hungOf 4 u → r ≡ sharedOf sheet of l wins p s
 unfolding sharedOf
-shared-is rows m l wins p s et eo eu er = rw (er, eu, et, eo)
+shared-is sheet of l wins p s et eo eu er = rw (er, eu, et, eo)
 
-module _ (rows figures budgets : List ℕ) (m y : ℕ) (l : List Bool) (p : ℕ) (s : PotState) {base : List ℕ} {rest : List Bool} {k : ℕ} (eb : base ≡ basesOf rows figures (s .reasons) (s .prices) p m y) (es : rest ≡ built (keepsOf rows figures base budgets p y l) m) (ek : k ≡ length (members rest m)) where
-  rest-is : rest ≡ restOf rows figures budgets m y l p s
+module _ (sheet : List ℕ) (of : Size) (l : List Bool) (p : ℕ) (s : PotState) {base : List ℕ} {rest : List Bool} {k : ℕ} (eb : base ≡ basesOf sheet of (s .reasons) (s .prices) p) (es : rest ≡ built (keepsOf sheet of base p l) (of .bids)) (ek : k ≡ length (members rest (of .bids))) where
+  rest-is : rest ≡ restOf sheet of l p s
   unfolding restOf
   rest-is = rw (es, eb)
 
-  pub tie-wide : {r : PotState} → widestTie < k → r ≡ widened s → r ≡ tieOf rows figures budgets m y l p s
+  pub tie-wide : {r : PotState} → widestTie < k → r ≡ widened s → r ≡ tieOf sheet of l p s
   unfolding tieOf
   tie-wide h er = rw (← rest-is, ← ek, lt-ltb widestTie k h) er
 
-  pub tie-shared : {wins : List Bool} {t r : PotState} → k ≤ widestTie → wins ≡ choiceOf rows figures base budgets rest k p m y → t ≡ sharedOf rows m l wins p s → r ≡ renewedTo rows figures m y t 4
-      → r ≡ tieOf rows figures budgets m y l p s
+  pub tie-shared : {wins : List Bool} {t r : PotState} → k ≤ widestTie → wins ≡ choiceOf sheet of base rest k p → t ≡ sharedOf sheet of l wins p s → r ≡ revaluedOf sheet of t
+      → r ≡ tieOf sheet of l p s
   unfolding tieOf choiceIn
   tie-shared h ew et er = rw (← rest-is, ← ek, le-ltb widestTie k h, ← eb, ← ew, ← et) er
 
@@ -135,7 +135,7 @@ pub first-no : {q : ℕ} → (q ≡ 1 → ⊥) → 9 ≡ firstMark q
 unfolding firstMark
 first-no {q} h = rw (ne-eqb q 1 h)
 
-pub started-done : (rows : List ℕ) (m : ℕ) {l : List ℕ} {i : ℕ} → l ≡ fill noMarks (λ k. firstMark (rowStanding rows k)) i → i ≤ m → m ≤ i
-    → _≡_ {A = PotState} (record { reasons = l; won = replicate 64 false; opened = replicate 4 true; prices = replicate 4 noPrice; sums = replicate 32 0; hang = 4; wide = false }) (startedOf rows m)
+pub started-done : (sheet : List ℕ) (n : ℕ) {l : List ℕ} {i : ℕ} → l ≡ fill noMarks (λ k. firstMark (rowStanding sheet k)) i → i ≤ n → n ≤ i
+    → _≡_ {A = PotState} (record { reasons = l; won = replicate 64 false; opened = replicate 4 true; prices = replicate 4 noPrice; sums = replicate 32 0; totals = replicate 8 0; hang = 4; wide = false }) (startedOf sheet n)
 unfolding startedOf
-started-done rows m e h g = rw (e, le-antisymm h g)
+started-done sheet n e h g = rw (e, le-antisymm h g)

@@ -15,6 +15,7 @@ use Rattle.laws.specs.Lists.{case, clash, and-true, In, here, there, memb-in, i
 use Rattle.laws.specs.Mono.{Lawful}
 use Rattle.sets.specs.Sets.{built, members}
 use Rattle.sets.proofs.Arrays.{eqb-sym, put-is, members-built}
+use Rattle.sheet.specs.declared.Size.{Size}
 use Rattle.sheet.specs.Sheet.{potIn, Ready, inAuction, sheetCost, rowApp, rowYear, rowPrice}
 use Rattle.totals.specs.Totals.{totalOf, filled, fitsTo}
 use Rattle.totals.proofs.Link as link
@@ -79,21 +80,21 @@ pub record Holds (P : Pot) (ws : List ℕ) (s : PotState) : Type 0 where
 pub holds-rep : {P : Pot} {t : Trace} {s : PotState} → Rep P t s → Holds P (winners t) s
 holds-rep R = record { marked = record { one = R .one; other = λ b h f. ap (λ (x : ℕ). eqb x becauseWon) (R .other b h f) }; price = R .price }
 
-module _ (rows figures budgets : List ℕ) (b m y : ℕ) (ok : Ready rows figures budgets b m y) where
+module _ (sheet : List ℕ) (of : Size) (ok : Ready sheet of) where
   abbrev pub P : Pot
-  P = potIn rows figures budgets b m y
+  P = potIn sheet of
 
-  pub bid : (i : ℕ) → i < m → inAuction rows i ≡ true → In i (P .bids)
-  bid = link.bid rows figures budgets b m y ok
+  pub bid : (i : ℕ) → i < of .bids → inAuction sheet i ≡ true → In i (P .bids)
+  bid = link.bid sheet of ok
 
-  pub bid-lt : (i : ℕ) → In i (P .bids) → i < m
-  bid-lt = link.bid-lt rows figures budgets b m y ok
+  pub bid-lt : (i : ℕ) → In i (P .bids) → i < of .bids
+  bid-lt = link.bid-lt sheet of ok
 
-  pub bid-in : (i : ℕ) → In i (P .bids) → inAuction rows i ≡ true
-  bid-in = link.bid-in rows figures budgets b m y ok
+  pub bid-in : (i : ℕ) → In i (P .bids) → inAuction sheet i ≡ true
+  bid-in = link.bid-in sheet of ok
 
-  pub small : (i : ℕ) → i < m → i < 320
-  small = link.small rows figures budgets b m y ok
+  pub small : (i : ℕ) → i < of .bids → i < 320
+  small = link.small sheet of ok
 
   -- the pot's figures are lawful
   pub lawful : Lawful P
@@ -101,7 +102,7 @@ module _ (rows figures budgets : List ℕ) (b m y : ℕ) (ok : Ready rows figure
   lawful = record {
     pos = omega arith;
     apart = λ c d i j e f. ok .apart c d (bid-lt c i) (bid-lt d j) (bid-in c i) (bid-in d j) e f;
-    mono = λ i p q z h. unfold sheetCost in up (ltb z y) (mul-le-mul-right _ (mul-le-mul-right _ (omega arith)));
+    mono = λ i p q z h. unfold sheetCost in up (ltb z (of .years)) (mul-le-mul-right _ (mul-le-mul-right _ (omega arith)));
   }
     where
       up : (t : Bool) {x z : ℕ} → x ≤ z → pick t x 0 ≤ pick t z 0
@@ -110,57 +111,57 @@ module _ (rows figures budgets : List ℕ) (b m y : ℕ) (ok : Ready rows figure
 
   -- ---- what is live, and taken
   module _ (t : Trace) (s : PotState) (R : Rep P t s) where
-    pub live-is : (i : ℕ) → i < m → liveOf rows s i ≡ (inAuction rows i && live P t i)
+    pub live-is : (i : ℕ) → i < of .bids → liveOf sheet s i ≡ (inAuction sheet i && live P t i)
     unfolding liveOf live
     live-is i h =
-        case (inAuction rows i)
-        (λ e. rw (e, R .fresh i (bid i h e), R .has (rowApp rows i) (ok .app i h), R .free (rowYear rows i) (ok .year i h)) (same i))
-        (λ f. rw (f, R .other i (small i h) (link.not-bid rows figures budgets b m y ok i f)))
+        case (inAuction sheet i)
+        (λ e. rw (e, R .fresh i (bid i h e), R .has (rowApp sheet i) (ok .app i h), R .free (rowYear sheet i) (ok .year i h)) (same i))
+        (λ f. rw (f, R .other i (small i h) (link.not-bid sheet of ok i f)))
       where
-        same : (i : ℕ) → (not (memb i (seen t)) && (not (memb (rowApp rows i) (map (P .app) (winners t))) && not (memb (rowYear rows i) (closed t)))) ≡ (not (memb i (seen t)) && (not (memb (P .app i) (map (P .app) (winners t))) && not (memb (P .yr i) (closed t))))
+        same : (i : ℕ) → (not (memb i (seen t)) && (not (memb (rowApp sheet i) (map (P .app) (winners t))) && not (memb (rowYear sheet i) (closed t)))) ≡ (not (memb i (seen t)) && (not (memb (P .app i) (map (P .app) (winners t))) && not (memb (P .yr i) (closed t))))
         same i = unfold potIn in refl
 
     -- the live bids
-    pub live-list : sift (liveOf rows s) (below m) ≡ sift (live P t) (P .bids)
-    live-list = sift-same (liveOf rows s) (λ i. inAuction rows i && live P t i) (below m) (λ k i. live-is k (below-in k m i)) ∙ sym (sift-both (live P t) (inAuction rows) (below m)) ∙ opened
+    pub live-list : sift (liveOf sheet s) (below (of .bids)) ≡ sift (live P t) (P .bids)
+    live-list = sift-same (liveOf sheet s) (λ i. inAuction sheet i && live P t i) (below (of .bids)) (λ k i. live-is k (below-in k (of .bids) i)) ∙ sym (sift-both (live P t) (inAuction sheet) (below (of .bids))) ∙ opened
       where
-        opened : sift (live P t) (sift (inAuction rows) (below m)) ≡ sift (live P t) (P .bids)
+        opened : sift (live P t) (sift (inAuction sheet) (below (of .bids))) ≡ sift (live P t) (P .bids)
         opened = unfold potIn in refl
 
-    least-is : (x : ℕ) (l : List ℕ) → ((k : ℕ) → In k (x ∷ l) → rowPrice rows k ≤ highestPrice) → leastOr rows (x ∷ l) ≡ least P x l
+    least-is : (x : ℕ) (l : List ℕ) → ((k : ℕ) → In k (x ∷ l) → rowPrice sheet k ≤ highestPrice) → leastOr sheet (x ∷ l) ≡ least P x l
     unfolding leastOr least potIn
     least-is x [] h = omega (arith, h x (here refl))
-    least-is x (z ∷ l) h = ap (min (rowPrice rows x)) (least-is z l (λ k i. h k (there i)))
+    least-is x (z ∷ l) h = ap (min (rowPrice sheet x)) (least-is z l (λ k i. h k (there i)))
 
-    lowest-is : (l : List ℕ) → ((k : ℕ) → In k l → rowPrice rows k ≤ highestPrice) → sift (λ i. eqb (rowPrice rows i) (leastOr rows l)) l ≡ lowest P l
+    lowest-is : (l : List ℕ) → ((k : ℕ) → In k l → rowPrice sheet k ≤ highestPrice) → sift (λ i. eqb (rowPrice sheet i) (leastOr sheet l)) l ≡ lowest P l
     unfolding lowest potIn
     lowest-is [] h = refl
-    lowest-is (x ∷ l) h = ap (λ (q : ℕ). sift (λ i. eqb (rowPrice rows i) q) (x ∷ l)) (least-is x l h)
+    lowest-is (x ∷ l) h = ap (λ (q : ℕ). sift (λ i. eqb (rowPrice sheet i) q) (x ∷ l)) (least-is x l h)
 
-    pub taken-is : {p : ℕ} {a : List Bool} → p ≡ lowestOf rows s m → a ≡ built (atOf rows s p) m → members a m ≡ taken P t
+    pub taken-is : {p : ℕ} {a : List Bool} → p ≡ lowestOf sheet s (of .bids) → a ≡ built (atOf sheet s p) (of .bids) → members a (of .bids) ≡ taken P t
     unfolding taken lowestOf atOf
     taken-is {p} {a} ep ea =
-        ap (λ (l : List Bool). members l m) ea
-        ∙ members-built (λ i. liveOf rows s i && eqb (rowPrice rows i) p) m (ok .few)
-        ∙ sym (sift-both (λ i. eqb (rowPrice rows i) p) (liveOf rows s) (below m))
-        ∙ ap (λ (q : ℕ). sift (λ i. eqb (rowPrice rows i) q) l) ep
-        ∙ lowest-is l (λ k i. ok .price k (below-in k m (sift-in k (liveOf rows s) (below m) i .0)))
+        ap (λ (l : List Bool). members l (of .bids)) ea
+        ∙ members-built (λ i. liveOf sheet s i && eqb (rowPrice sheet i) p) (of .bids) (ok .few)
+        ∙ sym (sift-both (λ i. eqb (rowPrice sheet i) p) (liveOf sheet s) (below (of .bids)))
+        ∙ ap (λ (q : ℕ). sift (λ i. eqb (rowPrice sheet i) q) l) ep
+        ∙ lowest-is l (λ k i. ok .price k (below-in k (of .bids) (sift-in k (liveOf sheet s) (below (of .bids)) i .0)))
         ∙ ap (lowest P) live-list
       where
         l : List ℕ
-        l = sift (liveOf rows s) (below m)
+        l = sift (liveOf sheet s) (below (of .bids))
 
     -- what is taken has the lowest price, and is live
-    pub taken-sound : {p : ℕ} → p ≡ lowestOf rows s m → (k : ℕ) → In k (taken P t) → (k < m) × (live P t k ≡ true) × (rowPrice rows k ≡ p) × In k (P .bids)
+    pub taken-sound : {p : ℕ} → p ≡ lowestOf sheet s (of .bids) → (k : ℕ) → In k (taken P t) → (k < of .bids) × (live P t k ≡ true) × (rowPrice sheet k ≡ p) × In k (P .bids)
     unfolding atOf
     taken-sound {p} ep k i =
-        let e : taken P t ≡ sift (atOf rows s p) (below m) = sym (taken-is {a = built (atOf rows s p) m} ep refl) ∙ members-built (atOf rows s p) m (ok .few) in
-        let j : In k (sift (atOf rows s p) (below m)) = rw e at i in
-        let r = sift-in k (atOf rows s p) (below m) j in
-        let q = and-true (liveOf rows s k) (eqb (rowPrice rows k) p) (r .1) in
-        let h = below-in k m (r .0) in
-        let w = and-true (inAuction rows k) (live P t k) (sym (live-is k h) ∙ q .0) in
-        (h, w .1, eqb-true (rowPrice rows k) p (q .1), bid k h (w .0))
+        let e : taken P t ≡ sift (atOf sheet s p) (below (of .bids)) = sym (taken-is {a = built (atOf sheet s p) (of .bids)} ep refl) ∙ members-built (atOf sheet s p) (of .bids) (ok .few) in
+        let j : In k (sift (atOf sheet s p) (below (of .bids))) = rw e at i in
+        let r = sift-in k (atOf sheet s p) (below (of .bids)) j in
+        let q = and-true (liveOf sheet s k) (eqb (rowPrice sheet k) p) (r .1) in
+        let h = below-in k (of .bids) (r .0) in
+        let w = and-true (inAuction sheet k) (live P t k) (sym (live-is k h) ∙ q .0) in
+        (h, w .1, eqb-true (rowPrice sheet k) p (q .1), bid k h (w .0))
 
   -- what is taken is a part of the pot's bids
   pub taken-part : (t : Trace) → Part P (taken P t)
@@ -173,40 +174,40 @@ module _ (rows figures budgets : List ℕ) (b m y : ℕ) (ok : Ready rows figure
 
   -- ---- what fits
   module _ (ws : List ℕ) (s : PotState) (H : Holds P ws s) where
-    pub total-is : (z : ℕ) → z < y → totalOf rows figures (s .reasons) (s .prices) z m ≡ total P ws z
-    total-is z h = link.total-at rows figures budgets b m y ok ws (s .reasons) (s .prices) (H .marked) (clearing P ws) same z h
+    pub total-is : (z : ℕ) → z < of .years → totalOf sheet (s .reasons) (s .prices) z (of .bids) ≡ total P ws z
+    total-is z h = link.total-at sheet of ok ws (s .reasons) (s .prices) (H .marked) (clearing P ws) same z h
       where
-        same : (i : ℕ) → In i (P .bids) → memb i ws ≡ true → getD (s .prices) (rowYear rows i) 0 ≡ clearing P ws (rowYear rows i)
-        same i j w = H .price (rowYear rows i) (ok .year i (bid-lt i j)) ∙ opened (price-won P noPrice i ws (memb-in i ws w))
+        same : (i : ℕ) → In i (P .bids) → memb i ws ≡ true → getD (s .prices) (rowYear sheet i) 0 ≡ clearing P ws (rowYear sheet i)
+        same i j w = H .price (rowYear sheet i) (ok .year i (bid-lt i j)) ∙ opened (price-won P noPrice i ws (memb-in i ws w))
           where
-            opened : priceFrom P noPrice ws (P .yr i) ≡ clearing P ws (P .yr i) → priceFrom P noPrice ws (rowYear rows i) ≡ clearing P ws (rowYear rows i)
+            opened : priceFrom P noPrice ws (P .yr i) ≡ clearing P ws (P .yr i) → priceFrom P noPrice ws (rowYear sheet i) ≡ clearing P ws (rowYear sheet i)
             opened e = unfold potIn in e
 
-    pub row-at : (z : ℕ) → z < y → getD (filled (λ x. totalOf rows figures (s .reasons) (s .prices) x m) y) z 0 ≡ total P ws z
-    row-at z h = link.row-at rows figures budgets b m y ok (λ x. totalOf rows figures (s .reasons) (s .prices) x m) z h ∙ total-is z h
+    pub row-at : (z : ℕ) → z < of .years → getD (filled (λ x. totalOf sheet (s .reasons) (s .prices) x (of .bids)) (of .years)) z 0 ≡ total P ws z
+    row-at z h = link.row-at sheet of ok (λ x. totalOf sheet (s .reasons) (s .prices) x (of .bids)) z h ∙ total-is z h
 
-    pub fits-is : (f : ℕ → ℕ) → ((z : ℕ) → z < y → f z ≡ totalOf rows figures (s .reasons) (s .prices) z m) → fitsTo f budgets y ≡ fits P ws
-    fits-is f e = link.fits-is rows figures budgets b m y ok f (total P ws) y (omega arith) (λ z h. e z h ∙ total-is z h) ∙ opened
+    pub fits-is : (f : ℕ → ℕ) → ((z : ℕ) → z < of .years → f z ≡ totalOf sheet (s .reasons) (s .prices) z (of .bids)) → fitsTo f sheet (of .years) ≡ fits P ws
+    fits-is f e = link.fits-is sheet of ok f (total P ws) (of .years) (omega arith) (λ z h. e z h ∙ total-is z h) ∙ opened
       where
-        opened : within P (total P ws) y ≡ fits P ws
+        opened : within P (total P ws) (of .years) ≡ fits P ws
         opened = unfold potIn in refl
 
   -- ---- winning
   module _ (ws : List ℕ) (s : PotState) (S : Sizes s) (p : ℕ) where
     -- bids at price p: the clearing prices
-    pub win-prices : (l : List ℕ) (d : ℕ) → ((i : ℕ) → In i l → (i < m) × (rowPrice rows i ≡ p)) → getD ((winAll rows p s l) .prices) d 0 ≡ priceFrom P (getD (s .prices) d 0) l d
+    pub win-prices : (l : List ℕ) (d : ℕ) → ((i : ℕ) → In i l → (i < of .bids) × (rowPrice sheet i ≡ p)) → getD ((winAll sheet p s l) .prices) d 0 ≡ priceFrom P (getD (s .prices) d 0) l d
     unfolding winAll winOf priceFrom potIn
     win-prices [] d h = refl
     win-prices (i ∷ l) d h =
-        put-is ((winAll rows p s l) .prices) (rowYear rows i) d p 0 (omega (arith, win-sizes rows p s S l .prices, ok .year i (h i (here refl) .0)))
-        ∙ rw (eqb-sym d (rowYear rows i), h i (here refl) .1, win-prices l d (λ k j. h k (there j)))
+        put-is ((winAll sheet p s l) .prices) (rowYear sheet i) d p 0 (omega (arith, win-sizes sheet p s S l .prices, ok .year i (h i (here refl) .0)))
+        ∙ rw (eqb-sym d (rowYear sheet i), h i (here refl) .1, win-prices l d (λ k j. h k (there j)))
 
-    pub holds-win : (l : List ℕ) → ((i : ℕ) → In i l → (i < m) × (rowPrice rows i ≡ p) × In i (P .bids)) → Holds P ws s → Holds P (l ++ ws) (winAll rows p s l)
+    pub holds-win : (l : List ℕ) → ((i : ℕ) → In i l → (i < of .bids) × (rowPrice sheet i ≡ p) × In i (P .bids)) → Holds P ws s → Holds P (l ++ ws) (winAll sheet p s l)
     holds-win l h H = record {
       marked = record {
         one = λ k i.
-            ap (λ (x : ℕ). eqb x becauseWon) (win-reasons rows p s S l k few) ∙ rw (memb-join k l ws) (case (memb k l) (λ t. rw t) (λ f. rw f (H .marked .one k i)));
-        other = λ k j f. ap (λ (x : ℕ). eqb x becauseWon) (win-reasons rows p s S l k few) ∙ case (memb k l) (λ t. clash (in-memb (h k (memb-in k l t) .2)) f) (λ g. rw g (H .marked .other k j f));
+            ap (λ (x : ℕ). eqb x becauseWon) (win-reasons sheet p s S l k few) ∙ rw (memb-join k l ws) (case (memb k l) (λ t. rw t) (λ f. rw f (H .marked .one k i)));
+        other = λ k j f. ap (λ (x : ℕ). eqb x becauseWon) (win-reasons sheet p s S l k few) ∙ case (memb k l) (λ t. clash (in-memb (h k (memb-in k l t) .2)) f) (λ g. rw g (H .marked .other k j f));
       };
       price = λ d k. win-prices l d (λ i j. (h i j .0, h i j .1)) ∙ rw (H .price d k) (sym (price-join P noPrice l ws d));
     }

@@ -15,6 +15,7 @@ use Rattle.laws.specs.Taken as taken
 use Rattle.laws.specs.Runs.{won-seen}
 use Rattle.sets.specs.Sets.{members, headOr}
 use Rattle.sets.proofs.Arrays.{put-is}
+use Rattle.sheet.specs.declared.Size.{Size}
 use Rattle.sheet.specs.Sheet.{potIn, Ready, inAuction, rowApp, rowYear, rowPrice}
 use Rattle.totals.specs.Totals.{totalOf, fitsTo}
 use Rattle.totals.proofs.Link.{not-bid}
@@ -36,46 +37,46 @@ follows-is P i (c ∷ d ∷ l) = rw (ne-eqb (Prim.Native.Nat.suc (Prim.Native.Na
 pub not-won : (P : Pot) (t : Trace) (b : ℕ) → live P t b ≡ true → memb b (winners t) ≡ false
 not-won P t b v = case (memb b (winners t)) (λ u. clash (in-memb (won-seen b t (memb-in b (winners t) u))) (taken.live-is P t b v .fresh)) (λ f. f)
 
-module _ (rows figures budgets : List ℕ) (b m y : ℕ) (ok : Ready rows figures budgets b m y) where
+module _ (sheet : List ℕ) (of : Size) (ok : Ready sheet of) where
   abbrev P : Pot
-  P = potIn rows figures budgets b m y
+  P = potIn sheet of
 
   module _ (t : Trace) (s : PotState) (R : Rep P t s) where
     abbrev l : List ℕ
     l = taken P t
 
     abbrev p : ℕ
-    p = lowestOf rows s m
+    p = lowestOf sheet s (of .bids)
 
     abbrev a : List Bool
-    a = takenOf rows m s
+    a = takenOf sheet of s
 
-    pub sound : (i : ℕ) → In i l → (i < m) × (live P t i ≡ true) × (rowPrice rows i ≡ p) × In i (P .bids)
-    sound = link.taken-sound rows figures budgets b m y ok t s R refl
+    pub sound : (i : ℕ) → In i l → (i < of .bids) × (live P t i ≡ true) × (rowPrice sheet i ≡ p) × In i (P .bids)
+    sound = link.taken-sound sheet of ok t s R refl
 
-    pub of-set : members a m ≡ l
+    pub of-set : members a (of .bids) ≡ l
     unfolding takenOf
-    of-set = link.taken-is rows figures budgets b m y ok t s R refl refl
+    of-set = link.taken-is sheet of ok t s R refl refl
 
     pub few : (i : ℕ) → In i l → i < 320
-    few i h = link.small rows figures budgets b m y ok i (sound i h .0)
+    few i h = link.small sheet of ok i (sound i h .0)
 
     -- ---- 1: all that were taken are tried
     abbrev u : PotState
-    u = winAll rows p s l
+    u = winAll sheet p s l
 
     su : Sizes u
-    su = win-sizes rows p s (R .sizes) l
+    su = win-sizes sheet p s (R .sizes) l
 
     won-by : Holds P (l ++ winners t) u
-    won-by = link.holds-win rows figures budgets b m y ok (winners t) s (R .sizes) p l (λ i j. let z = sound i j in (z .0, z .2, z .3)) (holds-rep R)
+    won-by = link.holds-win sheet of ok (winners t) s (R .sizes) p l (λ i j. let z = sound i j in (z .0, z .2, z .3)) (holds-rep R)
 
     -- the winners all entered the auction
-    pub trial-others : (i : ℕ) → i < m → inAuction rows i ≡ false → eqb (getD (u .reasons) i 0) becauseWon ≡ false
-    trial-others i h f = won-by .marked .other i (link.small rows figures budgets b m y ok i h) (not-bid rows figures budgets b m y ok i f)
+    pub trial-others : (i : ℕ) → i < of .bids → inAuction sheet i ≡ false → eqb (getD (u .reasons) i 0) becauseWon ≡ false
+    trial-others i h f = won-by .marked .other i (link.small sheet of ok i h) (not-bid sheet of ok i f)
 
-    pub trial-fits : (f : ℕ → ℕ) → ((z : ℕ) → z < y → f z ≡ totalOf rows figures (u .reasons) (u .prices) z m) → fitsTo f budgets y ≡ fits P (l ++ winners t)
-    trial-fits = link.fits-is rows figures budgets b m y ok (l ++ winners t) u won-by
+    pub trial-fits : (f : ℕ → ℕ) → ((z : ℕ) → z < of .years → f z ≡ totalOf sheet (u .reasons) (u .prices) z (of .bids)) → fitsTo f sheet (of .years) ≡ fits P (l ++ winners t)
+    trial-fits = link.fits-is sheet of ok (l ++ winners t) u won-by
 
     -- all win, and the year that hangs closes
     won-with : (r : PotState) → r .reasons ≡ u .reasons → r .won ≡ u .won → r .prices ≡ u .prices → Sizes r
@@ -83,10 +84,10 @@ module _ (rows figures budgets : List ℕ) (b m y : ℕ) (ok : Ready rows figure
     unfolding hangs potIn
     won-with r er ew eq sz op hg = record {
       sizes = sz;
-      reasons = λ i. ap (λ (x : List ℕ). getD x i 0) er ∙ win-reasons rows p s (R .sizes) l i few;
-      won = λ z j. ap (λ (x : List Bool). getD x z false) ew ∙ win-won rows p s (R .sizes) l z (λ i h. ok .app i (sound i h .0));
+      reasons = λ i. ap (λ (x : List ℕ). getD x i 0) er ∙ win-reasons sheet p s (R .sizes) l i few;
+      won = λ z j. ap (λ (x : List Bool). getD x z false) ew ∙ win-won sheet p s (R .sizes) l z (λ i h. ok .app i (sound i h .0));
       opened = λ d j. op d j ∙ ap (λ (x : List ℕ). not (memb d x) && getD (s .opened) d false) (sym (R .hang));
-      prices = λ d j. ap (λ (x : List ℕ). getD x d 0) eq ∙ link.win-prices rows figures budgets b m y ok (winners t) s (R .sizes) p l d (λ i h. let z = sound i h in (z .0, z .2));
+      prices = λ d j. ap (λ (x : List ℕ). getD x d 0) eq ∙ link.win-prices sheet of ok (winners t) s (R .sizes) p l d (λ i h. let z = sound i h in (z .0, z .2));
       hang = rw hg;
     }
 
@@ -94,16 +95,16 @@ module _ (rows figures budgets : List ℕ) (b m y : ℕ) (ok : Ready rows figure
     unfolding settledOf shutOf hungOf hangs
     won-did =
         case (ltb (s .hang) 4)
-        (λ h. rw (win-hang rows p s (R .sizes) l, h)
+        (λ h. rw (win-hang sheet p s (R .sizes) l, h)
         (won-with (shutOf (s .hang) u) refl refl refl
         (record { reasons = su .reasons; won = su .won; opened = length-set (u .opened) (s .hang) false ∙ su .opened; prices = su .prices })
         (λ d j. put-is (u .opened) (s .hang) d false false (omega (arith, su .opened, ltb-true (s .hang) 4 h))
-        ∙ rw (h, win-opened rows p s (R .sizes) l) (case (eqb d (s .hang)) (λ e. rw e) (λ e. rw e)))
+        ∙ rw (h, win-opened sheet p s (R .sizes) l) (case (eqb d (s .hang)) (λ e. rw e) (λ e. rw e)))
         refl))
-        (λ h. rw (win-hang rows p s (R .sizes) l, h)
+        (λ h. rw (win-hang sheet p s (R .sizes) l, h)
         (won-with (hungOf 4 u) refl refl refl
         (record { reasons = su .reasons; won = su .won; opened = su .opened; prices = su .prices })
-        (λ d j. rw (h, win-opened rows p s (R .sizes) l))
+        (λ d j. rw (h, win-opened sheet p s (R .sizes) l))
         refl))
 
     pub won-rep : Rep P (won P t l ∷ t) (settledOf u)
@@ -111,7 +112,7 @@ module _ (rows figures budgets : List ℕ) (b m y : ℕ) (ok : Ready rows figure
 
     pub won-wide : (settledOf u) .wide ≡ s .wide
     unfolding settledOf shutOf hungOf
-    won-wide = go (ltb (u .hang) 4) ∙ win-wide rows p s (R .sizes) l
+    won-wide = go (ltb (u .hang) 4) ∙ win-wide sheet p s (R .sizes) l
       where
         go : (h : Bool) → (pick h (shutOf (u .hang) u) (hungOf 4 u)) .wide ≡ u .wide
         go true = refl
@@ -144,44 +145,44 @@ module _ (rows figures budgets : List ℕ) (b m y : ℕ) (ok : Ready rows figure
       unfolding turnedOf hangs
       turned-rep = down-rep (turnedOf i s) [] [] (down-did (turnedOf i s) [] [] refl refl refl sizes (λ d j. refl) refl)
 
-      hung-rep : Rep P (down P i [] (P .yr i ∷ []) ∷ t) (hungOf (rowYear rows i) (turnedOf i s))
+      hung-rep : Rep P (down P i [] (P .yr i ∷ []) ∷ t) (hungOf (rowYear sheet i) (turnedOf i s))
       unfolding turnedOf hungOf hangs potIn
-      hung-rep = down-rep r [] (rowYear rows i ∷ []) (down-did r [] (rowYear rows i ∷ []) refl refl refl
-          (record { reasons = sizes .reasons; won = sizes .won; opened = sizes .opened; prices = sizes .prices }) (λ d j. refl) (rw (lt-ltb (rowYear rows i) 4 (ok .year i (sound i h .0)))))
+      hung-rep = down-rep r [] (rowYear sheet i ∷ []) (down-did r [] (rowYear sheet i ∷ []) refl refl refl
+          (record { reasons = sizes .reasons; won = sizes .won; opened = sizes .opened; prices = sizes .prices }) (λ d j. refl) (rw (lt-ltb (rowYear sheet i) 4 (ok .year i (sound i h .0)))))
         where
           r : PotState
-          r = hungOf (rowYear rows i) (turnedOf i s)
+          r = hungOf (rowYear sheet i) (turnedOf i s)
 
-      shut-rep : Rep P (down P i (P .yr i ∷ []) [] ∷ t) (shutOf (rowYear rows i) (turnedOf i s))
+      shut-rep : Rep P (down P i (P .yr i ∷ []) [] ∷ t) (shutOf (rowYear sheet i) (turnedOf i s))
       unfolding turnedOf shutOf hangs potIn
       shut-rep =
-          down-rep r (rowYear rows i ∷ []) [] (down-did r (rowYear rows i ∷ []) [] refl refl refl
-          (record { reasons = sizes .reasons; won = sizes .won; opened = length-set (s .opened) (rowYear rows i) false ∙ R .sizes .opened; prices = sizes .prices })
-          (λ d j. put-is (s .opened) (rowYear rows i) d false false (omega (arith, R .sizes .opened, ok .year i (sound i h .0))) ∙ case (eqb d (rowYear rows i)) (λ t. rw t) (λ f. rw f))
+          down-rep r (rowYear sheet i ∷ []) [] (down-did r (rowYear sheet i ∷ []) [] refl refl refl
+          (record { reasons = sizes .reasons; won = sizes .won; opened = length-set (s .opened) (rowYear sheet i) false ∙ R .sizes .opened; prices = sizes .prices })
+          (λ d j. put-is (s .opened) (rowYear sheet i) d false false (omega (arith, R .sizes .opened, ok .year i (sound i h .0))) ∙ case (eqb d (rowYear sheet i)) (λ t. rw t) (λ f. rw f))
           refl)
         where
           r : PotState
-          r = shutOf (rowYear rows i) (turnedOf i s)
+          r = shutOf (rowYear sheet i) (turnedOf i s)
 
   -- whether the next look is at the same application's next bid
-  sole-is : (i : ℕ) (t : Trace) (s : PotState) → Rep P t s → followsOf rows m i s ≡ follows P i (taken P t)
+  sole-is : (i : ℕ) (t : Trace) (s : PotState) → Rep P t s → followsOf sheet of i s ≡ follows P i (taken P t)
   unfolding followsOf soleOf
   sole-is i t s R = rw (of-set t s R) (sym (follows-is P i (taken P t) ∙ opened (taken P t)))
     where
-      opened : (l : List ℕ) → (eqb (length l) 1 && (eqb (P .app (headOr 0 l)) (P .app i) && eqb (P .yr (headOr 0 l)) (P .yr i))) ≡ (eqb (length l) 1 && (eqb (rowApp rows (headOr 0 l)) (rowApp rows i) && eqb (rowYear rows (headOr 0 l)) (rowYear rows i)))
+      opened : (l : List ℕ) → (eqb (length l) 1 && (eqb (P .app (headOr 0 l)) (P .app i) && eqb (P .yr (headOr 0 l)) (P .yr i))) ≡ (eqb (length l) 1 && (eqb (rowApp sheet (headOr 0 l)) (rowApp sheet i) && eqb (rowYear sheet (headOr 0 l)) (rowYear sheet i)))
       opened l = unfold potIn in refl
 
   module _ (t : Trace) (s : PotState) (R : Rep P t s) where
-    pub alone-rep : (i : ℕ) → In i (taken P t) → Rep P (alone P t i ∷ t) (aloneOf rows m i s)
+    pub alone-rep : (i : ℕ) → In i (taken P t) → Rep P (alone P t i ∷ t) (aloneOf sheet of i s)
     unfolding alone aloneOf
     alone-rep i h =
         rw (sole-is i (down P i [] [] ∷ t) (turnedOf i s) (turned-rep t s R i h))
         (case (follows P i (taken P (down P i [] [] ∷ t))) (λ e. rw e (hung-rep t s R i h)) (λ e. rw e (shut-rep t s R i h)))
 
-    pub alone-wide : (i : ℕ) → (aloneOf rows m i s) .wide ≡ s .wide
+    pub alone-wide : (i : ℕ) → (aloneOf sheet of i s) .wide ≡ s .wide
     unfolding aloneOf hungOf shutOf turnedOf
-    alone-wide i = go (followsOf rows m i (turnedOf i s))
+    alone-wide i = go (followsOf sheet of i (turnedOf i s))
       where
-        go : (g : Bool) → (pick g (hungOf (rowYear rows i) (turnedOf i s)) (shutOf (rowYear rows i) (turnedOf i s))) .wide ≡ s .wide
+        go : (g : Bool) → (pick g (hungOf (rowYear sheet i) (turnedOf i s)) (shutOf (rowYear sheet i) (turnedOf i s))) .wide ≡ s .wide
         go true = refl
         go false = refl

@@ -15,6 +15,7 @@ use Rattle.laws.specs.Taken.{Lows, taken-lows}
 use Rattle.laws.specs.Runs.{Inv, inv-none, looked-next, inv-looked, step-of, lives, fewer}
 use Rattle.sets.specs.Sets.{fill}
 use Rattle.sets.proofs.Arrays.{put-is, at-start, fill-length, fill-at}
+use Rattle.sheet.specs.declared.Size.{Size}
 use Rattle.sheet.specs.Sheet.{potIn, Ready, inAuction, rowStanding, rowPrice}
 use Rattle.totals.proofs.Link.{not-bid}
 use Rattle.pot.specs.declared.PotState.{PotState}
@@ -23,8 +24,8 @@ use Rattle.pot.specs.Rep.{hangs, Rep, Stands, Stepped}
 use Rattle.pot.proofs.Link as link
 
 -- what falls with each step
-unfoldable pub unlooked : (rows : List ℕ) (m : ℕ) → PotState → ℕ
-unlooked rows m s = length (sift (liveOf rows s) (below m))
+unfoldable pub unlooked : (sheet : List ℕ) (of : Size) → PotState → ℕ
+unlooked sheet of s = length (sift (liveOf sheet s) (below (of .bids)))
 
 run-stop : (P : Pot) (n : ℕ) (t : Trace) → taken P t ≡ [] → run P n t ≡ t
 unfolding run
@@ -56,20 +57,20 @@ pub start-narrow : {P : Pot} {s : PotState} → Stands P [] s → s .wide ≡ fa
 unfolding wideEnd
 start-narrow S = S .wide
 
-module _ (rows figures budgets : List ℕ) (b m y : ℕ) (ok : Ready rows figures budgets b m y) where
+module _ (sheet : List ℕ) (of : Size) (ok : Ready sheet of) where
   abbrev P : Pot
-  P = potIn rows figures budgets b m y
+  P = potIn sheet of
 
-  lives-is : (t : Trace) (s : PotState) → Rep P t s → length (sift (liveOf rows s) (below m)) ≡ lives P t
-  lives-is t s R = ap length (link.live-list rows figures budgets b m y ok t s R)
+  lives-is : (t : Trace) (s : PotState) → Rep P t s → length (sift (liveOf sheet s) (below (of .bids))) ≡ lives P t
+  lives-is t s R = ap length (link.live-list sheet of ok t s R)
 
   -- some price is below none where a bid is live
-  some-live : (l : List ℕ) → leastOr rows l < noPrice → (x : ℕ) × In x l
+  some-live : (l : List ℕ) → leastOr sheet l < noPrice → (x : ℕ) × In x l
   unfolding leastOr
   some-live [] e = absurd (let z : ⊥ = omega arith in z)
   some-live (x ∷ l) e = (x, here refl)
 
-  none-live : (l : List ℕ) → ((k : ℕ) → In k l → rowPrice rows k ≤ highestPrice) → noPrice ≤ leastOr rows l → l ≡ []
+  none-live : (l : List ℕ) → ((k : ℕ) → In k l → rowPrice sheet k ≤ highestPrice) → noPrice ≤ leastOr sheet l → l ≡ []
   unfolding leastOr
   none-live [] h e = refl
   none-live (x ∷ l) h e = absurd (let z : ⊥ = omega (arith, h x (here refl)) in z)
@@ -79,10 +80,10 @@ module _ (rows figures budgets : List ℕ) (b m y : ℕ) (ok : Ready rows figure
     t = G .trace
 
     -- the bids that did not enter
-    pub run-others : s .wide ≡ false → Others rows m s
-    run-others w i h f = rw (G .stands .rep (sym (G .stands .wide) ∙ w) .other i (link.small rows figures budgets b m y ok i h) (not-bid rows figures budgets b m y ok i f)) refl
+    pub run-others : s .wide ≡ false → Others sheet of s
+    run-others w i h f = rw (G .stands .rep (sym (G .stands .wide) ∙ w) .other i (link.small sheet of ok i h) (not-bid sheet of ok i f)) refl
 
-    module _ {r : PotState} (n : s .wide ≡ false) {p : ℕ} (ep : p ≡ lowestOf rows s m) (e : p < noPrice) (st : Stepped P s r) where
+    module _ {r : PotState} (n : s .wide ≡ false) {p : ℕ} (ep : p ≡ lowestOf sheet s (of .bids)) (e : p < noPrice) (st : Stepped P s r) where
       narrow : wideEnd t ≡ false
       narrow = sym (G .stands .wide) ∙ n
 
@@ -92,8 +93,8 @@ module _ (rows figures budgets : List ℕ) (b m y : ℕ) (ok : Ready rows figure
       found : (x : ℕ) × In x (sift (live P t) (P .bids))
       unfolding lowestOf
       found =
-          let z = some-live (sift (liveOf rows s) (below m)) (rw ep at e) in
-          (z .0, rw (sym (link.live-list rows figures budgets b m y ok t s R)) (z .1))
+          let z = some-live (sift (liveOf sheet s) (below (of .bids))) (rw ep at e) in
+          (z .0, rw (sym (link.live-list sheet of ok t s R)) (z .1))
 
       held : In (found .0) (P .bids) × (live P t (found .0) ≡ true)
       held = sift-in (found .0) (live P t) (P .bids) (found .1)
@@ -109,9 +110,9 @@ module _ (rows figures budgets : List ℕ) (b m y : ℕ) (ok : Ready rows figure
 
       less : wideEnd (event ∷ t) ≡ false → lives P (event ∷ t) < lives P t
       unfolding wideEnd
-      less n = fewer P t event (step-of P (link.lawful rows figures budgets b m y ok) t (G .inv) n) (found .0) (held .0) (held .1)
+      less n = fewer P t event (step-of P (link.lawful sheet of ok) t (G .inv) n) (found .0) (held .0) (held .1)
 
-      pub run-less : r .wide ≡ false → unlooked rows m r < unlooked rows m s
+      pub run-less : r .wide ≡ false → unlooked sheet of r < unlooked sheet of s
       unfolding unlooked
       run-less w = let n = sym (stands .wide) ∙ w in omega (arith, lives-is (event ∷ t) r (stands .rep n), lives-is t s R, less n)
 
@@ -119,7 +120,7 @@ module _ (rows figures budgets : List ℕ) (b m y : ℕ) (ok : Ready rows figure
       run-again = go (G .left) (G .enough narrow) (G .on ∙ ap (λ (w : Bool). pick w t (run P (G .left) t)) narrow)
         where
           kept : Inv P (event ∷ t)
-          kept = inv-looked P (link.lawful rows figures budgets b m y ok) t event (G .inv) (looked-next P (link.lawful rows figures budgets b m y ok) t (G .inv))
+          kept = inv-looked P (link.lawful sheet of ok) t event (G .inv) (looked-next P (link.lawful sheet of ok) t (G .inv))
 
           go : (j : ℕ) → lives P t ≤ j → auction P ≡ run P j t → Going P r
           go zero h q = absurd (omega (arith, in-length (in-sift (live P t) (held .0) (held .1))))
@@ -133,7 +134,7 @@ module _ (rows figures budgets : List ℕ) (b m y : ℕ) (ok : Ready rows figure
     run-wide w = rw (G .on, sym (G .stands .wide) ∙ w) (G .stands)
 
     -- no bid is live
-    pub run-ends : s .wide ≡ false → {p : ℕ} → p ≡ lowestOf rows s m → noPrice ≤ p → Stands P (auction P) s
+    pub run-ends : s .wide ≡ false → {p : ℕ} → p ≡ lowestOf sheet s (of .bids) → noPrice ≤ p → Stands P (auction P) s
     run-ends w ep f = rw (G .on, n, run-stop P (G .left) t (none (taken P t) (taken-lows P t))) (G .stands)
       where
         n : wideEnd t ≡ false
@@ -143,9 +144,9 @@ module _ (rows figures budgets : List ℕ) (b m y : ℕ) (ok : Ready rows figure
         R = G .stands .rep n
 
         empty : sift (live P t) (P .bids) ≡ []
-        empty = sym (link.live-list rows figures budgets b m y ok t s R) ∙ none-live (sift (liveOf rows s) (below m)) (λ k i. ok .price k (below-in k m (sift-in k (liveOf rows s) (below m) i .0))) (opened (rw ep at f))
+        empty = sym (link.live-list sheet of ok t s R) ∙ none-live (sift (liveOf sheet s) (below (of .bids))) (λ k i. ok .price k (below-in k (of .bids) (sift-in k (liveOf sheet s) (below (of .bids)) i .0))) (opened (rw ep at f))
           where
-            opened : noPrice ≤ lowestOf rows s m → noPrice ≤ leastOr rows (sift (liveOf rows s) (below m))
+            opened : noPrice ≤ lowestOf sheet s (of .bids) → noPrice ≤ leastOr sheet (sift (liveOf sheet s) (below (of .bids)))
             opened f = unfold lowestOf in f
 
         none : (l : List ℕ) → Lows P t l → l ≡ []
@@ -153,28 +154,28 @@ module _ (rows figures budgets : List ℕ) (b m y : ℕ) (ok : Ready rows figure
         none (x ∷ l) h = let z = h .sound x (here refl) in in-none (rw empty at (in-sift (live P t) (z .0) (z .1)))
 
   -- ---- no bid has been looked at
-  size : m ≤ length noMarks
+  size : of .bids ≤ length noMarks
   unfolding noMarks
   size = ok .few
 
   -- the marks at the start: of the auction's own bids, and of all others
-  started-at : (i : ℕ) → i < m → getD ((startedOf rows m) .reasons) i 0 ≡ pick (inAuction rows i) noReason notHere
+  started-at : (i : ℕ) → i < of .bids → getD ((startedOf sheet (of .bids)) .reasons) i 0 ≡ pick (inAuction sheet i) noReason notHere
   unfolding startedOf firstMark
-  started-at i h = fill-at noMarks (λ i. pick (inAuction rows i) noReason notHere) m i 0 size h
+  started-at i h = fill-at noMarks (λ i. pick (inAuction sheet i) noReason notHere) (of .bids) i 0 size h
 
-  started-past : (n i : ℕ) → n ≤ i → n ≤ 320 → i < 320 → getD (fill noMarks (λ i. firstMark (rowStanding rows i)) n) i 0 ≡ notHere
+  started-past : (n i : ℕ) → n ≤ i → n ≤ 320 → i < 320 → getD (fill noMarks (λ i. firstMark (rowStanding sheet i)) n) i 0 ≡ notHere
   unfolding fill noMarks
   started-past zero i h g k = at-start 320 i notHere 0 k
   started-past (suc n) i h g k =
-      put-is (fill noMarks (λ i. firstMark (rowStanding rows i)) n) n i (firstMark (rowStanding rows n)) 0 (omega (arith, fill-length noMarks (λ i. firstMark (rowStanding rows i)) n))
+      put-is (fill noMarks (λ i. firstMark (rowStanding sheet i)) n) n i (firstMark (rowStanding sheet n)) 0 (omega (arith, fill-length noMarks (λ i. firstMark (rowStanding sheet i)) n))
       ∙ rw (ne-eqb i n (λ e. let z : ⊥ = omega arith in z)) (started-past n i (omega arith) (omega arith) k)
 
-  pub started-stands : {s : PotState} → s ≡ startedOf rows m → Stands P [] s
+  pub started-stands : {s : PotState} → s ≡ startedOf sheet (of .bids) → Stands P [] s
   unfolding wideEnd winners seen closed hanging mark priceFrom hangs startedOf noMarks
   started-stands e = rw e (record {
     wide = refl;
     rep = λ f. record {
-      sizes = record { reasons = fill-length noMarks (λ i. firstMark (rowStanding rows i)) m; won = refl; opened = refl; prices = refl };
+      sizes = record { reasons = fill-length noMarks (λ i. firstMark (rowStanding sheet i)) (of .bids); won = refl; opened = refl; prices = refl };
       other = others;
       why = own;
       one = λ i j. ap (λ (x : ℕ). eqb x becauseWon) (own i j);
@@ -186,14 +187,14 @@ module _ (rows figures budgets : List ℕ) (b m y : ℕ) (ok : Ready rows figure
     };
   })
     where
-      own : (i : ℕ) → In i (P .bids) → getD ((startedOf rows m) .reasons) i 0 ≡ noReason
-      own i j = started-at i (link.bid-lt rows figures budgets b m y ok i j) ∙ rw (link.bid-in rows figures budgets b m y ok i j)
+      own : (i : ℕ) → In i (P .bids) → getD ((startedOf sheet (of .bids)) .reasons) i 0 ≡ noReason
+      own i j = started-at i (link.bid-lt sheet of ok i j) ∙ rw (link.bid-in sheet of ok i j)
 
-      others : (i : ℕ) → i < 320 → memb i (P .bids) ≡ false → getD ((startedOf rows m) .reasons) i 0 ≡ notHere
+      others : (i : ℕ) → i < 320 → memb i (P .bids) ≡ false → getD ((startedOf sheet (of .bids)) .reasons) i 0 ≡ notHere
       others i h f =
-          case (ltb i m)
-          (λ t. started-at i (ltb-true i m t) ∙ case (inAuction rows i) (λ e. clash (in-memb (link.bid rows figures budgets b m y ok i (ltb-true i m t) e)) f) (λ g. rw g))
-          (λ t. past i (ltb-false i m t) h)
+          case (ltb i (of .bids))
+          (λ t. started-at i (ltb-true i (of .bids) t) ∙ case (inAuction sheet i) (λ e. clash (in-memb (link.bid sheet of ok i (ltb-true i (of .bids) t) e)) f) (λ g. rw g))
+          (λ t. past i (ltb-false i (of .bids) t) h)
         where
-          past : (i : ℕ) → m ≤ i → i < 320 → getD ((startedOf rows m) .reasons) i 0 ≡ notHere
-          past i g h = unfold startedOf in started-past m i g (ok .few) h
+          past : (i : ℕ) → of .bids ≤ i → i < 320 → getD ((startedOf sheet (of .bids)) .reasons) i 0 ≡ notHere
+          past i g h = unfold startedOf in started-past (of .bids) i g (ok .few) h

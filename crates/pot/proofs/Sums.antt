@@ -15,13 +15,14 @@ use Rattle.rules.specs.Pot.{Pot, Trace}
 use Rattle.laws.specs.Lists.{case, In, here, there, sift-in, below-in}
 use Rattle.sets.specs.Sets.{fill, members}
 use Rattle.sets.proofs.Arrays.{put-is, zeros, fill-at}
-use Rattle.sheet.specs.Sheet.{inAuction, rowStanding, rowYear}
-use Rattle.totals.specs.Totals.{Checked, Valued, dearest, worthOf, totalOf, partOn, partOf, noRow, filled, fitsTo, rowFits}
-use Rattle.totals.proofs.Laws.{fits-same}
+use Rattle.sheet.specs.declared.Size.{Size}
+use Rattle.sheet.specs.Sheet.{Ready, inAuction, rowStanding, rowYear}
+use Rattle.totals.specs.Totals.{dearest, worthOf, totalOf, partOn, partOf, noRow, filled, fitsTo, rowFits}
+use Rattle.totals.proofs.Laws.{fits-same, row-none}
 use Rattle.ties.specs.Ties.{laidTo}
 use Rattle.totals.proofs.Parts.{part-most, total-parts}
 use Rattle.pot.specs.declared.PotState.{PotState}
-use Rattle.pot.specs.Marks.{winOf, winAll, turnAll, turnOf, turnedOf, hungOf, shutOf, settledOf, widened, aloneOf, followsOf, sharedOf, choiceIn, restOf, tieOf, firstMark, noMarks, startedOf, yearSum, mostSum, withSums, renewedOf, renewedTo, Summed}
+use Rattle.pot.specs.Marks.{winOf, winAll, turnAll, turnOf, turnedOf, hungOf, shutOf, settledOf, widened, aloneOf, followsOf, sharedOf, choiceIn, restOf, tieOf, firstMark, noMarks, startedOf, yearSum, mostSum, withSums, renewedOf, renewedTo, totalledOf, revaluedOf, triedOf, trialOf, Parted, Summed}
 use Rattle.pot.specs.Rep.{Rep, Stands}
 
 -- ---- a row of the sums is written
@@ -48,192 +49,244 @@ module _ (l : List ℕ) (d : ℕ) (row : List ℕ) where
       getD-set-other (laidTo l row d n) (d * 8 + n) (c * 8 + z) (getD row n 0) 0 (λ q. h (omega arith)) ∙ laid-other n c z h (omega arith) i
 
 -- where the row was filled
-laid-filled : (l : List ℕ) (d : ℕ) (f : ℕ → ℕ) (y z : ℕ) → length l ≡ 32 → d < 4 → y ≤ 8 → z < y → getD (laidTo l (filled f y) d y) (d * 8 + z) 0 ≡ f z
-laid-filled l d f y z h g k i = laid-own l d (filled f y) y z h g k i ∙ fill-at noRow f y z 0 (size k) i
+laid-filled : (l : List ℕ) (d : ℕ) (f : ℕ → ℕ) (n z : ℕ) → length l ≡ 32 → d < 4 → n ≤ 8 → z < n → getD (laidTo l (filled f n) d n) (d * 8 + z) 0 ≡ f z
+laid-filled l d f n z h g k i = laid-own l d (filled f n) n z h g k i ∙ fill-at noRow f n z 0 (size k) i
   where
-    size : y ≤ 8 → y ≤ length noRow
+    size : n ≤ 8 → n ≤ length noRow
     size g = unfold noRow in g
 
-pub renewed-is : (rows figures : List ℕ) (m y d : ℕ) (s : PotState) {row sums : List ℕ} → row ≡ filled (λ z. partOf rows figures (s .reasons) (getD (s .prices) d 0) d z m) y
-    → sums ≡ laidTo (s .sums) row d y
-    → _≡_ {A = PotState} (record { reasons = s .reasons; won = s .won; opened = s .opened; prices = s .prices; sums = sums; hang = s .hang; wide = s .wide }) (renewedOf rows figures m y d s)
+pub renewed-is : (sheet : List ℕ) (of : Size) (d : ℕ) (s : PotState) {row sums : List ℕ} → row ≡ filled (λ z. partOf sheet (s .reasons) (getD (s .prices) d 0) d z (of .bids)) (of .years)
+    → sums ≡ laidTo (s .sums) row d (of .years)
+    → _≡_ {A = PotState} (record { reasons = s .reasons; won = s .won; opened = s .opened; prices = s .prices; sums = sums; totals = s .totals; hang = s .hang; wide = s .wide }) (renewedOf sheet of d s)
 unfolding renewedOf withSums
-renewed-is rows figures m y d s er es = rw (es, er)
+renewed-is sheet of d s er es = rw (es, er)
 
-pub renewed-next : (rows figures : List ℕ) (m y : ℕ) (s : PotState) (d : ℕ) {t r : PotState} → t ≡ renewedTo rows figures m y s d → r ≡ renewedOf rows figures m y d t → r ≡ renewedTo rows figures m y s (d + 1)
+pub totalled-is : (of : Size) (s : PotState) {row : List ℕ} → row ≡ filled (yearSum (s .sums)) (of .years)
+    → _≡_ {A = PotState} (record { reasons = s .reasons; won = s .won; opened = s .opened; prices = s .prices; sums = s .sums; totals = row; hang = s .hang; wide = s .wide }) (totalledOf of s)
+unfolding totalledOf withSums
+totalled-is of s er = rw er
+
+pub revalued-is : (sheet : List ℕ) (of : Size) (s : PotState) {t r : PotState} → t ≡ renewedTo sheet of s 4 → r ≡ totalledOf of t → r ≡ revaluedOf sheet of s
+unfolding revaluedOf
+revalued-is sheet of s et er = rw (er, et)
+
+pub tried-is : (sheet : List ℕ) (of : Size) (p i : ℕ) (s : PotState) {d : ℕ} {u t r : PotState} → d ≡ rowYear sheet i → u ≡ winOf sheet p i s → t ≡ renewedOf sheet of d u → r ≡ totalledOf of t
+    → r ≡ triedOf sheet of p i s
+unfolding triedOf
+tried-is sheet of p i s ed eu et er = rw (er, et, eu, ed)
+
+pub trial-is : (sheet : List ℕ) (of : Size) (p : ℕ) (l : List Bool) (s : PotState) {u r : PotState} → u ≡ winAll sheet p s (members l (of .bids)) → r ≡ revaluedOf sheet of u → r ≡ trialOf sheet of p l s
+unfolding trialOf
+trial-is sheet of p l s eu er = rw (er, eu)
+
+pub renewed-next : (sheet : List ℕ) (of : Size) (s : PotState) (d : ℕ) {t r : PotState} → t ≡ renewedTo sheet of s d → r ≡ renewedOf sheet of d t → r ≡ renewedTo sheet of s (d + 1)
 unfolding renewedTo
-renewed-next rows figures m y s d et er = rw (add-one d, er, et)
+renewed-next sheet of s d et er = rw (add-one d, er, et)
 
 -- ---- marks and the sums of a year
-module _ (rows figures marks : List ℕ) (price i v : ℕ) where
+module _ (sheet marks : List ℕ) (price i v : ℕ) where
   -- a bid of another year
-  part-other : (d z : ℕ) (l : List ℕ) → (rowYear rows i ≡ d → ⊥) → partOn rows figures (set marks i v) price d z l ≡ partOn rows figures marks price d z l
+  part-other : (d z : ℕ) (l : List ℕ) → (rowYear sheet i ≡ d → ⊥) → partOn sheet (set marks i v) price d z l ≡ partOn sheet marks price d z l
   unfolding partOn
   part-other d z [] h = refl
-  part-other d z (n ∷ l) h = rw (part-other d z l h) (ap (λ (x : ℕ). partOn rows figures marks price d z l + x) (same (eqb n i) refl))
+  part-other d z (n ∷ l) h = rw (part-other d z l h) (ap (λ (x : ℕ). partOn sheet marks price d z l + x) (same (eqb n i) refl))
     where
-      same : (b : Bool) → eqb n i ≡ b → pick (eqb (getD (set marks i v) n 0) becauseWon && eqb (rowYear rows n) d) (worthOf rows figures n price z) 0 ≡ pick (eqb (getD marks n 0) becauseWon && eqb (rowYear rows n) d) (worthOf rows figures n price z) 0
-      same true t = rw (eqb-true n i t, ne-eqb (rowYear rows i) d h) (none (eqb (getD (set marks i v) i 0) becauseWon) ∙ sym (none (eqb (getD marks i 0) becauseWon)))
+      same : (b : Bool) → eqb n i ≡ b → pick (eqb (getD (set marks i v) n 0) becauseWon && eqb (rowYear sheet n) d) (worthOf sheet n price z) 0 ≡ pick (eqb (getD marks n 0) becauseWon && eqb (rowYear sheet n) d) (worthOf sheet n price z) 0
+      same true t = rw (eqb-true n i t, ne-eqb (rowYear sheet i) d h) (none (eqb (getD (set marks i v) i 0) becauseWon) ∙ sym (none (eqb (getD marks i 0) becauseWon)))
         where
-          none : (b : Bool) → pick (b && false) (worthOf rows figures i price z) 0 ≡ 0
+          none : (b : Bool) → pick (b && false) (worthOf sheet i price z) 0 ≡ 0
           none true = refl
           none false = refl
       same false f = rw (getD-set-other marks i n v 0 (eqb-false n i f))
 
   -- a bid that did not win and does not
-  part-down : (d z : ℕ) (l : List ℕ) → eqb v becauseWon ≡ false → eqb (getD marks i 0) becauseWon ≡ false → partOn rows figures (set marks i v) price d z l ≡ partOn rows figures marks price d z l
+  part-down : (d z : ℕ) (l : List ℕ) → eqb v becauseWon ≡ false → eqb (getD marks i 0) becauseWon ≡ false → partOn sheet (set marks i v) price d z l ≡ partOn sheet marks price d z l
   unfolding partOn
   part-down d z [] g h = refl
-  part-down d z (n ∷ l) g h = rw (part-down d z l g h) (ap (λ (x : ℕ). partOn rows figures marks price d z l + x) (same (eqb n i) refl))
+  part-down d z (n ∷ l) g h = rw (part-down d z l g h) (ap (λ (x : ℕ). partOn sheet marks price d z l + x) (same (eqb n i) refl))
     where
       lost : (l : List ℕ) (k : ℕ) → eqb (getD l k 0) becauseWon ≡ false → eqb (getD (set l k v) k 0) becauseWon ≡ false
       lost [] k e = e
       lost (x ∷ l) zero e = g
       lost (x ∷ l) (suc k) e = lost l k e
 
-      same : (b : Bool) → eqb n i ≡ b → pick (eqb (getD (set marks i v) n 0) becauseWon && eqb (rowYear rows n) d) (worthOf rows figures n price z) 0 ≡ pick (eqb (getD marks n 0) becauseWon && eqb (rowYear rows n) d) (worthOf rows figures n price z) 0
+      same : (b : Bool) → eqb n i ≡ b → pick (eqb (getD (set marks i v) n 0) becauseWon && eqb (rowYear sheet n) d) (worthOf sheet n price z) 0 ≡ pick (eqb (getD marks n 0) becauseWon && eqb (rowYear sheet n) d) (worthOf sheet n price z) 0
       same true t = rw (eqb-true n i t, lost marks i h, h)
       same false f = rw (getD-set-other marks i n v 0 (eqb-false n i f))
 
 -- no bid has won
-part-none : (rows figures marks : List ℕ) (price d z : ℕ) (l : List ℕ) → ((k : ℕ) → In k l → eqb (getD marks k 0) becauseWon ≡ false) → partOn rows figures marks price d z l ≡ 0
+part-none : (sheet marks : List ℕ) (price d z : ℕ) (l : List ℕ) → ((k : ℕ) → In k l → eqb (getD marks k 0) becauseWon ≡ false) → partOn sheet marks price d z l ≡ 0
 unfolding partOn
-part-none rows figures marks price d z [] h = refl
-part-none rows figures marks price d z (n ∷ l) h = rw (part-none rows figures marks price d z l (λ k i. h k (there i)), h n (here refl))
+part-none sheet marks price d z [] h = refl
+part-none sheet marks price d z (n ∷ l) h = rw (part-none sheet marks price d z l (λ k i. h k (there i)), h n (here refl))
 
-module _ (rows figures : List ℕ) (m y : ℕ) where
-  -- ---- what keeps the sums right
-  pub summed-turned : (i : ℕ) (s : PotState) → eqb (getD (s .reasons) i 0) becauseWon ≡ false → Summed rows figures m y s → Summed rows figures m y (turnedOf i s)
+module _ (sheet : List ℕ) (of : Size) where
+  -- ---- what keeps the sums and totals right
+  pub summed-turned : (i : ℕ) (s : PotState) → eqb (getD (s .reasons) i 0) becauseWon ≡ false → Summed sheet of s → Summed sheet of (turnedOf i s)
   unfolding turnedOf partOf
-  summed-turned i s h S = record { size = S .size; part = λ d z g k. S .part d z g k ∙ sym (part-down rows figures (s .reasons) (getD (s .prices) d 0) i 2 d z (sift (inAuction rows) (below m)) refl h) }
+  summed-turned i s h S = record {
+    parts = record {
+      size = S .parts .size;
+      part = λ d z g k. S .parts .part d z g k ∙ sym (part-down sheet (s .reasons) (getD (s .prices) d 0) i 2 d z (sift (inAuction sheet) (below (of .bids))) refl h);
+    };
+    row = S .row;
+  }
 
-  summed-hung : (d : ℕ) (s : PotState) → Summed rows figures m y s → Summed rows figures m y (hungOf d s)
+  summed-hung : (d : ℕ) (s : PotState) → Summed sheet of s → Summed sheet of (hungOf d s)
   unfolding hungOf
-  summed-hung d s S = record { size = S .size; part = S .part }
+  summed-hung d s S = record { parts = record { size = S .parts .size; part = S .parts .part }; row = S .row }
 
-  summed-shut : (d : ℕ) (s : PotState) → Summed rows figures m y s → Summed rows figures m y (shutOf d s)
+  summed-shut : (d : ℕ) (s : PotState) → Summed sheet of s → Summed sheet of (shutOf d s)
   unfolding shutOf
-  summed-shut d s S = record { size = S .size; part = S .part }
+  summed-shut d s S = record { parts = record { size = S .parts .size; part = S .parts .part }; row = S .row }
 
-  summed-wide : (s : PotState) → Summed rows figures m y s → Summed rows figures m y (widened s)
+  summed-wide : (s : PotState) → Summed sheet of s → Summed sheet of (widened s)
   unfolding widened
-  summed-wide s S = record { size = S .size; part = S .part }
+  summed-wide s S = record { parts = record { size = S .parts .size; part = S .parts .part }; row = S .row }
 
-  pub summed-settled : {s r : PotState} → r ≡ settledOf s → Summed rows figures m y s → Summed rows figures m y r
+  -- the row of totals is taken
+  summed-totalled : {s r : PotState} → r ≡ totalledOf of s → Parted sheet of s → Summed sheet of r
+  unfolding totalledOf withSums
+  summed-totalled e Q = rw e (record { parts = record { size = Q .size; part = Q .part }; row = refl })
+
+  pub summed-settled : {s r : PotState} → r ≡ settledOf s → Summed sheet of s → Summed sheet of r
   unfolding settledOf
   summed-settled {s} e S = rw e (go (ltb (s .hang) 4))
     where
-      go : (b : Bool) → Summed rows figures m y (pick b (shutOf (s .hang) s) (hungOf 4 s))
+      go : (b : Bool) → Summed sheet of (pick b (shutOf (s .hang) s) (hungOf 4 s))
       go true = summed-shut (s .hang) s S
       go false = summed-hung 4 s S
 
-  pub summed-alone : (i : ℕ) {s r : PotState} → r ≡ aloneOf rows m i s → eqb (getD (s .reasons) i 0) becauseWon ≡ false → Summed rows figures m y s → Summed rows figures m y r
+  pub summed-alone : (i : ℕ) {s r : PotState} → r ≡ aloneOf sheet of i s → eqb (getD (s .reasons) i 0) becauseWon ≡ false → Summed sheet of s → Summed sheet of r
   unfolding aloneOf
-  summed-alone i {s} e h S = rw e (go (followsOf rows m i (turnedOf i s)))
+  summed-alone i {s} e h S = rw e (go (followsOf sheet of i (turnedOf i s)))
     where
-      go : (b : Bool) → Summed rows figures m y (pick b (hungOf (rowYear rows i) (turnedOf i s)) (shutOf (rowYear rows i) (turnedOf i s)))
-      go true = summed-hung (rowYear rows i) (turnedOf i s) (summed-turned i s h S)
-      go false = summed-shut (rowYear rows i) (turnedOf i s) (summed-turned i s h S)
+      go : (b : Bool) → Summed sheet of (pick b (hungOf (rowYear sheet i) (turnedOf i s)) (shutOf (rowYear sheet i) (turnedOf i s)))
+      go true = summed-hung (rowYear sheet i) (turnedOf i s) (summed-turned i s h S)
+      go false = summed-shut (rowYear sheet i) (turnedOf i s) (summed-turned i s h S)
 
   -- ---- what makes them right
   -- a bid wins, and its year is renewed: the other years are as before
-  pub summed-win : (p i : ℕ) (s : PotState) {d : ℕ} {u r : PotState} → y ≤ 8 → rowYear rows i < 4 → d ≡ rowYear rows i → u ≡ winOf rows p i s → r ≡ renewedOf rows figures m y d u → Summed rows figures m y s → Summed rows figures m y r
+  pub parted-win : (p i : ℕ) (s : PotState) {d : ℕ} {u r : PotState} → of .years ≤ 8 → rowYear sheet i < 4 → d ≡ rowYear sheet i → u ≡ winOf sheet p i s → r ≡ renewedOf sheet of d u → Parted sheet of s → Parted sheet of r
   unfolding renewedOf withSums winOf partOf
-  summed-win p i s {d} ly ld ed eu er S = rw (er, eu, ed) (record {
-    size = laid-length (s .sums) (rowYear rows i) (filled part y) y ∙ S .size;
-    part = λ c z g k. case (eqb c (rowYear rows i))
-        (λ t. rw (eqb-true c (rowYear rows i) t) (laid-filled (s .sums) (rowYear rows i) part y z (S .size) ld ly k))
+  parted-win p i s {d} ly ld ed eu er S = rw (er, eu, ed) (record {
+    size = laid-length (s .sums) (rowYear sheet i) (filled part (of .years)) (of .years) ∙ S .size;
+    part = λ c z g k. case (eqb c (rowYear sheet i))
+        (λ t. rw (eqb-true c (rowYear sheet i) t) (laid-filled (s .sums) (rowYear sheet i) part (of .years) z (S .size) ld ly k))
         (λ f.
-        let n = eqb-false c (rowYear rows i) f in
-        laid-other (s .sums) (rowYear rows i) (filled part y) y c z n ly (omega arith) ∙ S .part c z g k
-        ∙ rw (getD-set-other (s .prices) (rowYear rows i) c p 0 n) (sym (part-other rows figures (s .reasons) (getD (s .prices) c 0) i becauseWon c z (sift (inAuction rows) (below m)) (λ e. n (sym e)))));
+        let n = eqb-false c (rowYear sheet i) f in
+        laid-other (s .sums) (rowYear sheet i) (filled part (of .years)) (of .years) c z n ly (omega arith) ∙ S .part c z g k
+        ∙ rw (getD-set-other (s .prices) (rowYear sheet i) c p 0 n) (sym (part-other sheet (s .reasons) (getD (s .prices) c 0) i becauseWon c z (sift (inAuction sheet) (below (of .bids))) (λ e. n (sym e)))));
   })
     where
       part : ℕ → ℕ
-      part z = partOf rows figures (set (s .reasons) i becauseWon) (getD (set (s .prices) (rowYear rows i) p) (rowYear rows i) 0) (rowYear rows i) z m
+      part z = partOf sheet (set (s .reasons) i becauseWon) (getD (set (s .prices) (rowYear sheet i) p) (rowYear sheet i) 0) (rowYear sheet i) z (of .bids)
+
+  pub summed-one : (p i : ℕ) {s r : PotState} → of .years ≤ 8 → rowYear sheet i < 4 → r ≡ triedOf sheet of p i s → Summed sheet of s → Summed sheet of r
+  unfolding triedOf
+  summed-one p i {s} ly ld e S = summed-totalled e (parted-win p i s ly ld refl refl refl (S .parts))
 
   -- every year is renewed
   module _ (s : PotState) where
-    pub renewed-sums : (n : ℕ) → renewedTo rows figures m y s n ≡ withSums ((renewedTo rows figures m y s n) .sums) s
+    pub renewed-sums : (n : ℕ) → renewedTo sheet of s n ≡ withSums ((renewedTo sheet of s n) .sums) (s .totals) s
     unfolding renewedTo renewedOf withSums
     renewed-sums zero = refl
-    renewed-sums (suc n) = ap (λ (t : PotState). withSums ((renewedTo rows figures m y s (suc n)) .sums) t) (renewed-sums n)
+    renewed-sums (suc n) = ap (λ (t : PotState). withSums ((renewedTo sheet of s (suc n)) .sums) (t .totals) t) (renewed-sums n)
 
-    renewed-size : (n : ℕ) → length ((renewedTo rows figures m y s n) .sums) ≡ length (s .sums)
+    renewed-size : (n : ℕ) → length ((renewedTo sheet of s n) .sums) ≡ length (s .sums)
     unfolding renewedTo renewedOf withSums
     renewed-size zero = refl
-    renewed-size (suc n) = laid-length ((renewedTo rows figures m y s n) .sums) n _ y ∙ renewed-size n
+    renewed-size (suc n) = laid-length ((renewedTo sheet of s n) .sums) n _ (of .years) ∙ renewed-size n
 
-    renewed-parts : (n : ℕ) → length (s .sums) ≡ 32 → y ≤ 8 → n ≤ 4 → (d z : ℕ) → d < n → z < y
-        → getD ((renewedTo rows figures m y s n) .sums) (d * 8 + z) 0 ≡ partOf rows figures (s .reasons) (getD (s .prices) d 0) d z m
+    renewed-parts : (n : ℕ) → length (s .sums) ≡ 32 → of .years ≤ 8 → n ≤ 4 → (d z : ℕ) → d < n → z < of .years
+        → getD ((renewedTo sheet of s n) .sums) (d * 8 + z) 0 ≡ partOf sheet (s .reasons) (getD (s .prices) d 0) d z (of .bids)
     unfolding renewedTo renewedOf withSums
     renewed-parts zero h g k d z i j = absurd (omega arith)
     renewed-parts (suc n) h g k d z i j = case (eqb d n)
-        (λ t. rw (eqb-true d n t) (laid-filled ((renewedTo rows figures m y s n) .sums) n part y z (renewed-size n ∙ h) k g j ∙ same))
-        (λ f. let e = eqb-false d n f in laid-other ((renewedTo rows figures m y s n) .sums) n (filled part y) y d z e g (omega arith) ∙ renewed-parts n h g (omega arith) d z (omega arith) j)
+        (λ t. rw (eqb-true d n t) (laid-filled ((renewedTo sheet of s n) .sums) n part (of .years) z (renewed-size n ∙ h) k g j ∙ same))
+        (λ f. let e = eqb-false d n f in laid-other ((renewedTo sheet of s n) .sums) n (filled part (of .years)) (of .years) d z e g (omega arith) ∙ renewed-parts n h g (omega arith) d z (omega arith) j)
       where
         part : ℕ → ℕ
-        part z = partOf rows figures ((renewedTo rows figures m y s n) .reasons) (getD ((renewedTo rows figures m y s n) .prices) n 0) n z m
+        part z = partOf sheet ((renewedTo sheet of s n) .reasons) (getD ((renewedTo sheet of s n) .prices) n 0) n z (of .bids)
 
-        same : part z ≡ partOf rows figures (s .reasons) (getD (s .prices) n 0) n z m
-        same = ap (λ (t : PotState). partOf rows figures (t .reasons) (getD (t .prices) n 0) n z m) (renewed-sums n)
+        same : part z ≡ partOf sheet (s .reasons) (getD (s .prices) n 0) n z (of .bids)
+        same = ap (λ (t : PotState). partOf sheet (t .reasons) (getD (t .prices) n 0) n z (of .bids)) (renewed-sums n)
 
-    pub summed-renewed : {r : PotState} → length (s .sums) ≡ 32 → y ≤ 8 → r ≡ renewedTo rows figures m y s 4 → Summed rows figures m y r
+    pub parted-renewed : {r : PotState} → length (s .sums) ≡ 32 → of .years ≤ 8 → r ≡ renewedTo sheet of s 4 → Parted sheet of r
     unfolding withSums
-    summed-renewed h g e = rw e (record {
+    parted-renewed h g e = rw e (record {
       size = renewed-size 4 ∙ h;
-      part = λ d z i j. renewed-parts 4 h g (omega arith) d z i j ∙ sym (ap (λ (t : PotState). partOf rows figures (t .reasons) (getD (t .prices) d 0) d z m) (renewed-sums 4));
+      part = λ d z i j. renewed-parts 4 h g (omega arith) d z i j ∙ sym (ap (λ (t : PotState). partOf sheet (t .reasons) (getD (t .prices) d 0) d z (of .bids)) (renewed-sums 4));
     })
 
+    pub revalued-sums : revaluedOf sheet of s ≡ withSums ((revaluedOf sheet of s) .sums) ((revaluedOf sheet of s) .totals) s
+    unfolding revaluedOf totalledOf withSums
+    revalued-sums = ap (λ (t : PotState). withSums ((renewedTo sheet of s 4) .sums) (filled (yearSum ((renewedTo sheet of s 4) .sums)) (of .years)) t) (renewed-sums 4)
+
+    pub summed-revalued : {r : PotState} → length (s .sums) ≡ 32 → of .years ≤ 8 → r ≡ revaluedOf sheet of s → Summed sheet of r
+    unfolding revaluedOf
+    summed-revalued h g e = summed-totalled e (parted-renewed h g refl)
+
   -- no bid has been looked at
-  pub summed-started : {s : PotState} → m ≤ 320 → s ≡ startedOf rows m → Summed rows figures m y s
+  pub summed-started : {s : PotState} → of .bids ≤ 320 → of .years ≤ 8 → s ≡ startedOf sheet (of .bids) → Summed sheet of s
   unfolding startedOf partOf
-  summed-started h e = rw e (record {
-    size = refl;
-    part = λ d z i j. zeros 32 (d * 8 + z) ∙ sym (part-none rows figures (fill noMarks (λ i. firstMark (rowStanding rows i)) m) (getD (replicate 4 _) d 0) d z (sift (inAuction rows) (below m)) (λ k i. fresh k (below-in k m (sift-in k (inAuction rows) (below m) i .0))));
+  summed-started h g e = rw e (record {
+    parts = record { size = refl; part = λ d z i j. zeros 32 (d * 8 + z) ∙ sym (part-none sheet (fill noMarks (λ i. firstMark (rowStanding sheet i)) (of .bids)) (getD (replicate 4 _) d 0) d z (sift (inAuction sheet) (below (of .bids))) (λ k i. fresh k (below-in k (of .bids) (sift-in k (inAuction sheet) (below (of .bids)) i .0)))) };
+    row = start g ∙ ap (λ (f : ℕ → ℕ). filled f (of .years)) (λ j z. sym (blank z) j);
   })
     where
-      size : m ≤ length noMarks
+      start : of .years ≤ 8 → replicate 8 0 ≡ filled (λ _. 0) (of .years)
+      start g = unfold noRow in row-none (of .years) g
+
+      blank : (z : ℕ) → yearSum (replicate 32 0) z ≡ 0
+      blank z = unfold yearSum in rw (zeros 32 z, zeros 32 (8 + z), zeros 32 (16 + z), zeros 32 (24 + z))
+
+      size : of .bids ≤ length noMarks
       size = unfold noMarks in h
 
-      fresh : (k : ℕ) → k < m → eqb (getD (fill noMarks (λ i. firstMark (rowStanding rows i)) m) k 0) becauseWon ≡ false
-      fresh k g = rw (fill-at noMarks (λ i. firstMark (rowStanding rows i)) m k 0 size g) (first (rowStanding rows k))
+      fresh : (k : ℕ) → k < of .bids → eqb (getD (fill noMarks (λ i. firstMark (rowStanding sheet i)) (of .bids)) k 0) becauseWon ≡ false
+      fresh k g = rw (fill-at noMarks (λ i. firstMark (rowStanding sheet i)) (of .bids) k 0 size g) (first (rowStanding sheet k))
         where
           first : (q : ℕ) → eqb (firstMark q) becauseWon ≡ false
           first q = unfold firstMark in case (eqb q 1) (λ t. rw t) (λ f. rw f)
 
 -- ---- winning and turning down leave the sums alone
-win-sums : (rows : List ℕ) (p : ℕ) (s : PotState) (l : List ℕ) → (winAll rows p s l) .sums ≡ s .sums
+win-sums : (sheet : List ℕ) (p : ℕ) (s : PotState) (l : List ℕ) → (winAll sheet p s l) .sums ≡ s .sums
 unfolding winAll winOf
-win-sums rows p s [] = refl
-win-sums rows p s (i ∷ l) = win-sums rows p s l
+win-sums sheet p s [] = refl
+win-sums sheet p s (i ∷ l) = win-sums sheet p s l
 
-turn-sums : (rows : List ℕ) (v : ℕ) (s : PotState) (l : List ℕ) → (turnAll rows v s l) .sums ≡ s .sums
+turn-sums : (sheet : List ℕ) (v : ℕ) (s : PotState) (l : List ℕ) → (turnAll sheet v s l) .sums ≡ s .sums
 unfolding turnAll turnOf
-turn-sums rows v s [] = refl
-turn-sums rows v s (i ∷ l) = turn-sums rows v s l
+turn-sums sheet v s [] = refl
+turn-sums sheet v s (i ∷ l) = turn-sums sheet v s l
 
-module _ (rows figures : List ℕ) (m y : ℕ) {s : PotState} (ly : y ≤ 8) (S : Summed rows figures m y s) where
+module _ (sheet : List ℕ) (of : Size) {s : PotState} (ly : of .years ≤ 8) (S : Summed sheet of s) where
   -- several are tried
-  pub summed-tried : (p : ℕ) (l : List ℕ) {u r : PotState} → u ≡ winAll rows p s l → r ≡ renewedTo rows figures m y u 4 → Summed rows figures m y r
-  summed-tried p l {u} eu er = summed-renewed rows figures m y u (ap (λ (t : PotState). length (t .sums)) eu ∙ ap length (win-sums rows p s l) ∙ S .size) ly er
+  pub win-size : (p : ℕ) (l : List ℕ) {u : PotState} → u ≡ winAll sheet p s l → length (u .sums) ≡ 32
+  win-size p l eu = ap (λ (t : PotState). length (t .sums)) eu ∙ ap length (win-sums sheet p s l) ∙ S .parts .size
+
+  pub summed-trial : (p : ℕ) (l : List Bool) {r : PotState} → r ≡ trialOf sheet of p l s → Summed sheet of r
+  unfolding trialOf
+  summed-trial p l e = summed-revalued sheet of (winAll sheet p s (members l (of .bids))) (win-size p (members l (of .bids)) refl) ly e
 
   -- several do not fit
-  pub summed-tie : (budgets : List ℕ) (p : ℕ) (l : List Bool) {r : PotState} → r ≡ tieOf rows figures budgets m y l p s → Summed rows figures m y r
-  unfolding tieOf
-  summed-tie budgets p l e = rw e (go (ltb widestTie (length (members (restOf rows figures budgets m y l p s) m))))
-    where
-      shared : length ((sharedOf rows m l (choiceIn rows figures budgets m y l p s) p s) .sums) ≡ 32
-      shared = unfold sharedOf hungOf in ap length (turn-sums rows _ _ _ ∙ win-sums rows p s _) ∙ S .size
+  pub shared-size : (l wins : List Bool) (p : ℕ) {u : PotState} → u ≡ sharedOf sheet of l wins p s → length (u .sums) ≡ 32
+  unfolding sharedOf hungOf
+  shared-size l wins p eu = ap (λ (t : PotState). length (t .sums)) eu ∙ ap length (turn-sums sheet _ _ _ ∙ win-sums sheet p s _) ∙ S .parts .size
 
-      go : (b : Bool) → Summed rows figures m y (pick b (widened s) (renewedTo rows figures m y (sharedOf rows m l (choiceIn rows figures budgets m y l p s) p s) 4))
-      go true = summed-wide rows figures m y s S
-      go false = summed-renewed rows figures m y (sharedOf rows m l (choiceIn rows figures budgets m y l p s) p s) shared ly refl
+  pub summed-tie : (p : ℕ) (l : List Bool) {r : PotState} → r ≡ tieOf sheet of l p s → Summed sheet of r
+  unfolding tieOf
+  summed-tie p l e = rw e (go (ltb widestTie (length (members (restOf sheet of l p s) (of .bids)))))
+    where
+      go : (b : Bool) → Summed sheet of (pick b (widened s) (revaluedOf sheet of (sharedOf sheet of l (choiceIn sheet of l p s) p s)))
+      go true = summed-wide sheet of s S
+      go false = summed-revalued sheet of (sharedOf sheet of l (choiceIn sheet of l p s) p s) (shared-size l (choiceIn sheet of l p s) p refl) ly refl
 
 -- ---- the sums of a year together are its total
-module _ {rows figures : List ℕ} {m y : ℕ} {s : PotState} (S : Summed rows figures m y s) (z : ℕ) (h : z < y) where
+module _ {sheet : List ℕ} {of : Size} {s : PotState} (S : Parted sheet of s) (z : ℕ) (h : z < of .years) where
   abbrev part : ℕ → ℕ
-  part d = partOf rows figures (s .reasons) (getD (s .prices) d 0) d z m
+  part d = partOf sheet (s .reasons) (getD (s .prices) d 0) d z (of .bids)
 
   four : yearSum (s .sums) z ≡ part 0 + (part 1 + (part 2 + part 3))
   unfolding yearSum
@@ -252,13 +305,13 @@ module _ {rows figures : List ℕ} {m y : ℕ} {s : PotState} (S : Summed rows f
       at3 = let e : 24 + z ≡ 3 * 8 + z = omega arith in ap (λ (k : ℕ). getD (s .sums) k 0) e ∙ S .part 3 z (omega arith) h
 
   -- where the winners all entered the auction
-  pub sum-total : Checked rows m → ((k : ℕ) → k < m → inAuction rows k ≡ false → eqb (getD (s .reasons) k 0) becauseWon ≡ false) → yearSum (s .sums) z ≡ totalOf rows figures (s .reasons) (s .prices) z m
-  sum-total ok others = four ∙ sym (total-parts rows figures (s .reasons) (s .prices) z m ok others)
+  pub sum-total : Ready sheet of → ((k : ℕ) → k < of .bids → inAuction sheet k ≡ false → eqb (getD (s .reasons) k 0) becauseWon ≡ false) → yearSum (s .sums) z ≡ totalOf sheet (s .reasons) (s .prices) z (of .bids)
+  sum-total ok others = four ∙ sym (total-parts sheet of (s .reasons) (s .prices) z ok others)
 
-  pub sum-most : Valued rows figures m y → yearSum (s .sums) z ≤ mostSum
+  pub sum-most : Ready sheet of → yearSum (s .sums) z ≤ mostSum
   sum-most v =
-      let few = v .checked .few in
-      let most : (d : ℕ) → part d ≤ dearest * m = λ d. part-most rows figures (s .reasons) (getD (s .prices) d 0) d m y z v h in
+      let few = v .few in
+      let most : (d : ℕ) → part d ≤ dearest * (of .bids) = λ d. part-most sheet (s .reasons) (getD (s .prices) d 0) d of z v h in
       omega (arith, four, most 0, most 1, most 2, most 3)
 
 -- added one after the other
@@ -272,16 +325,16 @@ module _ (l : List ℕ) (z : ℕ) where
   added-low h = (omega (arith, added-is), omega (arith, added-is), omega (arith, added-is))
 
 -- the row of year totals fits where the sums do
-pub row-fits : (f : ℕ → ℕ) (budgets : List ℕ) (y : ℕ) {row : List ℕ} {b : Bool} → y ≤ 8 → row ≡ filled f y → b ≡ rowFits row budgets y → b ≡ fitsTo f budgets y
-row-fits f budgets y h er eb = eb ∙ ap (λ (r : List ℕ). rowFits r budgets y) er ∙ fits-same (λ z. getD (filled f y) z 0) f budgets y (λ z g. fill-at noRow f y z 0 size g)
+pub row-fits : (f : ℕ → ℕ) (sheet : List ℕ) (n : ℕ) {row : List ℕ} {b : Bool} → n ≤ 8 → row ≡ filled f n → b ≡ rowFits sheet row n → b ≡ fitsTo f sheet n
+row-fits f sheet n h er eb = eb ∙ ap (λ (r : List ℕ). rowFits sheet r n) er ∙ fits-same (λ z. getD (filled f n) z 0) f sheet n (λ z g. fill-at noRow f n z 0 size g)
   where
-    size : y ≤ length noRow
+    size : n ≤ length noRow
     size = unfold noRow in h
 
 -- ---- the trace does not speak of the sums
-pub rep-sums : {P : Pot} {t : Trace} {s : PotState} (l : List ℕ) → Rep P t s → Rep P t (withSums l s)
+pub rep-sums : {P : Pot} {t : Trace} {s : PotState} (l q : List ℕ) → Rep P t s → Rep P t (withSums l q s)
 unfolding withSums
-rep-sums l R = record {
+rep-sums l q R = record {
   sizes = record { reasons = R .sizes .reasons; won = R .sizes .won; opened = R .sizes .opened; prices = R .sizes .prices };
   other = R .other;
   why = R .why;
@@ -293,10 +346,10 @@ rep-sums l R = record {
   hang = R .hang;
 }
 
-pub stands-sums : {P : Pot} {t : Trace} {s : PotState} (l : List ℕ) → Stands P t s → Stands P t (withSums l s)
+pub stands-sums : {P : Pot} {t : Trace} {s : PotState} (l q : List ℕ) → Stands P t s → Stands P t (withSums l q s)
 unfolding withSums
-stands-sums l S = record { wide = S .wide; rep = λ n. rep-sums l (S .rep n) }
+stands-sums l q S = record { wide = S .wide; rep = λ n. rep-sums l q (S .rep n) }
 
-pub settled-sums : (l : List ℕ) (s : PotState) → settledOf (withSums l s) ≡ withSums l (settledOf s)
+pub settled-sums : (l q : List ℕ) (s : PotState) → settledOf (withSums l q s) ≡ withSums l q (settledOf s)
 unfolding settledOf withSums shutOf hungOf
-settled-sums l s = case (ltb (s .hang) 4) (λ t. rw t) (λ f. rw f)
+settled-sums l q s = case (ltb (s .hang) 4) (λ t. rw t) (λ f. rw f)

@@ -12,6 +12,7 @@ use Rattle.rules.specs.Pot.{Pot, Trace, winners, wideEnd, live, taken, remainin
 use Rattle.laws.specs.Lists.{case, clash, not-is-true, In, memb-in, sift-in, sift-same, sift-both}
 use Rattle.sets.specs.Sets.{built, members, without}
 use Rattle.sets.proofs.Arrays.{members-built}
+use Rattle.sheet.specs.declared.Size.{Size}
 use Rattle.sheet.specs.Sheet.{potIn, Ready, rowYear, rowPrice}
 use Rattle.ties.specs.Ties.{basesOf, keepsOf, choiceOf}
 use Rattle.ties.proofs.Link as tie
@@ -23,11 +24,11 @@ use Rattle.pot.proofs.Link as link
 use Rattle.pot.proofs.Link.{Did, rep-did, holds-rep}
 use Rattle.pot.proofs.Looks as looks
 use Rattle.pot.proofs.Looks.{not-won}
-use Rattle.pot.proofs.Sums.{renewed-sums, stands-sums}
+use Rattle.pot.proofs.Sums.{revalued-sums, stands-sums}
 
-module _ (rows figures budgets : List ℕ) (b m y : ℕ) (ok : Ready rows figures budgets b m y) where
+module _ (sheet : List ℕ) (of : Size) (ok : Ready sheet of) where
   abbrev P : Pot
-  P = potIn rows figures budgets b m y
+  P = potIn sheet of
 
   module _ (t : Trace) (s : PotState) (R : Rep P t s) where
     abbrev ws : List ℕ
@@ -37,28 +38,28 @@ module _ (rows figures budgets : List ℕ) (b m y : ℕ) (ok : Ready rows figure
     l = taken P t
 
     abbrev p : ℕ
-    p = lowestOf rows s m
+    p = lowestOf sheet s (of .bids)
 
     abbrev a : List Bool
-    a = takenOf rows m s
+    a = takenOf sheet of s
 
     abbrev base : List ℕ
-    base = basesOf rows figures (s .reasons) (s .prices) p m y
+    base = basesOf sheet of (s .reasons) (s .prices) p
 
     abbrev rest : List Bool
-    rest = restOf rows figures budgets m y a p s
+    rest = restOf sheet of a p s
 
     abbrev k : ℕ
-    k = length (members rest m)
+    k = length (members rest (of .bids))
 
-    sound : (i : ℕ) → In i l → (i < m) × (live P t i ≡ true) × (rowPrice rows i ≡ p) × In i (P .bids)
-    sound = looks.sound rows figures budgets b m y ok t s R
+    sound : (i : ℕ) → In i l → (i < of .bids) × (live P t i ≡ true) × (rowPrice sheet i ≡ p) × In i (P .bids)
+    sound = looks.sound sheet of ok t s R
 
     few : (i : ℕ) → In i l → i < 320
-    few = looks.few rows figures budgets b m y ok t s R
+    few = looks.few sheet of ok t s R
 
-    of-set : members a m ≡ l
-    of-set = looks.of-set rows figures budgets b m y ok t s R
+    of-set : members a (of .bids) ≡ l
+    of-set = looks.of-set sheet of ok t s R
 
     at-price : (i : ℕ) → In i l → P .price i ≡ p
     unfolding potIn
@@ -67,82 +68,82 @@ module _ (rows figures budgets : List ℕ) (b m y : ℕ) (ok : Ready rows figure
     new : (i : ℕ) → In i l → memb i ws ≡ false
     new i h = not-won P t i (sound i h .1)
 
-    rest-is : rest ≡ built (keepsOf rows figures base budgets p y a) m
+    rest-is : rest ≡ built (keepsOf sheet of base p a) (of .bids)
     unfolding restOf
     rest-is = refl
 
-    pub of-rest : members rest m ≡ remaining P ws l
+    pub of-rest : members rest (of .bids) ≡ remaining P ws l
     of-rest =
-        tie.of-rest rows figures budgets b m y ok ws (s .reasons) (s .prices) (holds-rep R .marked) (R .sizes .prices) (R .price) p refl a l (of-set)
-        (link.taken-part rows figures budgets b m y ok t) at-price new rest rest-is
+        tie.of-rest sheet of ok ws (s .reasons) (s .prices) (holds-rep R .marked) (R .sizes .prices) (R .price) p refl a l (of-set)
+        (link.taken-part sheet of ok t) at-price new rest rest-is
 
     module _ (h : k ≤ 10) where
       abbrev ch : List ℕ
       ch = choose P ws l
 
       abbrev w : List Bool
-      w = choiceIn rows figures budgets m y a p s
+      w = choiceIn sheet of a p s
 
-      choice-is : w ≡ choiceOf rows figures base budgets rest k p m y
+      choice-is : w ≡ choiceOf sheet of base rest k p
       unfolding choiceIn
       choice-is = refl
 
-      of-choice : members w m ≡ ch
+      of-choice : members w (of .bids) ≡ ch
       of-choice =
-          tie.of-choice rows figures budgets b m y ok ws (s .reasons) (s .prices) (holds-rep R .marked) (R .sizes .prices) (R .price) p refl a l (of-set)
-          (link.taken-part rows figures budgets b m y ok t) at-price new rest rest-is refl h choice-is
+          tie.of-choice sheet of ok ws (s .reasons) (s .prices) (holds-rep R .marked) (R .sizes .prices) (R .price) p refl a l (of-set)
+          (link.taken-part sheet of ok t) at-price new rest rest-is refl h choice-is
 
       in-w : (i : ℕ) → In i l → getD w i false ≡ memb i ch
       in-w i j =
-          tie.choice-at rows figures budgets b m y ok ws (s .reasons) (s .prices) (holds-rep R .marked) (R .sizes .prices) (R .price) p refl a l (of-set)
-          (link.taken-part rows figures budgets b m y ok t) at-price new rest rest-is refl h choice-is i (sound i j .0)
+          tie.choice-at sheet of ok ws (s .reasons) (s .prices) (holds-rep R .marked) (R .sizes .prices) (R .price) p refl a l (of-set)
+          (link.taken-part sheet of ok t) at-price new rest rest-is refl h choice-is i (sound i j .0)
 
       in-choice : (i : ℕ) → In i ch → In i l
       in-choice =
-          tie.chosen-among rows figures budgets b m y ok ws (s .reasons) (s .prices) (holds-rep R .marked) (R .sizes .prices) (R .price) p refl a l (of-set)
-          (link.taken-part rows figures budgets b m y ok t) at-price new rest rest-is refl h
+          tie.chosen-among sheet of ok ws (s .reasons) (s .prices) (holds-rep R .marked) (R .sizes .prices) (R .price) p refl a l (of-set)
+          (link.taken-part sheet of ok t) at-price new rest rest-is refl h
 
       abbrev out : List ℕ
       out = others P l ch
 
-      of-others : members (built (without a w) m) m ≡ out
+      of-others : members (built (without a w) (of .bids)) (of .bids) ≡ out
       unfolding without
       of-others =
-          members-built (without a w) m (ok .few)
-          ∙ sym (sift-both (λ i. not (getD w i false)) (λ i. getD a i false) (below m))
+          members-built (without a w) (of .bids) (ok .few)
+          ∙ sym (sift-both (λ i. not (getD w i false)) (λ i. getD a i false) (below (of .bids)))
           ∙ ap (sift (λ i. not (getD w i false))) (opened ∙ of-set)
           ∙ sift-same (λ i. not (getD w i false)) (λ i. not (memb i ch)) l (λ i j. ap not (in-w i j))
         where
-          opened : sift (λ i. getD a i false) (below m) ≡ members a m
+          opened : sift (λ i. getD a i false) (below (of .bids)) ≡ members a (of .bids)
           opened = unfold members in refl
 
       in-out : (i : ℕ) → In i out → In i l × (memb i ch ≡ false)
       in-out i j = let z = sift-in i (λ c. not (memb c ch)) l j in (z .0, not-is-true (memb i ch) (z .1))
 
       abbrev v : PotState
-      v = winAll rows p s ch
+      v = winAll sheet p s ch
 
       abbrev x : PotState
-      x = hungOf 4 (turnAll rows downTied v out)
+      x = hungOf 4 (turnAll sheet downTied v out)
 
       sv : Sizes v
-      sv = win-sizes rows p s (R .sizes) ch
+      sv = win-sizes sheet p s (R .sizes) ch
 
       shared-did : Did P (shared P t l) s x
       unfolding hungOf hangs potIn
       shared-did = record {
-        sizes = let z = turn-sizes rows downTied v sv out in record { reasons = z .reasons; won = z .won; opened = z .opened; prices = z .prices };
+        sizes = let z = turn-sizes sheet downTied v sv out in record { reasons = z .reasons; won = z .won; opened = z .opened; prices = z .prices };
         reasons = λ i.
-            turn-reasons rows downTied v sv out i (λ c j. few c (in-out c j .0))
-            ∙ ap (pick (memb i out) downTied) (win-reasons rows p s (R .sizes) ch i (λ c j. few c (in-choice c j)))
+            turn-reasons sheet downTied v sv out i (λ c j. few c (in-out c j .0))
+            ∙ ap (pick (memb i out) downTied) (win-reasons sheet p s (R .sizes) ch i (λ c j. few c (in-choice c j)))
             ∙ swap i;
-        won = λ z j. ap (λ (q : List Bool). getD q z false) (turn-won rows downTied v sv out) ∙ win-won rows p s (R .sizes) ch z (λ c g. ok .app c (sound c (in-choice c g) .0));
+        won = λ z j. ap (λ (q : List Bool). getD q z false) (turn-won sheet downTied v sv out) ∙ win-won sheet p s (R .sizes) ch z (λ c g. ok .app c (sound c (in-choice c g) .0));
         opened = λ d j.
-            turn-opened rows downTied v sv out d (λ c g. ok .year c (sound c (in-out c g .0) .0))
-            ∙ ap (λ (q : List Bool). not (memb d (map (rowYear rows) out)) && getD q d false) (win-opened rows p s (R .sizes) ch);
+            turn-opened sheet downTied v sv out d (λ c g. ok .year c (sound c (in-out c g .0) .0))
+            ∙ ap (λ (q : List Bool). not (memb d (map (rowYear sheet) out)) && getD q d false) (win-opened sheet p s (R .sizes) ch);
         prices = λ d j.
-            ap (λ (q : List ℕ). getD q d 0) (turn-prices rows downTied v sv out)
-            ∙ link.win-prices rows figures budgets b m y ok ws s (R .sizes) p ch d (λ c g. let z = sound c (in-choice c g) in (z .0, z .2));
+            ap (λ (q : List ℕ). getD q d 0) (turn-prices sheet downTied v sv out)
+            ∙ link.win-prices sheet of ok ws s (R .sizes) p ch d (λ c g. let z = sound c (in-choice c g) in (z .0, z .2));
         hang = refl;
       }
         where
@@ -150,22 +151,22 @@ module _ (rows figures budgets : List ℕ) (b m y : ℕ) (ok : Ready rows figure
           swap i = case (memb i out) (λ e. rw (e, in-out i (memb-in i out e) .1)) (λ e. rw e)
 
       -- the arrays after a tie that is not too wide
-      shared-rep : Rep P (shared P t l ∷ t) (sharedOf rows m a w p s)
+      shared-rep : Rep P (shared P t l ∷ t) (sharedOf sheet of a w p s)
       unfolding sharedOf
       shared-rep =
           rw (of-choice, of-others)
           (rep-did P t (shared P t l) s x refl refl (λ i j. new i (in-out i j .0)) (λ i j. sound i (in-choice i j) .3) (λ i j. sound i (in-out i j .0) .3) R shared-did)
 
-      shared-wide : (sharedOf rows m a w p s) .wide ≡ s .wide
+      shared-wide : (sharedOf sheet of a w p s) .wide ≡ s .wide
       unfolding sharedOf hungOf
-      shared-wide = rw (of-choice) (turn-wide rows downTied v sv (members (built (without a w) m) m) ∙ win-wide rows p s (R .sizes) ch)
+      shared-wide = rw (of-choice) (turn-wide sheet downTied v sv (members (built (without a w) (of .bids)) (of .bids)) ∙ win-wide sheet p s (R .sizes) ch)
 
     -- the arrays after any tie
-    pub tied-stands : s .wide ≡ false → Stands P (tied P t l ∷ t) (tieOf rows figures budgets m y a p s)
+    pub tied-stands : s .wide ≡ false → Stands P (tied P t l ∷ t) (tieOf sheet of a p s)
     unfolding tied tieOf widened wideEnd
     tied-stands n =
         rw (← (ap length of-rest))
         (case (ltb widestTie k)
         (λ e. rw e (record { wide = refl; rep = λ f. clash refl f }))
-        (λ e. rw e (subst (Stands P (shared P t l ∷ t)) (sym (renewed-sums rows figures m y (sharedOf rows m a (choiceIn rows figures budgets m y a p s) p s) 4))
-        (stands-sums _ (record { wide = shared-wide (ltb-false widestTie k e) ∙ n; rep = λ f. shared-rep (ltb-false widestTie k e) })))))
+        (λ e. rw e (subst (Stands P (shared P t l ∷ t)) (sym (revalued-sums sheet of (sharedOf sheet of a (choiceIn sheet of a p s) p s)))
+        (stands-sums _ _ (record { wide = shared-wide (ltb-false widestTie k e) ∙ n; rep = λ f. shared-rep (ltb-false widestTie k e) })))))

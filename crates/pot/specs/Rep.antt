@@ -1,5 +1,5 @@
 -- What a pot's arrays stand for: a trace of crate rules. Assumes nothing.
-use Prim.Native.Nat.{ℕ, _<_, _≤_}
+use Prim.Native.Nat.{ℕ, _<_}
 use mathlib.Core.Path.{_≡_}
 use mathlib.Core.Bool.{false, not}
 use mathlib.Core.List.{List, [], _∷_, map}
@@ -9,8 +9,8 @@ use Rattle.rules.specs.Names.{noPrice, noReason, becauseWon}
 use Rattle.rules.specs.Lists.{pick, memb}
 use Rattle.rules.specs.Pot.{Pot, Trace, winners, seen, closed, hanging, wideEnd, mark, priceFrom, taken, look}
 use Rattle.laws.specs.Lists.{In}
+use Rattle.sheet.specs.declared.Size.{Size}
 use Rattle.sheet.specs.Sheet.{potIn, Ready}
-use Rattle.totals.specs.Totals.{Listed}
 use Rattle.pot.specs.declared.PotState.{PotState}
 use Rattle.pot.specs.declared.Look.{Look}
 use Rattle.pot.specs.Marks.{notHere, noYear, Others, Looked, Summed}
@@ -46,15 +46,14 @@ pub record Stands (P : Pot) (t : Trace) (s : PotState) : Type 0 where
 abbrev pub Stepped : Pot → PotState → PotState → Type 0
 Stepped P s r = (t : Trace) (x : ℕ) → Stands P t s → wideEnd t ≡ false → In x (taken P t) → Stands P (look P t (taken P t) ∷ t) r
 
--- What a step from s needs: the sheet, the list of the bids that entered, a look at s, and sums that are those of the winners
-pub record Seen (rows figures budgets list : List ℕ) (m y c : ℕ) (s : PotState) (l : Look) : Type 0 where
-  pub ready : Ready rows figures budgets 0 m y
-  pub listed : Listed rows m list c
-  pub others : Others rows m s
-  pub looked : Looked rows m s l
-  pub summed : Summed rows figures m y s
+-- What a step from s needs: the sheet, a look at s, and sums that are those of the winners
+pub record Seen (sheet : List ℕ) (of : Size) (s : PotState) (l : Look) : Type 0 where
+  pub ready : Ready sheet of
+  pub others : Others sheet of s
+  pub looked : Looked sheet of s l
+  pub summed : Summed sheet of s
 
--- What a step gives: r is one step on, whatever number of the bids is sealed, and its sums are those of its winners
-pub record Onward (rows figures budgets : List ℕ) (m y : ℕ) (s r : PotState) : Type 0 where
-  pub stepped : (b : ℕ) → b ≤ m → Stepped (potIn rows figures budgets b m y) s r
-  pub summed : Summed rows figures m y r
+-- What a step gives: r is one step on, and its sums are those of its winners
+pub record Onward (sheet : List ℕ) (of : Size) (s r : PotState) : Type 0 where
+  pub stepped : Stepped (potIn sheet of) s r
+  pub summed : Summed sheet of r

@@ -5,14 +5,16 @@ ghost use mathlib.Core.Bool.{not, _&&_};
 ghost use mathlib.Core.List.{[]};
 ghost use Prim.Native.Nat.{ℕ, _≤_, _<_};
 ghost use lib.Dec.{eqb};
+ghost use lib.ListN.{length};
 ghost use Rattle.rules.specs.Pot.{auction};
 ghost use Rattle.sets.specs.Sets.{built, members};
 ghost use Rattle.sheet.specs.Sheet.{potIn, Ready};
-ghost use Rattle.totals.specs.Totals.{Checked, Valued, Listed, filled};
+ghost use Rattle.totals.specs.Totals.{filled};
 ghost use Rattle.ties.specs.Ties.{laidTo};
-ghost use Rattle.pot.specs.Marks.{joinedOf, Others, Looked, atOf, firstMark, winOf, turnOf, winAll, turnAll, turnedOf, hungOf, shutOf, settledOf, widened, followsOf, aloneOf, sharedOf, tieOf, startedOf, yearSum, mostSum, renewedOf, renewedTo, Summed};
+ghost use Rattle.pot.specs.Marks.{joinedOf, Others, Looked, atOf, firstMark, winOf, turnOf, winAll, turnAll, turnedOf, hungOf, shutOf, settledOf, widened, followsOf, aloneOf, sharedOf, tieOf, startedOf, yearSum, mostSum, renewedOf, renewedTo, totalledOf, revaluedOf, triedOf, trialOf, Summed};
 ghost use Rattle.pot.specs.Rep.{Stands, Seen, Onward};
 use names::YEARS;
+use sheet::{Sheet, Size, COLUMNS};
 use totals::WON;
 
 // The marks of a bid that has not won: not looked at, turned down alone, turned down in a tie, not of this auction.
@@ -35,6 +37,8 @@ pub struct PotState {
     pub prices: [u64; 4],
     // a row of years for each delivery year: what the winners that start there cost at its clearing price
     pub sums: [u64; 32],
+    // what all winners cost: the row of year totals
+    pub totals: [u64; COLUMNS],
     // the year left open though a bid was turned down there, 4 where none is
     pub hang: usize,
     // a tie was too wide
@@ -46,12 +50,6 @@ pub struct Look {
     pub price: u64,
     pub count: usize,
     pub last: usize,
-}
-
-// The first `count` places of the list are the bids that entered the auction, in the order of the file.
-pub struct Entrants {
-    pub list: [usize; 320],
-    pub count: usize,
 }
 
 // Not yet looked at, of an application that has not won, in an open year.
@@ -98,11 +96,12 @@ fn joined(l: Look, price: u64, i: usize) -> Look
 }
 
 // Sums with a row written as that of delivery year d.
-fn with_row(sums: [u64; 32], row: [u64; 8], y: usize, d: usize) -> [u64; 32]
-    requires { ⌜ (y ≤ 8) × (d < 4) ⌝ }
-    ensures { λ r. ⌜ r ≡ laidTo sums row d y ⌝ }
+fn with_row(of: Size, sums: [u64; 32], row: [u64; COLUMNS], d: usize) -> [u64; 32]
+    requires { ⌜ (of .years ≤ 8) × (d < 4) ⌝ }
+    ensures { λ r. ⌜ r ≡ laidTo sums row d (of .years) ⌝ }
 {
     let mut out = sums;
+    let y = of.years;
     let mut z: usize = 0;
     while z < y {
         out[d * YEARS + z] = row[z];
@@ -112,11 +111,12 @@ fn with_row(sums: [u64; 32], row: [u64; 8], y: usize, d: usize) -> [u64; 32]
 }
 
 // The row of year totals: what the winners of the four delivery years cost together.
-fn year_totals(sums: [u64; 32], y: usize) -> [u64; 8]
-    requires { ⌜ (y ≤ 8) × ((z : ℕ) → z < y → yearSum sums z ≤ mostSum) ⌝ }
-    ensures { λ r. ⌜ r ≡ filled (yearSum sums) y ⌝ }
+fn year_totals(of: Size, sums: [u64; 32]) -> [u64; COLUMNS]
+    requires { ⌜ (of .years ≤ 8) × ((z : ℕ) → z < of .years → yearSum sums z ≤ mostSum) ⌝ }
+    ensures { λ r. ⌜ r ≡ filled (yearSum sums) (of .years) ⌝ }
 {
-    let mut row = [0u64; 8];
+    let mut row = [0u64; COLUMNS];
+    let y = of.years;
     let mut z: usize = 0;
     while z < y {
         row[z] = sums[z] + sums[YEARS + z] + sums[2 * YEARS + z] + sums[3 * YEARS + z];
@@ -127,22 +127,23 @@ fn year_totals(sums: [u64; 32], y: usize) -> [u64; 8]
 
 impl PotState {
     // One pass over the bids that entered the auction.
-    pub fn look(self, rows: &[u64], list: &[usize], m: usize, c: usize) -> Look
-        requires { ⌜ Checked (now rows) m × Listed (now rows) m (now list) c × Others (now rows) m self ⌝ }
-        ensures { λ r. ⌜ Looked (now (rows .entry)) m self r ⌝ }
+    pub fn look(self, sheet: &Sheet, of: Size) -> Look
+        requires { ⌜ Ready (now sheet) of × Others (now sheet) of self ⌝ }
+        ensures { λ r. ⌜ Looked (now (sheet .entry)) of self r ⌝ }
     {
         let mut l = Look {
             price: names::NO_PRICE,
             count: 0,
             last: 0,
         };
+        let c = of.entered;
         let mut j: usize = 0;
         while j < c {
-            let i = list[j];
-            let a = sheet::app(rows, i);
-            let d = sheet::year(rows, i);
+            let i = sheet::entrant(sheet, j);
+            let a = sheet::app(sheet, i);
+            let d = sheet::year(sheet, i);
             if live(self.reasons[i], self.won[a], self.opened[d]) {
-                l = joined(l, sheet::price(rows, i), i);
+                l = joined(l, sheet::price(sheet, i), i);
             }
             j += 1;
         }
@@ -150,18 +151,19 @@ impl PotState {
     }
 
     // The live bids at price p.
-    fn taken(self, rows: &[u64], m: usize, p: u64) -> [bool; 320]
-        requires { ⌜ Checked (now rows) m ⌝ }
-        ensures { λ r. ⌜ r ≡ built (atOf (now (rows .entry)) self p) m ⌝ }
+    fn taken(self, sheet: &Sheet, of: Size, p: u64) -> [bool; 320]
+        requires { ⌜ Ready (now sheet) of ⌝ }
+        ensures { λ r. ⌜ r ≡ built (atOf (now (sheet .entry)) self p) (of .bids) ⌝ }
     {
         let mut set = [false; 320];
+        let m = of.bids;
         let mut i: usize = 0;
         while i < m {
-            let a = sheet::app(rows, i);
-            let d = sheet::year(rows, i);
+            let a = sheet::app(sheet, i);
+            let d = sheet::year(sheet, i);
             set[i] = at(
                 live(self.reasons[i], self.won[a], self.opened[d]),
-                sheet::price(rows, i),
+                sheet::price(sheet, i),
                 p,
             );
             i += 1;
@@ -170,12 +172,12 @@ impl PotState {
     }
 
     // Bid i wins at price p.
-    fn win(mut self, rows: &[u64], m: usize, i: usize, p: u64) -> PotState
-        requires { ⌜ Checked (now rows) m × (i < m) ⌝ }
-        ensures { λ r. ⌜ r ≡ winOf (now (rows .entry)) p i self ⌝ }
+    fn win(mut self, sheet: &Sheet, of: Size, i: usize, p: u64) -> PotState
+        requires { ⌜ Ready (now sheet) of × (i < of .bids) ⌝ }
+        ensures { λ r. ⌜ r ≡ winOf (now (sheet .entry)) p i self ⌝ }
     {
-        let a = sheet::app(rows, i);
-        let d = sheet::year(rows, i);
+        let a = sheet::app(sheet, i);
+        let d = sheet::year(sheet, i);
         self.reasons[i] = WON;
         self.won[a] = true;
         self.prices[d] = p;
@@ -183,26 +185,27 @@ impl PotState {
     }
 
     // Bid i is turned down for a reason, and its year closes.
-    fn turn(mut self, rows: &[u64], m: usize, i: usize, v: u16) -> PotState
-        requires { ⌜ Checked (now rows) m × (i < m) ⌝ }
-        ensures { λ r. ⌜ r ≡ turnOf (now (rows .entry)) v i self ⌝ }
+    fn turn(mut self, sheet: &Sheet, of: Size, i: usize, v: u16) -> PotState
+        requires { ⌜ Ready (now sheet) of × (i < of .bids) ⌝ }
+        ensures { λ r. ⌜ r ≡ turnOf (now (sheet .entry)) v i self ⌝ }
     {
-        let d = sheet::year(rows, i);
+        let d = sheet::year(sheet, i);
         self.reasons[i] = v;
         self.opened[d] = false;
         self
     }
 
-    // A trial: the bids of a set are added to the winners, and the clearing price of their years is p.
-    fn trial(self, rows: &[u64], m: usize, set: [bool; 320], p: u64) -> PotState
-        requires { ⌜ Checked (now rows) m ⌝ }
-        ensures { λ r. ⌜ r ≡ winAll (now (rows .entry)) p self (members set m) ⌝ }
+    // The bids of a set are added to the winners, and the clearing price of their years is p.
+    fn win_all(self, sheet: &Sheet, of: Size, set: [bool; 320], p: u64) -> PotState
+        requires { ⌜ Ready (now sheet) of ⌝ }
+        ensures { λ r. ⌜ r ≡ winAll (now (sheet .entry)) p self (members set (of .bids)) ⌝ }
     {
         let mut t = self;
+        let m = of.bids;
         let mut i: usize = 0;
         while i < m {
             if set[i] {
-                t = t.win(rows, m, i, p);
+                t = t.win(sheet, of, i, p);
             }
             i += 1;
         }
@@ -210,59 +213,84 @@ impl PotState {
     }
 
     // The winners that start in year d are revalued at its clearing price.
-    fn renewed(
-        mut self,
-        rows: &[u64],
-        figures: &[u64],
-        list: &[usize],
-        m: usize,
-        y: usize,
-        c: usize,
-        d: usize,
-    ) -> PotState
-        requires { ⌜ Valued (now rows) (now figures) m y × Listed (now rows) m (now list) c × (d < 4) ⌝ }
-        ensures { λ r. ⌜ r ≡ renewedOf (now (rows .entry)) (now (figures .entry)) m y d self ⌝ }
+    fn renewed(mut self, sheet: &Sheet, of: Size, d: usize) -> PotState
+        requires { ⌜ Ready (now sheet) of × (d < 4) ⌝ }
+        ensures { λ r. ⌜ r ≡ renewedOf (now (sheet .entry)) of d self ⌝ }
     {
         let marks = self.reasons;
         let price = self.prices[d];
-        let row = totals::part(rows, figures, list, marks, price, m, y, c, d);
+        let row = totals::part(sheet, of, marks, price, d);
         let sums = self.sums;
-        self.sums = with_row(sums, row, y, d);
+        self.sums = with_row(of, sums, row, d);
         self
     }
 
-    // Every winner is revalued.
-    fn all_renewed(
-        self,
-        rows: &[u64],
-        figures: &[u64],
-        list: &[usize],
-        m: usize,
-        y: usize,
-        c: usize,
-    ) -> PotState
-        requires { ⌜ Valued (now rows) (now figures) m y × Listed (now rows) m (now list) c ⌝ }
-        ensures { λ r. ⌜ r ≡ renewedTo (now (rows .entry)) (now (figures .entry)) m y self 4 ⌝ }
+    // The winners of every year are revalued.
+    fn all_renewed(self, sheet: &Sheet, of: Size) -> PotState
+        requires { ⌜ Ready (now sheet) of ⌝ }
+        ensures { λ r. ⌜ r ≡ renewedTo (now (sheet .entry)) of self 4 ⌝ }
     {
         let mut t = self;
         let mut d: usize = 0;
         while d < names::MOST_DELIVERIES {
-            t = t.renewed(rows, figures, list, m, y, c, d);
+            t = t.renewed(sheet, of, d);
             d += 1;
         }
         t
     }
 
+    // The row of year totals, from the sums.
+    fn totalled(mut self, of: Size) -> PotState
+        requires { ⌜ (of .years ≤ 8) × ((z : ℕ) → z < of .years → yearSum (self .sums) z ≤ mostSum) ⌝ }
+        ensures { λ r. ⌜ r ≡ totalledOf of self ⌝ }
+    {
+        let sums = self.sums;
+        let row = year_totals(of, sums);
+        self.totals = row;
+        self
+    }
+
+    // Every winner is revalued: the row of year totals.
+    fn revalued(self, sheet: &Sheet, of: Size) -> PotState
+        requires { ⌜ Ready (now sheet) of × (length (self .sums) ≡ 32) ⌝ }
+        ensures { λ r. ⌜ r ≡ revaluedOf (now (sheet .entry)) of self ⌝ }
+    {
+        let t = self.all_renewed(sheet, of);
+        t.totalled(of)
+    }
+
+    // A trial of one bid: it is added to the winners, the clearing price of its year is p, and the winners of that year are revalued, since no other's price
+    // has changed.
+    fn tried(self, sheet: &Sheet, of: Size, i: usize, p: u64) -> PotState
+        requires { ⌜ Ready (now sheet) of × (i < of .bids) × Summed (now sheet) of self ⌝ }
+        ensures { λ r. ⌜ r ≡ triedOf (now (sheet .entry)) of p i self ⌝ }
+    {
+        let d = sheet::year(sheet, i);
+        let u = self.win(sheet, of, i, p);
+        let t = u.renewed(sheet, of, d);
+        t.totalled(of)
+    }
+
+    // A trial of a set of bids.
+    fn trial(self, sheet: &Sheet, of: Size, set: [bool; 320], p: u64) -> PotState
+        requires { ⌜ Ready (now sheet) of × Summed (now sheet) of self ⌝ }
+        ensures { λ r. ⌜ r ≡ trialOf (now (sheet .entry)) of p set self ⌝ }
+    {
+        let t = self.win_all(sheet, of, set, p);
+        t.revalued(sheet, of)
+    }
+
     // The bids of a set are turned down for a reason, and their years close.
-    fn turn_all(self, rows: &[u64], m: usize, set: [bool; 320], v: u16) -> PotState
-        requires { ⌜ Checked (now rows) m ⌝ }
-        ensures { λ r. ⌜ r ≡ turnAll (now (rows .entry)) v self (members set m) ⌝ }
+    fn turn_all(self, sheet: &Sheet, of: Size, set: [bool; 320], v: u16) -> PotState
+        requires { ⌜ Ready (now sheet) of ⌝ }
+        ensures { λ r. ⌜ r ≡ turnAll (now (sheet .entry)) v self (members set (of .bids)) ⌝ }
     {
         let mut t = self;
+        let m = of.bids;
         let mut i: usize = 0;
         while i < m {
             if set[i] {
-                t = t.turn(rows, m, i, v);
+                t = t.turn(sheet, of, i, v);
             }
             i += 1;
         }
@@ -307,31 +335,31 @@ impl PotState {
     }
 
     // Is the sole next lowest live bid of bid i's application and year?
-    fn follows(self, rows: &[u64], list: &[usize], m: usize, c: usize, i: usize) -> bool
-        requires { ⌜ Checked (now rows) m × (i < m) × Listed (now rows) m (now list) c × Others (now rows) m self ⌝ }
-        ensures { λ r. ⌜ r ≡ followsOf (now (rows .entry)) m i self ⌝ }
+    fn follows(self, sheet: &Sheet, of: Size, i: usize) -> bool
+        requires { ⌜ Ready (now sheet) of × (i < of .bids) × Others (now sheet) of self ⌝ }
+        ensures { λ r. ⌜ r ≡ followsOf (now (sheet .entry)) of i self ⌝ }
     {
-        let l = self.look(rows, list, m, c);
+        let l = self.look(sheet, of);
         if l.count != 1 {
             return false;
         }
         let j = l.last;
-        let a = sheet::app(rows, i);
-        if sheet::app(rows, j) != a {
+        let a = sheet::app(sheet, i);
+        if sheet::app(sheet, j) != a {
             return false;
         }
-        let d = sheet::year(rows, i);
-        sheet::year(rows, j) == d
+        let d = sheet::year(sheet, i);
+        sheet::year(sheet, j) == d
     }
 
     // Bid i was taken alone and does not fit: 2.
-    fn alone(self, rows: &[u64], list: &[usize], m: usize, c: usize, i: usize) -> PotState
-        requires { ⌜ Checked (now rows) m × (i < m) × Listed (now rows) m (now list) c × Others (now rows) m self ⌝ }
-        ensures { λ r. ⌜ r ≡ aloneOf (now (rows .entry)) m i self ⌝ }
+    fn alone(self, sheet: &Sheet, of: Size, i: usize) -> PotState
+        requires { ⌜ Ready (now sheet) of × (i < of .bids) × Others (now sheet) of self ⌝ }
+        ensures { λ r. ⌜ r ≡ aloneOf (now (sheet .entry)) of i self ⌝ }
     {
         let t = self.turned(i);
-        let d = sheet::year(rows, i);
-        if t.follows(rows, list, m, c, i) {
+        let d = sheet::year(sheet, i);
+        if t.follows(sheet, of, i) {
             return t.hung(d);
         }
         t.shut(d)
@@ -345,143 +373,88 @@ impl PotState {
     }
 
     // Of the bids taken those chosen win; all others are turned down and their years close.
-    fn shared(self, rows: &[u64], m: usize, set: [bool; 320], wins: [bool; 320], p: u64) -> PotState
-        requires { ⌜ Checked (now rows) m ⌝ }
-        ensures { λ r. ⌜ r ≡ sharedOf (now (rows .entry)) m set wins p self ⌝ }
+    fn shared(self, sheet: &Sheet, of: Size, set: [bool; 320], wins: [bool; 320], p: u64) -> PotState
+        requires { ⌜ Ready (now sheet) of ⌝ }
+        ensures { λ r. ⌜ r ≡ sharedOf (now (sheet .entry)) of set wins p self ⌝ }
     {
-        let t = self.trial(rows, m, wins, p);
-        let outs = sets::others(set, wins, m);
-        let u = t.turn_all(rows, m, outs, TIED);
+        let t = self.win_all(sheet, of, wins, p);
+        let outs = sets::others(set, wins, of.bids);
+        let u = t.turn_all(sheet, of, outs, TIED);
         u.hung(NO_YEAR)
     }
 
     // Several were taken and do not fit together: 3.
-    fn tie(
-        self,
-        rows: &[u64],
-        figures: &[u64],
-        budgets: &[u64],
-        list: &[usize],
-        m: usize,
-        y: usize,
-        c: usize,
-        set: [bool; 320],
-        p: u64,
-    ) -> PotState
-        requires { ⌜ Ready (now rows) (now figures) (now budgets) 0 m y × Listed (now rows) m (now list) c ⌝ }
-        ensures { λ r. ⌜ r ≡ tieOf (now (rows .entry)) (now (figures .entry)) (now (budgets .entry)) m y set p self ⌝ }
+    fn tie(self, sheet: &Sheet, of: Size, set: [bool; 320], p: u64) -> PotState
+        requires { ⌜ Ready (now sheet) of × Summed (now sheet) of self ⌝ }
+        ensures { λ r. ⌜ r ≡ tieOf (now (sheet .entry)) of set p self ⌝ }
     {
         let marks = self.reasons;
         let prices = self.prices;
-        let base = ties::bases(rows, figures, marks, prices, p, m, y);
-        let rest = ties::rest(rows, figures, &base, budgets, set, p, m, y);
-        let k = sets::count(rest, m);
+        let base = ties::bases(sheet, of, marks, prices, p);
+        let rest = ties::rest(sheet, of, &base, set, p);
+        let k = sets::count(rest, of.bids);
         if k > names::WIDEST_TIE {
             return self.too_wide();
         }
-        let wins = ties::choose(rows, figures, &base, budgets, rest, k, p, m, y);
-        let t = self.shared(rows, m, set, wins, p);
-        t.all_renewed(rows, figures, list, m, y, c)
+        let wins = ties::choose(sheet, of, &base, rest, k, p);
+        let t = self.shared(sheet, of, set, wins, p);
+        t.revalued(sheet, of)
     }
 
     // One live bid alone has the lowest live price: is it won, or turned down?
-    fn sole(
-        self,
-        rows: &[u64],
-        figures: &[u64],
-        budgets: &[u64],
-        list: &[usize],
-        m: usize,
-        y: usize,
-        c: usize,
-        l: Look,
-    ) -> PotState
-        requires { ⌜ Seen (now rows) (now figures) (now budgets) (now list) m y c self l × (l .count ≡ 1) ⌝ }
-        ensures { λ r. ⌜ Onward (now (rows .entry)) (now (figures .entry)) (now (budgets .entry)) m y self r ⌝ }
+    fn sole(self, sheet: &Sheet, of: Size, l: Look) -> PotState
+        requires { ⌜ Seen (now sheet) of self l × (l .count ≡ 1) ⌝ }
+        ensures { λ r. ⌜ Onward (now (sheet .entry)) of self r ⌝ }
     {
         let i = l.last;
         let p = l.price;
-        let d = sheet::year(rows, i);
-        let u = self.win(rows, m, i, p);
-        let t = u.renewed(rows, figures, list, m, y, c, d);
-        let sums = t.sums;
-        let row = year_totals(sums, y);
-        if totals::within(row, budgets, y) {
+        let t = self.tried(sheet, of, i, p);
+        let row = t.totals;
+        if totals::within(sheet, of, row) {
             return t.settled();
         }
-        self.alone(rows, list, m, c, i)
+        self.alone(sheet, of, i)
     }
 
     // Several live bids have the lowest live price.
-    fn several(
-        self,
-        rows: &[u64],
-        figures: &[u64],
-        budgets: &[u64],
-        list: &[usize],
-        m: usize,
-        y: usize,
-        c: usize,
-        l: Look,
-    ) -> PotState
-        requires { ⌜ Seen (now rows) (now figures) (now budgets) (now list) m y c self l × (l .count ≡ 1 → ⊥) ⌝ }
-        ensures { λ r. ⌜ Onward (now (rows .entry)) (now (figures .entry)) (now (budgets .entry)) m y self r ⌝ }
+    fn several(self, sheet: &Sheet, of: Size, l: Look) -> PotState
+        requires { ⌜ Seen (now sheet) of self l × (l .count ≡ 1 → ⊥) ⌝ }
+        ensures { λ r. ⌜ Onward (now (sheet .entry)) of self r ⌝ }
     {
         let p = l.price;
-        let set = self.taken(rows, m, p);
-        let u = self.trial(rows, m, set, p);
-        let t = u.all_renewed(rows, figures, list, m, y, c);
-        let sums = t.sums;
-        let row = year_totals(sums, y);
-        if totals::within(row, budgets, y) {
+        let set = self.taken(sheet, of, p);
+        let t = self.trial(sheet, of, set, p);
+        let row = t.totals;
+        if totals::within(sheet, of, row) {
             return t.settled();
         }
-        self.tie(rows, figures, budgets, list, m, y, c, set, p)
+        self.tie(sheet, of, set, p)
     }
 
     // One look at all live bids of the lowest live price.
-    pub fn step(
-        self,
-        rows: &[u64],
-        figures: &[u64],
-        budgets: &[u64],
-        list: &[usize],
-        m: usize,
-        y: usize,
-        c: usize,
-        l: Look,
-    ) -> PotState
-        requires { ⌜ Seen (now rows) (now figures) (now budgets) (now list) m y c self l ⌝ }
-        ensures { λ r. ⌜ Onward (now (rows .entry)) (now (figures .entry)) (now (budgets .entry)) m y self r ⌝ }
+    pub fn step(self, sheet: &Sheet, of: Size, l: Look) -> PotState
+        requires { ⌜ Seen (now sheet) of self l ⌝ }
+        ensures { λ r. ⌜ Onward (now (sheet .entry)) of self r ⌝ }
     {
         if l.count == 1 {
-            return self.sole(rows, figures, budgets, list, m, y, c, l);
+            return self.sole(sheet, of, l);
         }
-        self.several(rows, figures, budgets, list, m, y, c, l)
+        self.several(sheet, of, l)
     }
 
     // Looks while a bid is live, and to the first tie that is too wide.
-    pub fn run(
-        self,
-        rows: &[u64],
-        figures: &[u64],
-        budgets: &[u64],
-        list: &[usize],
-        m: usize,
-        y: usize,
-        c: usize,
-    ) -> PotState
-        requires { ⌜ Ready (now rows) (now figures) (now budgets) 0 m y × Listed (now rows) m (now list) c × Summed (now rows) (now figures) m y self × ((b : ℕ) → b ≤ m → Stands (potIn (now rows) (now figures) (now budgets) b m y) [] self) ⌝ }
-        ensures { λ r. ⌜ ((b : ℕ) → b ≤ m → Stands (potIn (now (rows .entry)) (now (figures .entry)) (now (budgets .entry)) b m y) (auction (potIn (now (rows .entry)) (now (figures .entry)) (now (budgets .entry)) b m y)) r) ⌝ }
+    pub fn run(self, sheet: &Sheet, of: Size) -> PotState
+        requires { ⌜ Ready (now sheet) of × Summed (now sheet) of self × Stands (potIn (now sheet) of) [] self ⌝ }
+        ensures { λ r. ⌜ Stands (potIn (now (sheet .entry)) of) (auction (potIn (now (sheet .entry)) of)) r × Summed (now (sheet .entry)) of r ⌝ }
     {
         let mut s = self;
-        let mut l = s.look(rows, list, m, c);
+        let mut l = s.look(sheet, of);
         while l.price < names::NO_PRICE {
-            s = s.step(rows, figures, budgets, list, m, y, c, l);
+            s = s.step(sheet, of, l);
             if s.wide {
                 return s;
             }
-            l = s.look(rows, list, m, c);
+            l = s.look(sheet, of);
         }
         s
     }
@@ -499,14 +472,15 @@ fn first_mark(standing: u64) -> u16
 }
 
 // No bid has been looked at: those that are not of this auction are marked so.
-pub fn started(rows: &[u64], m: usize) -> PotState
-    requires { ⌜ Checked (now rows) m ⌝ }
-    ensures { λ r. ⌜ r ≡ startedOf (now (rows .entry)) m ⌝ }
+pub fn started(sheet: &Sheet, of: Size) -> PotState
+    requires { ⌜ Ready (now sheet) of ⌝ }
+    ensures { λ r. ⌜ r ≡ startedOf (now (sheet .entry)) (of .bids) ⌝ }
 {
     let mut reasons = [OTHER; 320];
+    let m = of.bids;
     let mut i: usize = 0;
     while i < m {
-        reasons[i] = first_mark(sheet::standing(rows, i));
+        reasons[i] = first_mark(sheet::standing(sheet, i));
         i += 1;
     }
     PotState {
@@ -515,36 +489,17 @@ pub fn started(rows: &[u64], m: usize) -> PotState
         opened: [true; 4],
         prices: [names::NO_PRICE; 4],
         sums: [0; 32],
+        totals: [0; COLUMNS],
         hang: NO_YEAR,
         wide: false,
     }
 }
 
-// The bids that entered the auction.
-fn entered(rows: &[u64], m: usize) -> Entrants
-    requires { ⌜ Checked (now rows) m ⌝ }
-    ensures { λ r. ⌜ Listed (now (rows .entry)) m (r .list) (r .count) ⌝ }
-{
-    let mut list = [0usize; 320];
-    let mut count: usize = 0;
-    let mut i: usize = 0;
-    while i < m {
-        if sheet::standing(rows, i) == sheet::ENTERED {
-            list[count] = i;
-            count += 1;
-        }
-        i += 1;
-    }
-    Entrants { list, count }
-}
-
 // The auction of a pot.
-pub fn auction(rows: &[u64], figures: &[u64], budgets: &[u64], m: usize, y: usize) -> PotState
-    requires { ⌜ Ready (now rows) (now figures) (now budgets) 0 m y ⌝ }
-    ensures { λ r. ⌜ ((b : ℕ) → b ≤ m → Stands (potIn (now (rows .entry)) (now (figures .entry)) (now (budgets .entry)) b m y) (auction (potIn (now (rows .entry)) (now (figures .entry)) (now (budgets .entry)) b m y)) r) ⌝ }
+pub fn auction(sheet: &Sheet, of: Size) -> PotState
+    requires { ⌜ Ready (now sheet) of ⌝ }
+    ensures { λ r. ⌜ Stands (potIn (now (sheet .entry)) of) (auction (potIn (now (sheet .entry)) of)) r × Summed (now (sheet .entry)) of r ⌝ }
 {
-    let e = entered(rows, m);
-    let list = e.list;
-    let s = started(rows, m);
-    s.run(rows, figures, budgets, &list, m, y, e.count)
+    let s = started(sheet, of);
+    s.run(sheet, of)
 }

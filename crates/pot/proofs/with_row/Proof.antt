@@ -10,10 +10,10 @@ use Rattle.pot.proofs.with_row.Statement.{statement}
 use Rattle.pot.proofs.with_row.Tie as tie
 
 abbrev Inv-loop : tie.InvT-loop
-Inv-loop y d row out₀ z₀ out z = (z ≤ y) × (out ≡ laidTo out₀ row d z)
+Inv-loop d row out₀ y z₀ out z = (z ≤ y) × (out ≡ laidTo out₀ row d z)
 
 abbrev μ-loop : tie.MeasureT-loop
-μ-loop y d row out₀ z₀ out z = y - z
+μ-loop d row out₀ y z₀ out z = y - z
 
 loop-holds : tie.Need-loop-holds Inv-loop μ-loop
 unfolding laidTo

@@ -12,10 +12,10 @@ use Rattle.pot.proofs.year_totals.Statement.{statement}
 use Rattle.pot.proofs.year_totals.Tie as tie
 
 abbrev Inv-loop : tie.InvT-loop
-Inv-loop y sums row₀ z₀ row z = (z ≤ y) × (row ≡ filled (yearSum sums) z)
+Inv-loop sums row₀ y z₀ row z = (z ≤ y) × (row ≡ filled (yearSum sums) z)
 
 abbrev μ-loop : tie.MeasureT-loop
-μ-loop y sums row₀ z₀ row z = y - z
+μ-loop sums row₀ y z₀ row z = y - z
 
 loop-holds : tie.Need-loop-holds Inv-loop μ-loop
 unfolding fill noRow

@@ -10,20 +10,20 @@ use Rattle.pot.proofs.PotState.all_renewed.Statement.{statement}
 use Rattle.pot.proofs.PotState.all_renewed.Tie as tie
 
 abbrev Inv-loop : tie.InvT-loop
-Inv-loop rows figures list m y c t₀ d₀ t d = (d ≤ 4) × (t ≡ renewedTo rows figures m y t₀ d)
+Inv-loop sheet of t₀ d₀ t d = (d ≤ 4) × (t ≡ renewedTo sheet of t₀ d)
 
 abbrev μ-loop : tie.MeasureT-loop
-μ-loop rows figures list m y c t₀ d₀ t d = 4 - d
+μ-loop sheet of t₀ d₀ t d = 4 - d
 
 loop-holds : tie.Need-loop-holds Inv-loop μ-loop
 unfolding renewedTo
 loop-holds c = search needs
 
 loop-again : tie.Need-loop-again Inv-loop μ-loop
-loop-again c = (omega arith, renewed-next _ _ _ _ _ _ (c .before .before .loop .inv .1) (c .renewed .ensures))
+loop-again c = (omega arith, renewed-next _ _ _ _ (c .before .before .loop .inv .1) (c .renewed .ensures))
 
 returns : tie.Need-returns Inv-loop μ-loop
-returns c = done (renewedTo _ _ _ _ _) (c .before .loop .inv .1) (c .before .loop .inv .0) (c .loop-test .left)
+returns c = done (renewedTo _ _ _) (c .before .loop .inv .1) (c .before .loop .inv .0) (c .loop-test .left)
 
 pub all-renewed-spec : {M : Type 1} → statement M
 all-renewed-spec =

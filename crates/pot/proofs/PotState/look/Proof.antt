@@ -5,8 +5,8 @@ use Prim.Native.Nat.{_≤_, _-_}
 use mathlib.Core.Path.{_≡_, _∙_}
 use mathlib.Core.Logic.{⊎-elim}
 use Rattle.rules.specs.Lists.{sift}
-use Rattle.totals.specs.Totals.{listed}
-use Rattle.totals.proofs.Listed.{listed-small, listed-few}
+use Rattle.sheet.specs.Sheet.{entrants}
+use Rattle.sheet.proofs.Entrants.{entrant-small, entrants-few}
 use Rattle.pot.specs.Marks.{liveOf, lookOf}
 use Rattle.pot.proofs.Laws.{app-ok, year-ok, live-is}
 use Rattle.pot.proofs.Seen.{pass-hit, pass-miss, pass-few, pass-looked}
@@ -14,55 +14,55 @@ use Rattle.pot.proofs.PotState.look.Statement.{statement}
 use Rattle.pot.proofs.PotState.look.Tie as tie
 
 abbrev Inv-loop : tie.InvT-loop
-Inv-loop rows list m c self l₀ j₀ l j = (j ≤ c) × (l ≡ lookOf rows (sift (liveOf rows self) (listed list j)))
+Inv-loop sheet self l₀ c j₀ l j = (j ≤ c) × (l ≡ lookOf sheet (sift (liveOf sheet self) (entrants sheet j)))
 
 abbrev μ-loop : tie.MeasureT-loop
-μ-loop rows list m c self l₀ j₀ l j = c - j
+μ-loop sheet self l₀ c j₀ l j = c - j
 
 loop-holds : tie.Need-loop-holds Inv-loop μ-loop
-unfolding lookOf listed
+unfolding lookOf entrants
 loop-holds c = search needs
 
-shared-slice-read-i : tie.Need-shared-slice-read-i Inv-loop μ-loop
-shared-slice-read-i c = omega (arith, c .before .before .before .before .before .pre .1 .room)
+entrant-requires : tie.Need-entrant-requires Inv-loop μ-loop
+entrant-requires c κs = omega (arith, c .loop-test .taken, entrants-few (c .before .before .pre .0), c .before .before .pre .0 .few)
 
 app-requires : tie.Need-app-requires Inv-loop μ-loop
-app-requires c κs = omega (arith, listed-small (c .before .before .before .before .before .pre .1) _ (c .before .loop-test .taken), c .before .before .before .before .before .pre .0 .rows-whole)
+app-requires c κs = omega (arith, c .entrant .ensures, entrant-small (c .before .before .before .pre .0) _ (c .before .loop-test .taken), c .before .before .before .pre .0 .few)
 
 year-requires : tie.Need-year-requires Inv-loop μ-loop
-year-requires c κs = omega (arith, listed-small (c .before .before .before .before .before .before .pre .1) _ (c .before .before .loop-test .taken), c .before .before .before .before .before .before .pre .0 .rows-whole)
+year-requires c κs = omega (arith, c .before .entrant .ensures, entrant-small (c .before .before .before .before .pre .0) _ (c .before .before .loop-test .taken), c .before .before .before .before .pre .0 .few)
 
 mul-live : tie.Need-mul-live Inv-loop μ-loop
-mul-live c = omega (arith, listed-small (c .before .before .before .before .before .before .before .pre .1) _ (c .before .before .before .loop-test .taken), c .before .before .before .before .before .before .before .pre .0 .few)
+mul-live c = omega (arith, c .before .before .entrant .ensures, entrant-small (c .before .before .before .before .before .pre .0) _ (c .before .before .before .loop-test .taken), c .before .before .before .before .before .pre .0 .few)
 
 element-copy-out-live : tie.Need-element-copy-out-live Inv-loop μ-loop
-element-copy-out-live c = omega (arith, listed-small (c .before .before .before .before .before .before .before .pre .1) _ (c .before .before .before .loop-test .taken), c .before .before .before .before .before .before .before .pre .0 .few)
+element-copy-out-live c = omega (arith, c .before .before .entrant .ensures, entrant-small (c .before .before .before .before .before .pre .0) _ (c .before .before .before .loop-test .taken), c .before .before .before .before .before .pre .0 .few)
 
 element-copy-out-live-2 : tie.Need-element-copy-out-live-2 Inv-loop μ-loop
-element-copy-out-live-2 c = app-ok _ (c .before .before .before .before .before .before .before .before .pre .0) (listed-small (c .before .before .before .before .before .before .before .before .pre .1) _ (c .before .before .before .before .loop-test .taken)) (c .before .before .app .ensures)
+element-copy-out-live-2 c = app-ok _ (c .before .before .before .before .before .before .pre .0) (omega (arith, c .before .before .before .entrant .ensures, entrant-small (c .before .before .before .before .before .before .pre .0) _ (c .before .before .before .before .loop-test .taken))) (c .before .before .app .ensures)
 
 element-copy-out-live-3 : tie.Need-element-copy-out-live-3 Inv-loop μ-loop
-element-copy-out-live-3 c = year-ok _ (c .before .before .before .before .before .before .before .before .before .pre .0) (listed-small (c .before .before .before .before .before .before .before .before .before .pre .1) _ (c .before .before .before .before .before .loop-test .taken)) (c .before .before .year .ensures)
+element-copy-out-live-3 c = year-ok _ (c .before .before .before .before .before .before .before .pre .0) (omega (arith, c .before .before .before .before .entrant .ensures, entrant-small (c .before .before .before .before .before .before .before .pre .0) _ (c .before .before .before .before .before .loop-test .taken))) (c .before .before .year .ensures)
 
 price-requires : tie.Need-price-requires Inv-loop μ-loop
-price-requires c κs = omega (arith, listed-small (c .before .before .before .before .before .before .before .before .before .before .before .before .pre .1) _ (c .before .before .before .before .before .before .before .before .loop-test .taken), c .before .before .before .before .before .before .before .before .before .before .before .before .pre .0 .rows-whole)
+price-requires c κs = omega (arith, c .before .before .before .before .before .before .before .entrant .ensures, entrant-small (c .before .before .before .before .before .before .before .before .before .before .pre .0) _ (c .before .before .before .before .before .before .before .before .loop-test .taken), c .before .before .before .before .before .before .before .before .before .before .pre .0 .few)
 
 joined-requires : tie.Need-joined-requires Inv-loop μ-loop
-joined-requires c κs = omega (arith, pass-few _ _ _ _ (c .before .before .before .before .before .before .before .before .before .before .loop .inv .1), listed-few (c .before .before .before .before .before .before .before .before .before .before .before .before .before .pre .1), c .before .before .before .before .before .before .before .before .before .before .before .before .before .pre .0 .few)
+joined-requires c κs = omega (arith, pass-few _ _ _ (c .before .before .before .before .before .before .before .before .before .before .loop .inv .1), entrants-few (c .before .before .before .before .before .before .before .before .before .before .before .pre .0), c .before .before .before .before .before .before .before .before .before .before .before .pre .0 .few)
 
 loop-again : tie.Need-loop-again Inv-loop μ-loop
 loop-again c =
-    let inv = c .before .before .before .before .before .before .before .before .before .loop .inv .1 in (
+    let inv = c .before .before .before .before .before .before .before .before .before .loop .inv .1 in
+    let alive = live-is _ _ _ (c .before .before .before .before .before .before .app .ensures) (c .before .before .before .before .before .year .ensures) (c .before .live .ensures) in (
       omega arith,
-      let alive = live-is _ _ _ (c .before .before .before .before .before .before .app .ensures) (c .before .before .before .before .before .year .ensures) (c .before .live .ensures) in
-          ⊎-elim (λ w. w .3 ∙ pass-hit _ _ _ _ inv alive (w .0 .taken) (w .1 .ensures) (w .2 .ensures)) (λ w. w .1 ∙ pass-miss _ _ _ _ inv alive (w .0 .left)) (c .if1 .came),
+      ⊎-elim (λ w. w .3 ∙ pass-hit _ _ _ inv (c .before .before .before .before .before .before .before .entrant .ensures) alive (w .0 .taken) (w .1 .ensures) (w .2 .ensures)) (λ w. w .1 ∙ pass-miss _ _ _ inv (c .before .before .before .before .before .before .before .entrant .ensures) alive (w .0 .left)) (c .if1 .came),
     )
 
 returns : tie.Need-returns Inv-loop μ-loop
-returns c = pass-looked _ _ _ (c .before .before .before .before .pre .0) (c .before .before .before .before .pre .1) (c .before .before .before .before .pre .2) (c .before .loop .inv .1) (c .before .loop .inv .0) (c .loop-test .left)
+returns c = pass-looked _ _ _ (c .before .before .pre .0) (c .before .before .pre .1) (c .before .loop .inv .1) (c .before .loop .inv .0) (c .loop-test .left)
 
 pub look-spec : {M : Type 1} → statement M
 look-spec =
-    tie.close (tie.spec Inv-loop μ-loop loop-holds (λ c. search needs) shared-slice-read-i app-requires year-requires mul-live
+    tie.close (tie.spec Inv-loop μ-loop loop-holds entrant-requires app-requires year-requires mul-live
     element-copy-out-live element-copy-out-live-2 element-copy-out-live-3 (λ c κs. search needs) price-requires joined-requires (λ c. omega arith)
     (λ c. omega arith) loop-again returns)

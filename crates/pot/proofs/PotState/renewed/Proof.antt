@@ -5,13 +5,13 @@ use Rattle.pot.proofs.PotState.renewed.Statement.{statement}
 use Rattle.pot.proofs.PotState.renewed.Tie as tie
 
 part-requires : tie.Need-part-requires
-part-requires c κs = let pre = c .before .before .before .before .before .pre in (pre .0, pre .1)
+part-requires c κs = c .before .before .pre .0
 
 with-row-requires : tie.Need-with-row-requires
-with-row-requires c κs = let pre = c .before .before .before .before .before .before .before .pre in (pre .0 .years, pre .2)
+with-row-requires c κs = (c .before .before .before .before .pre .0 .years, c .before .before .before .before .pre .1)
 
 returns : tie.Need-returns
-returns c = renewed-is _ _ _ _ _ _ (c .before .before .part .ensures) (c .with-row .ensures)
+returns c = renewed-is _ _ _ _ (c .before .before .part .ensures) (c .with-row .ensures)
 
 pub renewed-spec : {M : Type 1} → statement M
 renewed-spec =

@@ -11,20 +11,20 @@ use Rattle.pot.proofs.PotState.taken.Statement.{statement}
 use Rattle.pot.proofs.PotState.taken.Tie as tie
 
 abbrev Inv-loop : tie.InvT-loop
-Inv-loop rows m p self set₀ i₀ l i = (i ≤ m) × (l ≡ built (atOf rows self p) i)
+Inv-loop sheet p self set₀ m i₀ l i = (i ≤ m) × (l ≡ built (atOf sheet self p) i)
 
 abbrev μ-loop : tie.MeasureT-loop
-μ-loop rows m p self set₀ i₀ l i = m - i
+μ-loop sheet p self set₀ m i₀ l i = m - i
 
 loop-holds : tie.Need-loop-holds Inv-loop μ-loop
 unfolding fill none
 loop-holds c = search needs
 
 element-copy-out-live-2 : tie.Need-element-copy-out-live-2 Inv-loop μ-loop
-element-copy-out-live-2 c = app-ok _ (c .before .before .before .before .before .before .pre) (c .before .before .before .loop-test .taken) (c .before .before .app .ensures)
+element-copy-out-live-2 c = app-ok _ (c .before .before .before .before .before .pre) (c .before .before .before .loop-test .taken) (c .before .before .app .ensures)
 
 element-copy-out-live-3 : tie.Need-element-copy-out-live-3 Inv-loop μ-loop
-element-copy-out-live-3 c = year-ok _ (c .before .before .before .before .before .before .before .pre) (c .before .before .before .before .loop-test .taken) (c .before .before .year .ensures)
+element-copy-out-live-3 c = year-ok _ (c .before .before .before .before .before .before .pre) (c .before .before .before .before .loop-test .taken) (c .before .before .year .ensures)
 
 loop-again : tie.Need-loop-again Inv-loop μ-loop
 loop-again c = (omega arith, fill-next _ _ _ (c .before .before .before .before .before .before .before .before .before .loop .inv .1) (at-is _ _ _ (c .before .before .before .before .before .before .before .app .ensures) (c .before .before .before .before .before .before .year .ensures) (c .before .before .live .ensures) _ (c .before .price .ensures) (c .at .ensures)))

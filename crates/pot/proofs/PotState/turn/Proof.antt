@@ -5,7 +5,7 @@ use Rattle.pot.proofs.PotState.turn.Statement.{statement}
 use Rattle.pot.proofs.PotState.turn.Tie as tie
 
 element-write-self-2 : tie.Need-element-write-self-2
-element-write-self-2 c = year-ok _ (c .before .before .pre .0) (c .before .before .pre .1) (c .year .ensures)
+element-write-self-2 c = year-ok _ (c .before .pre .0) (c .before .pre .1) (c .year .ensures)
 
 returns : tie.Need-returns
 returns c = turn-is _ _ _ _ (c .year .ensures)

@@ -12,10 +12,10 @@ use Rattle.pot.proofs.PotState.turn_all.Statement.{statement}
 use Rattle.pot.proofs.PotState.turn_all.Tie as tie
 
 abbrev Inv-loop : tie.InvT-loop
-Inv-loop rows m v l t₀ i₀ t i = (i ≤ m) × (t ≡ turnAll rows v t₀ (members l i))
+Inv-loop sheet of v l t₀ m i₀ t i = (i ≤ m) × (t ≡ turnAll sheet v t₀ (members l i))
 
 abbrev μ-loop : tie.MeasureT-loop
-μ-loop rows m v l t₀ i₀ t i = m - i
+μ-loop sheet of v l t₀ m i₀ t i = m - i
 
 loop-holds : tie.Need-loop-holds Inv-loop μ-loop
 unfolding turnAll members

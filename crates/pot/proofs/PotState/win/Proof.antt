@@ -7,13 +7,13 @@ use Rattle.pot.proofs.PotState.win.Statement.{statement}
 use Rattle.pot.proofs.PotState.win.Tie as tie
 
 element-write-self-2 : tie.Need-element-write-self-2
-element-write-self-2 c = app-ok _ (c .before .before .before .pre .0) (c .before .before .before .pre .1) (c .before .app .ensures)
+element-write-self-2 c = app-ok _ (c .before .before .pre .0) (c .before .before .pre .1) (c .before .app .ensures)
 
 mul-self-2 : tie.Need-mul-self-2
-mul-self-2 c = let h : c .year .result < 4 = year-ok _ (c .before .before .before .pre .0) (c .before .before .before .pre .1) (c .year .ensures) in omega arith
+mul-self-2 c = let h : c .year .result < 4 = year-ok _ (c .before .before .pre .0) (c .before .before .pre .1) (c .year .ensures) in omega arith
 
 element-write-self-3 : tie.Need-element-write-self-3
-element-write-self-3 c = year-ok _ (c .before .before .before .pre .0) (c .before .before .before .pre .1) (c .year .ensures)
+element-write-self-3 c = year-ok _ (c .before .before .pre .0) (c .before .before .pre .1) (c .year .ensures)
 
 returns : tie.Need-returns
 returns c = win-is _ _ _ _ (c .year .ensures) (c .before .app .ensures)

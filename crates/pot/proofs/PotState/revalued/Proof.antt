@@ -1,0 +1,15 @@
+-- `pot::PotState::revalued` meets its contract.
+use borrow.Author.Needs.{needs}
+use Rattle.pot.proofs.Sums.{parted-renewed, sum-most, revalued-is}
+use Rattle.pot.proofs.PotState.revalued.Statement.{statement}
+use Rattle.pot.proofs.PotState.revalued.Tie as tie
+
+totalled-requires : tie.Need-totalled-requires
+totalled-requires c κs = let pre = c .before .pre in (pre .0 .years, λ z h. sum-most (parted-renewed _ _ _ (pre .1) (pre .0 .years) (c .all-renewed .ensures)) z h (pre .0))
+
+returns : tie.Need-returns
+returns c = revalued-is _ _ _ (c .before .all-renewed .ensures) (c .totalled .ensures)
+
+pub revalued-spec : {M : Type 1} → statement M
+revalued-spec =
+    tie.close (tie.spec (λ c κs. search needs) totalled-requires returns)
