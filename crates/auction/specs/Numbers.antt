@@ -6,6 +6,7 @@ use lib.ListN.{getD, set, replicate}
 use lib.Dec.{eqb, ltb}
 use Rattle.rules.specs.Names.{auctioned, noPrice, noBid, noReason, becauseWon, unlookedWon, unlookedElse}
 use Rattle.rules.specs.Lists.{pick}
+use Rattle.sheet.specs.declared.Size.{Size}
 use Rattle.sheet.specs.Sheet.{rowApp, rowYear, rowCap}
 use Rattle.sets.specs.Sets.{fill}
 use Rattle.pot.specs.declared.PotState.{PotState}
@@ -18,26 +19,26 @@ reasonBy mark won = pick (eqb mark noReason) (pick won unlookedWon unlookedElse)
 unfoldable pub noReasons : List ℕ
 noReasons = replicate 320 0
 
-unfoldable pub reasonAt : (rows marks : List ℕ) → List Bool → ℕ → ℕ
-reasonAt rows marks won k = reasonBy (getD marks k 0) (getD won (rowApp rows k) false)
+unfoldable pub reasonAt : (sheet marks : List ℕ) → List Bool → ℕ → ℕ
+reasonAt sheet marks won k = reasonBy (getD marks k 0) (getD won (rowApp sheet k) false)
 
-abbrev pub reasonsOf : (rows marks : List ℕ) → List Bool → ℕ → List ℕ
-reasonsOf rows marks won m = fill noReasons (reasonAt rows marks won) m
+abbrev pub reasonsOf : (sheet marks : List ℕ) → List Bool → ℕ → List ℕ
+reasonsOf sheet marks won n = fill noReasons (reasonAt sheet marks won) n
 
 -- the winning bid of each application, among the bids below m
-unfoldable pub winningOf : (rows marks : List ℕ) → ℕ → List ℕ
-winningOf rows marks zero = replicate 64 noBid
-winningOf rows marks (suc k) = pick (eqb (getD marks k 0) becauseWon) (set (winningOf rows marks k) (rowApp rows k) k) (winningOf rows marks k)
+unfoldable pub winningOf : (sheet marks : List ℕ) → ℕ → List ℕ
+winningOf sheet marks zero = replicate 64 noBid
+winningOf sheet marks (suc k) = pick (eqb (getD marks k 0) becauseWon) (set (winningOf sheet marks k) (rowApp sheet k) k) (winningOf sheet marks k)
 
 -- what the winning bid w is paid, where the bids are numbered below m
-unfoldable pub payOf : (rows prices : List ℕ) → (m w : ℕ) → ℕ
-payOf rows prices m w = pick (ltb w m) (min (getD prices (rowYear rows w) 0) (rowCap rows w)) 0
+unfoldable pub payOf : (sheet : List ℕ) (of : Size) (prices : List ℕ) (w : ℕ) → ℕ
+payOf sheet of prices w = pick (ltb w (of .bids)) (min (getD prices (rowYear sheet w) 0) (rowCap sheet w)) 0
 
 unfoldable pub noPay : List ℕ
 noPay = replicate 64 0
 
-abbrev pub paidOf : (rows prices bids : List ℕ) → (m : ℕ) → List ℕ
-paidOf rows prices bids m = fill noPay (λ a. payOf rows prices m (getD bids a 0)) 64
+abbrev pub paidOf : (sheet : List ℕ) (of : Size) (prices bids : List ℕ) → List ℕ
+paidOf sheet of prices bids = fill noPay (λ a. payOf sheet of prices (getD bids a 0)) 64
 
 -- outcomes 0 and 2: no price, no winning bid, one reason for all bids
 unfoldable pub flatOf : (outcome : ℕ) → (totals : List ℕ) → (reason : ℕ) → Cleared
@@ -50,13 +51,13 @@ flatOf outcome totals reason = record {
   paid = replicate 64 0;
 }
 
--- outcome 1, from the arrays and the row of totals
-unfoldable pub toldOf : (rows : List ℕ) (m : ℕ) → PotState → (totals : List ℕ) → Cleared
-toldOf rows m s totals = record {
+-- outcome 1, from the state
+unfoldable pub toldOf : (sheet : List ℕ) (of : Size) → PotState → Cleared
+toldOf sheet of s = record {
   outcome = auctioned;
   prices = s .prices;
-  totals = totals;
-  reasons = reasonsOf rows (s .reasons) (s .won) m;
-  bids = winningOf rows (s .reasons) m;
-  paid = paidOf rows (s .prices) (winningOf rows (s .reasons) m) m;
+  totals = s .totals;
+  reasons = reasonsOf sheet (s .reasons) (s .won) (of .bids);
+  bids = winningOf sheet (s .reasons) (of .bids);
+  paid = paidOf sheet of (s .prices) (winningOf sheet (s .reasons) (of .bids));
 }

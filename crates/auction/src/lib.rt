@@ -2,8 +2,8 @@
 // specs/Numbers.antt what each function computes.
 ghost use mathlib.Core.Path.{_≡_};
 ghost use Prim.Native.Nat.{_+_, _<_};
-ghost use Rattle.totals.specs.Totals.{Checked, Valued, totalOf, filled};
 use pot::PotState;
+use sheet::{Sheet, Size, COLUMNS};
 ghost use Rattle.sheet.specs.Sheet.{potIn, Ready};
 ghost use Rattle.auction.specs.Cleared.{ClearedAs};
 ghost use Rattle.auction.specs.Numbers.{reasonBy, reasonsOf, winningOf, payOf, paidOf, flatOf, toldOf};
@@ -13,7 +13,7 @@ ghost use Rattle.auction.specs.Numbers.{reasonBy, reasonsOf, winningOf, 
 pub struct Cleared {
     pub outcome: u64,
     pub prices: [u64; 4],
-    pub totals: [u64; 8],
+    pub totals: [u64; COLUMNS],
     pub reasons: [u64; 320],
     pub bids: [u64; 64],
     pub paid: [u64; 64],
@@ -33,31 +33,33 @@ fn reason(mark: u16, won: bool) -> u64
     }
 }
 
-// The reasons of m bids.
-fn reasons(rows: &[u64], marks: [u16; 320], won: [bool; 64], m: usize) -> [u64; 320]
-    requires { ⌜ Checked (now rows) m ⌝ }
-    ensures { λ r. ⌜ r ≡ reasonsOf (now (rows .entry)) marks won m ⌝ }
+// The reasons of all bids.
+fn reasons(sheet: &Sheet, of: Size, marks: [u16; 320], won: [bool; 64]) -> [u64; 320]
+    requires { ⌜ Ready (now sheet) of ⌝ }
+    ensures { λ r. ⌜ r ≡ reasonsOf (now (sheet .entry)) marks won (of .bids) ⌝ }
 {
     let mut out = [0u64; 320];
+    let m = of.bids;
     let mut k: usize = 0;
     while k < m {
-        let a = sheet::app(rows, k);
+        let a = sheet::app(sheet, k);
         out[k] = reason(marks[k], won[a]);
         k += 1;
     }
     out
 }
 
-// The number of each application's winning bid, among m bids.
-fn winning(rows: &[u64], marks: [u16; 320], m: usize) -> [u64; 64]
-    requires { ⌜ Checked (now rows) m ⌝ }
-    ensures { λ r. ⌜ r ≡ winningOf (now (rows .entry)) marks m ⌝ }
+// The number of each application's winning bid.
+fn winning(sheet: &Sheet, of: Size, marks: [u16; 320]) -> [u64; 64]
+    requires { ⌜ Ready (now sheet) of ⌝ }
+    ensures { λ r. ⌜ r ≡ winningOf (now (sheet .entry)) marks (of .bids) ⌝ }
 {
     let mut out = [names::NO_BID; 64];
+    let m = of.bids;
     let mut k: usize = 0;
     while k < m {
         if marks[k] == totals::WON {
-            let a = sheet::app(rows, k);
+            let a = sheet::app(sheet, k);
             out[a] = k as u64;
         }
         k += 1;
@@ -66,33 +68,33 @@ fn winning(rows: &[u64], marks: [u16; 320], m: usize) -> [u64; 64]
 }
 
 // What the winning bid w is paid: its year's clearing price, capped.
-fn pay(rows: &[u64], prices: [u64; 4], m: usize, w: u64) -> u64
-    requires { ⌜ Checked (now rows) m ⌝ }
-    ensures { λ r. ⌜ r ≡ payOf (now (rows .entry)) prices m w ⌝ }
+fn pay(sheet: &Sheet, of: Size, prices: [u64; 4], w: u64) -> u64
+    requires { ⌜ Ready (now sheet) of ⌝ }
+    ensures { λ r. ⌜ r ≡ payOf (now (sheet .entry)) of prices w ⌝ }
 {
     let k = w as usize;
-    if k < m {
-        let d = sheet::year(rows, k);
-        return value::capped(prices[d], sheet::cap(rows, k));
+    if k < of.bids {
+        let d = sheet::year(sheet, k);
+        return value::capped(prices[d], sheet::cap(sheet, k));
     }
     0
 }
 
-fn paid(rows: &[u64], prices: [u64; 4], bids: [u64; 64], m: usize) -> [u64; 64]
-    requires { ⌜ Checked (now rows) m ⌝ }
-    ensures { λ r. ⌜ r ≡ paidOf (now (rows .entry)) prices bids m ⌝ }
+fn paid(sheet: &Sheet, of: Size, prices: [u64; 4], bids: [u64; 64]) -> [u64; 64]
+    requires { ⌜ Ready (now sheet) of ⌝ }
+    ensures { λ r. ⌜ r ≡ paidOf (now (sheet .entry)) of prices bids ⌝ }
 {
     let mut out = [0u64; 64];
     let mut a: usize = 0;
     while a < 64 {
-        out[a] = pay(rows, prices, m, bids[a]);
+        out[a] = pay(sheet, of, prices, bids[a]);
         a += 1;
     }
     out
 }
 
 // Outcomes 0 and 2: no price, no winning bid, one reason for all bids.
-fn flat(outcome: u64, totals: [u64; 8], reason: u64) -> Cleared
+fn flat(outcome: u64, totals: [u64; COLUMNS], reason: u64) -> Cleared
     ensures { λ r. ⌜ r ≡ flatOf outcome totals reason ⌝ }
 {
     Cleared {
@@ -106,17 +108,17 @@ fn flat(outcome: u64, totals: [u64; 8], reason: u64) -> Cleared
 }
 
 // Outcome 1, from the state in which the pot ended.
-fn told(rows: &[u64], figures: &[u64], s: PotState, m: usize, y: usize) -> Cleared
-    requires { ⌜ Valued (now rows) (now figures) m y ⌝ }
-    ensures { λ r. ⌜ r ≡ toldOf (now (rows .entry)) m s (filled (λ z. totalOf (now (rows .entry)) (now (figures .entry)) (s .reasons) (s .prices) z m) y) ⌝ }
+fn told(sheet: &Sheet, of: Size, s: PotState) -> Cleared
+    requires { ⌜ Ready (now sheet) of ⌝ }
+    ensures { λ r. ⌜ r ≡ toldOf (now (sheet .entry)) of s ⌝ }
 {
     let marks = s.reasons;
     let won = s.won;
     let prices = s.prices;
-    let totals = totals::revalued(rows, figures, marks, prices, m, y);
-    let reasons = reasons(rows, marks, won, m);
-    let bids = winning(rows, marks, m);
-    let paid = paid(rows, prices, bids, m);
+    let totals = s.totals;
+    let reasons = reasons(sheet, of, marks, won);
+    let bids = winning(sheet, of, marks);
+    let paid = paid(sheet, of, prices, bids);
     Cleared {
         outcome: names::AUCTIONED,
         prices,
@@ -127,25 +129,18 @@ fn told(rows: &[u64], figures: &[u64], s: PotState, m: usize, y: usize) -> Clear
     }
 }
 
-// The clearing of the pot that a sheet shows: m bids by number, the sealed ones below b, and y years.
-pub fn clear_pot(
-    rows: &[u64],
-    figures: &[u64],
-    budgets: &[u64],
-    b: usize,
-    m: usize,
-    y: usize,
-) -> Cleared
-    requires { ⌜ Ready (now rows) (now figures) (now budgets) b m y ⌝ }
-    ensures { λ r. ⌜ ClearedAs (potIn (now (rows .entry)) (now (figures .entry)) (now (budgets .entry)) b m y) r ⌝ }
+// The clearing of the pot that a sheet shows.
+pub fn clear_pot(sheet: &Sheet, of: Size) -> Cleared
+    requires { ⌜ Ready (now sheet) of ⌝ }
+    ensures { λ r. ⌜ ClearedAs (potIn (now (sheet .entry)) of) r ⌝ }
 {
-    let first = totals::admin_totals(rows, figures, b, m, y);
-    if totals::within(first, budgets, y) {
+    let first = totals::admin_totals(sheet, of);
+    if totals::within(sheet, of, first) {
         return flat(names::ADMINISTRATIVE, first, names::BECAUSE_ADMINISTRATIVE);
     }
-    let s = pot::auction(rows, figures, budgets, m, y);
+    let s = pot::auction(sheet, of);
     if s.wide {
-        return flat(names::TOO_WIDE, [0; 8], names::BECAUSE_TOO_WIDE);
+        return flat(names::TOO_WIDE, [0; COLUMNS], names::BECAUSE_TOO_WIDE);
     }
-    told(rows, figures, s, m, y)
+    told(sheet, of, s)
 }

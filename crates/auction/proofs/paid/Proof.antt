@@ -10,10 +10,10 @@ use Rattle.auction.proofs.paid.Statement.{statement}
 use Rattle.auction.proofs.paid.Tie as tie
 
 abbrev Inv-loop : tie.InvT-loop
-Inv-loop rows prices m bids out₀ a₀ out a = (a ≤ 64) × (out ≡ fill noPay (λ i. payOf rows prices m (getD bids i 0)) a)
+Inv-loop sheet of prices bids out₀ a₀ out a = (a ≤ 64) × (out ≡ fill noPay (λ i. payOf sheet of prices (getD bids i 0)) a)
 
 abbrev μ-loop : tie.MeasureT-loop
-μ-loop rows prices m bids out₀ a₀ out a = 64 - a
+μ-loop sheet of prices bids out₀ a₀ out a = 64 - a
 
 loop-holds : tie.Need-loop-holds Inv-loop μ-loop
 unfolding fill noPay

@@ -10,32 +10,32 @@ use Rattle.auction.proofs.reasons.Statement.{statement}
 use Rattle.auction.proofs.reasons.Tie as tie
 
 abbrev Inv-loop : tie.InvT-loop
-Inv-loop rows m marks won out₀ k₀ out k = (k ≤ m) × (out ≡ reasonsOf rows marks won k)
+Inv-loop sheet marks won out₀ m k₀ out k = (k ≤ m) × (out ≡ reasonsOf sheet marks won k)
 
 abbrev μ-loop : tie.MeasureT-loop
-μ-loop rows m marks won out₀ k₀ out k = m - k
+μ-loop sheet marks won out₀ m k₀ out k = m - k
 
 loop-holds : tie.Need-loop-holds Inv-loop μ-loop
 unfolding fill noReasons
 loop-holds c = search needs
 
 app-requires : tie.Need-app-requires Inv-loop μ-loop
-app-requires c κs = row-there _ _ _ (c .before .before .before .pre) (c .loop-test .taken)
+app-requires c κs = row-there _ _ _ (c .before .before .pre) (c .loop-test .taken)
 
 mul-reason : tie.Need-mul-reason Inv-loop μ-loop
-mul-reason c = let z = app-below _ _ _ (c .before .before .before .before .pre) (c .before .loop-test .taken) (c .app .ensures) in omega (arith, c .before .before .before .before .pre .few)
+mul-reason c = let z = app-below _ _ _ (c .before .before .before .pre) (c .before .loop-test .taken) (c .app .ensures) in omega (arith, c .before .before .before .pre .few)
 
 array-read-reason : tie.Need-array-read-reason Inv-loop μ-loop
-array-read-reason c = omega (arith, c .before .before .before .before .pre .few)
+array-read-reason c = omega (arith, c .before .before .before .pre .few)
 
 array-read-reason-2 : tie.Need-array-read-reason-2 Inv-loop μ-loop
-array-read-reason-2 c = app-below _ _ _ (c .before .before .before .before .pre) (c .before .loop-test .taken) (c .app .ensures)
+array-read-reason-2 c = app-below _ _ _ (c .before .before .before .pre) (c .before .loop-test .taken) (c .app .ensures)
 
 mul-out : tie.Need-mul-out Inv-loop μ-loop
-mul-out c = omega (arith, c .before .before .before .before .before .pre .few)
+mul-out c = omega (arith, c .before .before .before .before .pre .few)
 
 array-write-out : tie.Need-array-write-out Inv-loop μ-loop
-array-write-out c = omega (arith, c .before .before .before .before .before .pre .few)
+array-write-out c = omega (arith, c .before .before .before .before .pre .few)
 
 loop-again : tie.Need-loop-again Inv-loop μ-loop
 loop-again c = (omega arith, fill-next _ _ _ (c .before .before .before .loop .inv .1) (reason-is _ _ _ _ (c .before .app .ensures) (c .reason .ensures)))

@@ -5,10 +5,8 @@ use Rattle.auction.proofs.told.Statement.{statement}
 use Rattle.auction.proofs.told.Tie as tie
 
 returns : tie.Need-returns
-returns c =
-    let a = c .before .before .before .before .before .before .before .before .before .args in
-    told-is (now (a .rows)) (a .m) (a .s) (c .before .before .before .revalued .ensures) (c .before .before .reasons .ensures) (c .before .winning .ensures) (c .paid .ensures)
+returns c = told-is _ _ (c .before .before .before .before .before .before .before .args .s) (c .before .before .reasons .ensures) (c .before .winning .ensures) (c .paid .ensures)
 
 pub told-spec : {M : Type 1} → statement M
 told-spec =
-    tie.close (tie.spec (λ c κs. search needs) (λ c κs. search needs) (λ c κs. search needs) (λ c κs. search needs) returns)
+    tie.close (tie.spec (λ c κs. search needs) (λ c κs. search needs) (λ c κs. search needs) returns)

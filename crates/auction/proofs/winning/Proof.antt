@@ -10,29 +10,29 @@ use Rattle.auction.proofs.winning.Statement.{statement}
 use Rattle.auction.proofs.winning.Tie as tie
 
 abbrev Inv-loop : tie.InvT-loop
-Inv-loop rows m marks out₀ k₀ out k = (k ≤ m) × (out ≡ winningOf rows marks k)
+Inv-loop sheet marks out₀ m k₀ out k = (k ≤ m) × (out ≡ winningOf sheet marks k)
 
 abbrev μ-loop : tie.MeasureT-loop
-μ-loop rows m marks out₀ k₀ out k = m - k
+μ-loop sheet marks out₀ m k₀ out k = m - k
 
 loop-holds : tie.Need-loop-holds Inv-loop μ-loop
 unfolding winningOf
 loop-holds c = search needs
 
 mul-if1 : tie.Need-mul-if1 Inv-loop μ-loop
-mul-if1 c = omega (arith, c .before .before .before .pre .few)
+mul-if1 c = omega (arith, c .before .before .pre .few)
 
 array-read-if1 : tie.Need-array-read-if1 Inv-loop μ-loop
-array-read-if1 c = omega (arith, c .before .before .before .pre .few)
+array-read-if1 c = omega (arith, c .before .before .pre .few)
 
 app-requires : tie.Need-app-requires Inv-loop μ-loop
-app-requires c κs = row-there _ _ _ (c .before .before .before .before .pre) (c .before .loop-test .taken)
+app-requires c κs = row-there _ _ _ (c .before .before .before .pre) (c .before .loop-test .taken)
 
 mul-out : tie.Need-mul-out Inv-loop μ-loop
-mul-out c = let z = app-below _ _ _ (c .before .before .before .before .before .pre) (c .before .before .loop-test .taken) (c .app .ensures) in omega arith
+mul-out c = let z = app-below _ _ _ (c .before .before .before .before .pre) (c .before .before .loop-test .taken) (c .app .ensures) in omega arith
 
 array-write-out : tie.Need-array-write-out Inv-loop μ-loop
-array-write-out c = app-below _ _ _ (c .before .before .before .before .before .pre) (c .before .before .loop-test .taken) (c .app .ensures)
+array-write-out c = app-below _ _ _ (c .before .before .before .before .pre) (c .before .before .loop-test .taken) (c .app .ensures)
 
 loop-again : tie.Need-loop-again Inv-loop μ-loop
 loop-again c = let inv = c .before .before .loop .inv .1 in (omega arith, ⊎-elim (λ w. w .2 ∙ winning-hit _ _ _ inv (w .1 .ensures) (w .0 .taken)) (λ w. w .1 ∙ winning-miss _ _ _ inv (w .0 .left)) (c .if1 .came))
