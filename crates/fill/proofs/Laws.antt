@@ -1,25 +1,26 @@
 -- The laws of the filling, over plain variables: one for each return and each turn of a loop. Assumes nothing.
-use Prim.Native.Nat.{ℕ, suc, _+_, _-_, _*_, _≤_, _<_}
+use Prim.Native.Nat.{ℕ, zero, suc, _+_, _-_, _*_, _≤_, _<_}
 use mathlib.Core.Path.{_≡_, refl, sym, ap, subst, _∙_}
 use mathlib.Core.Bool.{Bool, true, false}
-use mathlib.Core.List.{List}
+use mathlib.Core.List.{List, _∷_}
+use native.Mathlib.Numerals.{add-one}
 use native.Mathlib.Omega.{arith}
 use native.Mathlib.Nat.{add-zero, le-antisymm, mul-le-mul, mul-le-mul-right}
 use lib.ListN.{length, getD, set, length-set, getD-replicate}
 use lib.Seq.{getD-set-same, getD-set-other}
 use lib.Dec.{eqb}
-use borrow.Author.Tests.{eqb-true, eqb-false}
+use borrow.Author.Tests.{eqb-true, eqb-false, eq-eqb, ne-eqb}
 use Rattle.rules.specs.Names.{mostYears, mostPots, potWidth}
-use Rattle.rules.specs.Lists.{pick}
+use Rattle.rules.specs.Lists.{pick, sift, below}
 use Rattle.rules.specs.Bytes.{le}
 use Rattle.rules.specs.File.{Round, Bid, appAt, budgetAt}
 use Rattle.rules.specs.Round.{mine, enters}
 use Rattle.laws.specs.Lists.{case}
 use Rattle.laws.specs.Reading.{Sound}
-use Rattle.sheet.specs.Sheet.{absent, entered, spare, rowStanding}
+use Rattle.sheet.specs.Sheet.{absent, entered, spare, rowStanding, entrantAt, entrants, inAuction}
 use Rattle.rows.specs.Rows.{numbered, standingOf, rowNumbers, figureNumbers, figuresIn}
 use Rattle.rows.proofs.Laws.{read-at, figure-blank, figure-own}
-use Rattle.fill.specs.Fill.{mostNumbers, Blank, Stands, Kept, Rest, Put, Figured, RowsRight, FiguresRight, AllFigures, BudgetsRight}
+use Rattle.fill.specs.Fill.{mostNumbers, BlankFigures, Stands, Kept, Rest, Put, Figured, RowsRight, FiguresRight, AllFigures, LimitsRight, FiguresOf, FiguresWritten, Entered}
 
 -- ---- the record of a pot
 
@@ -68,31 +69,37 @@ put-stands : {v w : List ℕ} (at : ℕ) {s t : List ℕ} → v ≡ w → Put v 
 put-stands at {t = t} e p = subst (λ (w : List ℕ). Stands w t at) e (p .inside)
 
 module _ (R : Round) (p k : ℕ) {v : List ℕ} where
-  pub rows-more : {s t : List ℕ} → RowsRight R p k s → v ≡ rowNumbers R p k → Put v (length v) (k * 6) s t → RowsRight R p (k + 1) t
+  pub rows-more : {s t : List ℕ} → RowsRight R p k s → v ≡ rowNumbers R p k → Put v (length v) (8008 + k * 6) s t → RowsRight R p (k + 1) t
   unfolding rowNumbers
   rows-more {s} {t} f e q =
-      and-next (λ k. Stands (rowNumbers R p k) t (k * 6)) k
-      (λ j l. stays s t (rowNumbers R p j) (k * 6) (j * 6) (f j l) (q .kept) (omega arith))
-      (put-stands (k * 6) e q)
+      and-next (λ k. Stands (rowNumbers R p k) t (8008 + k * 6)) k
+      (λ j l. stays s t (rowNumbers R p j) (8008 + k * 6) (8008 + j * 6) (f j l) (q .kept) (omega arith))
+      (put-stands (8008 + k * 6) e q)
 
 pub figures-more : (years techs : List ℕ) (y t : ℕ) (x : Bid) (k i : ℕ) {v s u : List ℕ} → Figured years techs y t x k i s → v ≡ figuresIn years techs y t x i
-    → Put v (length v) (k * 24 + i * 3) s u → Figured years techs y t x k (i + 1) u
+    → Put v (length v) (328 + k * 24 + i * 3) s u → Figured years techs y t x k (i + 1) u
 unfolding figuresIn
 figures-more years techs y t x k i {v} {s} {u} f e q =
-    and-next (λ i. Stands (figuresIn years techs y t x i) u (k * 24 + i * 3)) i
-    (λ j l. stays s u (figuresIn years techs y t x j) (k * 24 + i * 3) (k * 24 + j * 3) (f j l) (q .kept) (omega arith))
-    (put-stands (k * 24 + i * 3) e q)
+    and-next (λ i. Stands (figuresIn years techs y t x i) u (328 + k * 24 + i * 3)) i
+    (λ j l. stays s u (figuresIn years techs y t x j) (328 + k * 24 + i * 3) (328 + k * 24 + j * 3) (f j l) (q .kept) (omega arith))
+    (put-stands (328 + k * 24 + i * 3) e q)
 
 -- those of a bid of the pot are right
 pub figures-own : (R : Round) (p k : ℕ) {x : Bid} {t : ℕ} (s : List ℕ) → mine R p k ≡ true → x ≡ numbered (R .techs) (R .apps) (R .bids) (R .y) (R .b) k
     → t ≡ appAt (R .apps) (x .app) .tech → Figured (R .years) (R .techs) (R .y) t x k (R .y) s → FiguresRight R p k (R .y) s
-figures-own R p k s m en et f i l = subst (λ (v : List ℕ). Stands v s (k * 24 + i * 3)) (figure-own R p k (sym m) refl en et i l refl) (f i l)
+figures-own R p k s m en et f i l = subst (λ (v : List ℕ). Stands v s (328 + k * 24 + i * 3)) (figure-own R p k (sym m) refl en et i l refl) (f i l)
 
-pub budgets-more : (y : ℕ) (pots : List ℕ) (p i : ℕ) (s : List ℕ) {x : ℕ} → i < length s → BudgetsRight y pots p i s → x ≡ budgetAt y pots p i → BudgetsRight y pots p (i + 1) (set s i x)
-budgets-more y pots p i s {x} h f e =
+pub limits-more : (y : ℕ) (pots : List ℕ) (p i : ℕ) (s : List ℕ) {x : ℕ} → i < length s → LimitsRight y pots p i s → x ≡ budgetAt y pots p i → LimitsRight y pots p (i + 1) (set s i x)
+limits-more y pots p i s {x} h f e =
     and-next (λ k. getD (set s i x) k 0 ≡ budgetAt y pots p k) i
     (λ j l. getD-set-other s i j x 0 (λ z. omega arith) ∙ f j l)
     (getD-set-same s i x 0 h ∙ e)
+
+pub rest-set : (n i : ℕ) (s t : List ℕ) (x : ℕ) → i < n → Rest n s t → Rest n s (set t i x)
+rest-set n i s t x h f j l = getD-set-other t i j x 0 (λ z. omega arith) ∙ f j l
+
+pub kept-set : (n i : ℕ) (s t : List ℕ) (x : ℕ) → n ≤ i → Kept n s t → Kept n s (set t i x)
+kept-set n i s t x h f j l = getD-set-other t i j x 0 (λ z. omega arith) ∙ f j l
 
 -- at the end of a loop all have been seen to
 pub all-of : (P : ℕ → Type 0) {n i : ℕ} → P i → i ≤ n → n ≤ i → P n
@@ -110,51 +117,107 @@ missing true true e = absurd (omega arith)
 missing true false e = absurd (omega arith)
 missing false enter e = refl
 
--- whether bid k is of the pot, by its standing
-module _ (R : Round) (p k : ℕ) (rows : List ℕ) {s : ℕ} (h : k < mostNumbers) (f : RowsRight R p mostNumbers rows) (e : s ≡ rowStanding rows k) where
-  standing-at : s ≡ standingOf R p k
+-- whether bid k is of the pot, by its standing in a sheet t that has the rows of s
+module _ (R : Round) (p k : ℕ) (s t : List ℕ) {q : ℕ} (h : k < mostNumbers) (f : RowsRight R p mostNumbers s) (same : Rest (8008 + k * 6) s t) (e : q ≡ rowStanding t k) where
+  standing-at : q ≡ standingOf R p k
   unfolding rowStanding rowNumbers
-  standing-at = e ∙ ap (λ (i : ℕ). getD rows i 0) (sym (add-zero (k * 6))) ∙ f k h 0 (omega arith)
+  standing-at = e ∙ same (8008 + k * 6) (omega arith) ∙ ap (λ (i : ℕ). getD s i 0) (sym (add-zero (8008 + k * 6))) ∙ f k h 0 (omega arith)
 
-  pub of-pot : (s ≡ 0 → ⊥) → mine R p k ≡ true
+  pub of-pot : (q ≡ 0 → ⊥) → mine R p k ≡ true
   unfolding standingOf
   of-pot n = present (mine R p k) (enters R k) (λ z. n (standing-at ∙ z))
 
-  pub of-another : s ≡ 0 → mine R p k ≡ false
+  pub of-another : q ≡ 0 → mine R p k ≡ false
   unfolding standingOf
   of-another z = missing (mine R p k) (enters R k) (sym standing-at ∙ z)
 
 -- ---- the figures of all bids
 
--- in t the figures of the first k bids are right, and those after them are as in s
+-- in t the figures of the first k bids are right, and what comes after them is as in s
 pub record Done (R : Round) (p k : ℕ) (s t : List ℕ) : Type 0 where
-  pub same : length t ≡ length s
   pub right : AllFigures R p k t
-  pub rest : Rest (k * 24) s t
+  pub rest : Rest (328 + k * 24) s t
 
 -- none yet
 pub done-none : (R : Round) (p : ℕ) (s : List ℕ) → Done R p 0 s s
-done-none R p s = record { same = refl; right = λ k h. absurd (omega arith); rest = λ j h. refl }
+done-none R p s = record { right = λ k h. absurd (omega arith); rest = λ j h. refl }
 
 module _ (R : Round) (p k : ℕ) {s t : List ℕ} (d : Done R p k s t) where
   -- one bid more, which is of the pot: its figures were written, in u
-  pub done-own : {u g : List ℕ} → g ≡ u → R .y ≤ mostYears → length u ≡ length t → FiguresRight R p k (R .y) u → Kept (k * 24) t u
-      → Rest (k * 24 + 24) t u → Done R p (k + 1) s g
+  pub done-own : {u g : List ℕ} → g ≡ u → R .y ≤ mostYears → FiguresOf R p k t u → Done R p (k + 1) s g
   unfolding figureNumbers
-  done-own {u} e h l f kept rest = subst (Done R p (k + 1) s) (sym e) record {
-    same = l ∙ d .same;
+  done-own {u} e h f = subst (Done R p (k + 1) s) (sym e) record {
     right = and-next (λ k. FiguresRight R p k (R .y) u) k
-        (λ j q i m. stays t u (figureNumbers R p j i) (k * 24) (j * 24 + i * 3) (d .right j q i m) kept (omega arith)) f;
-    rest = λ j q. rest j (omega arith) ∙ d .rest j (omega arith);
+        (λ j q i m. stays t u (figureNumbers R p j i) (328 + k * 24) (328 + j * 24 + i * 3) (d .right j q i m) (f .kept) (omega arith)) (f .right);
+    rest = λ j q. f .rest j (omega arith) ∙ d .rest j (omega arith);
   }
 
   -- one bid more, which is of another pot: its figures are left zeros
-  pub done-other : {g : List ℕ} → g ≡ t → Blank s → mine R p k ≡ false → Done R p (k + 1) s g
+  pub done-other : {g : List ℕ} → g ≡ t → k < mostNumbers → R .y ≤ mostYears → BlankFigures s → mine R p k ≡ false → Done R p (k + 1) s g
   unfolding figureNumbers
-  done-other e b m = subst (Done R p (k + 1) s) (sym e) record {
-    same = d .same;
+  done-other e n y b m = subst (Done R p (k + 1) s) (sym e) record {
     right = and-next (λ k. FiguresRight R p k (R .y) t) k (d .right)
-        (λ i l j h. d .rest (k * 24 + i * 3 + j) (omega arith) ∙ b (k * 24 + i * 3 + j) ∙ sym (getD-replicate 3 j 0 0 h)
+        (λ i l j h. d .rest (328 + k * 24 + i * 3 + j) (omega arith) ∙ b (328 + k * 24 + i * 3 + j) (omega arith) ∙ sym (getD-replicate 3 j 0 0 h)
         ∙ ap (λ (v : List ℕ). getD v j 0) (figure-blank R p k (sym m) i refl));
     rest = λ j q. d .rest j (omega arith);
   }
+
+pub done-all : (R : Round) (p : ℕ) {m k : ℕ} {s t : List ℕ} → m ≡ R .b + R .n → m ≤ mostNumbers → k ≤ m → m ≤ k → Done R p k s t → FiguresWritten R p s t
+done-all R p {m} {k} {s} {t} e f h l d =
+    let q : k ≡ R .b + R .n = omega arith in
+    record { right = subst (λ (n : ℕ). AllFigures R p n t) q (d .right); rest = λ j g. d .rest j (omega arith) }
+
+-- ---- the bids that enter
+
+-- what is past the first n does not matter
+entrants-set : (s : List ℕ) (n i x : ℕ) → 8 + n ≤ i → entrants (set s i x) n ≡ entrants s n
+unfolding entrants entrantAt
+entrants-set s zero i x h = refl
+entrants-set s (suc n) i x h = rw (getD-set-other s i (8 + n) x 0 (λ e. let z : ⊥ = omega arith in z), entrants-set s n i x (omega arith))
+
+-- a row of t is that of s
+row-same : (s t : List ℕ) (k : ℕ) → Rest 328 s t → rowStanding t k ≡ rowStanding s k
+unfolding rowStanding
+row-same s t k f = f (8008 + k * 6) (omega arith)
+
+-- so far: the first k bids were looked at, and n of them enter
+pub record Entering (s : List ℕ) (k n : ℕ) (t : List ℕ) : Type 0 where
+  pub few : n ≤ k
+  pub right : entrants t n ≡ sift (inAuction s) (below k)
+  pub kept : Kept 8 s t
+  pub rest : Rest 328 s t
+  pub same : length t ≡ 9928
+
+pub entering-none : (s : List ℕ) → length s ≡ 9928 → Entering s 0 0 s
+unfolding entrants
+entering-none s h = record { few = omega arith; right = refl; kept = λ j l. refl; rest = λ j l. refl; same = h }
+
+module _ (s : List ℕ) (k n : ℕ) {t : List ℕ} (E : Entering s k n t) {q : ℕ} (e : q ≡ rowStanding t k) where
+  pub entering-hit : {g : List ℕ} {m : ℕ} → k < 320 → q ≡ 1 → g ≡ set t (8 + n) k → m ≡ n + 1 → Entering s (k + 1) m g
+  entering-hit {g} {m} h z eg em = rw (eg, em) (record {
+    few = omega (arith, E .few);
+    right = rw (add-one n, add-one k, eq-eqb (rowStanding s k) 1 (sym (row-same s t k (E .rest)) ∙ sym e ∙ z)) listed;
+    kept = kept-set 8 (8 + n) s t k (omega arith) (E .kept);
+    rest = rest-set 328 (8 + n) s t k (omega (arith, E .few)) (E .rest);
+    same = length-set t (8 + n) k ∙ E .same;
+  })
+    where
+      listed : entrants (set t (8 + n) k) (suc n) ≡ k ∷ sift (inAuction s) (below k)
+      listed = unfold entrants entrantAt in rw (getD-set-same t (8 + n) k 0 (omega (arith, E .few, E .same)), entrants-set t n (8 + n) k (omega arith), E .right)
+
+  pub entering-miss : {g : List ℕ} {m : ℕ} → (q ≡ 1 → ⊥) → g ≡ t → m ≡ n → Entering s (k + 1) m g
+  entering-miss z eg em = rw (eg, em) (record {
+    few = omega (arith, E .few);
+    right = rw (add-one k, ne-eqb (rowStanding s k) 1 (λ d. z (e ∙ row-same s t k (E .rest) ∙ d))) (E .right);
+    kept = E .kept;
+    rest = E .rest;
+    same = E .same;
+  })
+
+pub entering-done : (s : List ℕ) {m k n : ℕ} {t : List ℕ} → k ≤ m → m ≤ k → Entering s k n t → Entered m s t n
+entering-done s {m} {k} {n} {t} h l E = record {
+  few = omega (arith, E .few);
+  right = E .right ∙ ap (λ (i : ℕ). sift (inAuction s) (below i)) (le-antisymm h l);
+  kept = E .kept;
+  rest = E .rest;
+}

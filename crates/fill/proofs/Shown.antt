@@ -8,7 +8,7 @@ use native.Mathlib.Nat.{add-zero, zero-mul, mul-zero}
 use lib.ListN.{length, getD, List·getD-eq-default, getD-replicate}
 use lib.Dec.{eqb, ltb}
 use borrow.Author.Tests.{lt-ltb, ltb-true, ltb-false}
-use Rattle.rules.specs.Names.{mostYears, mostApps, mostDeliveries, highestPrice, whole, longYear, largestCapacity}
+use Rattle.rules.specs.Names.{mostYears, mostApps, mostDeliveries, highestPrice, highestBudget, whole, longYear, largestCapacity}
 use Rattle.rules.specs.Lists.{pick, sift, below}
 use Rattle.rules.specs.Bytes.{le}
 use Rattle.rules.specs.Value.{exactParts, hoursOf, pound}
@@ -19,19 +19,38 @@ use Rattle.laws.specs.Reading.{Sound}
 use Rattle.laws.specs.Reading as r
 use Rattle.laws.specs.Mono.{Lawful}
 use Rattle.laws.specs.Bids.{mine-out, lawful}
-use Rattle.sheet.specs.Sheet.{absent, entered, spare, rowStanding, rowApp, rowYear, rowPrice, rowDraw, rowCap, figReference, figEnergy, figShare, sheetCost, inAuction, inTest, potIn, mostEnergy, Ready}
+use Rattle.sheet.specs.declared.Size.{Size}
+use Rattle.sheet.specs.Sheet.{sheetLength, limitAt, entrants, absent, entered, spare, rowStanding, rowApp, rowYear, rowPrice, rowDraw, rowCap, figReference, figEnergy, figShare, sheetCost, inAuction, inTest, potIn, mostEnergy, Ready}
 use Rattle.rows.specs.Rows.{rowOf, standingOf, rowNumbers, figureNumbers}
 use Rattle.rows.proofs.Laws.{good, mine-in, row-blank, energy-most, share-most}
-use Rattle.fill.specs.Fill.{mostNumbers, rowsLength, figuresLength, RowsRight, AllFigures, BudgetsRight}
+use Rattle.fill.specs.Fill.{mostNumbers, RowsRight, AllFigures, LimitsRight, RowsWritten, FiguresWritten, LimitsWritten, Entered}
 
 -- what has been written
-pub record Written (R : Round) (p : ℕ) (rows figures budgets : List ℕ) : Type 0 where
-  pub rows-length : length rows ≡ rowsLength
-  pub figures-length : figuresLength ≤ length figures
-  pub budgets-length : mostYears ≤ length budgets
-  pub rows-right : RowsRight R p mostNumbers rows
-  pub figures-right : AllFigures R p (R .b + R .n) figures
-  pub budgets-right : BudgetsRight (R .y) (R .pots) p (R .y) budgets
+pub record Written (R : Round) (p : ℕ) (sheet : List ℕ) (n : ℕ) : Type 0 where
+  pub length-is : length sheet ≡ sheetLength
+  pub rows-right : RowsRight R p mostNumbers sheet
+  pub figures-right : AllFigures R p (R .b + R .n) sheet
+  pub limits-right : LimitsRight (R .y) (R .pots) p (R .y) sheet
+  pub entered : entrants sheet n ≡ sift (inAuction sheet) (below (R .b + R .n))
+
+-- from the steps of the filling
+pub written : {R : Round} {p m n : ℕ} {s t u v w : List ℕ} → m ≡ R .b + R .n → R .y ≤ mostYears → RowsWritten R p s t → FiguresWritten R p t u → LimitsWritten (R .y) (R .pots) p u v → Entered m v w n
+    → length w ≡ sheetLength → Written R p w n
+unfolding rowNumbers figureNumbers
+written {R} {p} {m} {n} {s} {t} {u} {v} {w} em hy A B C D l = record {
+  length-is = l;
+  rows-right = λ k h j g. D .rest (8008 + k * 6 + j) (omega arith) ∙ C .rest (8008 + k * 6 + j) (omega arith) ∙ B .rest (8008 + k * 6 + j) (omega arith) ∙ A .right k h j g;
+  figures-right = λ k h i f j g. D .rest (328 + k * 24 + i * 3 + j) (omega arith) ∙ C .rest (328 + k * 24 + i * 3 + j) (omega arith) ∙ B .right k h i f j g;
+  limits-right = λ i h. D .kept i (omega arith) ∙ C .right i h;
+  entered = D .right ∙ sift-same (inAuction v) (inAuction w) (below m) (λ k i. sym (ap (λ (x : ℕ). eqb x entered) (same k))) ∙ ap (λ (i : ℕ). sift (inAuction w) (below i)) em;
+}
+  where
+    same : (k : ℕ) → rowStanding w k ≡ rowStanding v k
+    same k = unfold rowStanding in D .rest (8008 + k * 6) (omega arith)
+
+-- the size of the sheet
+abbrev pub sizeOf : Round → ℕ → Size
+sizeOf R n = record { years = R .y; sealed = R .b; bids = R .b + R .n; entered = n }
 
 -- ---- tests of a standing
 
@@ -59,66 +78,66 @@ no-load price reference energy tlm rqm = simp (mul-zero, zero-mul)
 
 -- ---- the numbers of the sheet are those of the rows that the pot reads
 
-module _ (R : Round) (S : Sound R) (p : ℕ) {rows figures budgets : List ℕ} (W : Written R p rows figures budgets) where
+module _ (R : Round) (S : Sound R) (p : ℕ) {sheet : List ℕ} {n : ℕ} (W : Written R p sheet n) where
   numbers-few : R .b + R .n ≤ mostNumbers
   numbers-few = omega (arith, S .bids-few, S .apps-few)
 
   -- also after the last bid, where all is zero
-  cell : (k j : ℕ) → j < 6 → getD rows (k * 6 + j) 0 ≡ getD (rowNumbers R p k) j 0
+  cell : (k j : ℕ) → j < 6 → getD sheet (8008 + k * 6 + j) 0 ≡ getD (rowNumbers R p k) j 0
   unfolding rowNumbers
   cell k j h = case (ltb k mostNumbers)
       (λ t. W .rows-right k (ltb-true k mostNumbers t) j h)
       (λ t.
       let l = ltb-false k mostNumbers t in
-      let z : length rows ≤ k * 6 + j = omega (arith, W .rows-length) in
+      let z : length sheet ≤ 8008 + k * 6 + j = omega (arith, W .length-is) in
       let b = row-blank R p k {s = mine R p k} refl (mine-out R k p (let m : R .b + R .n ≤ k = omega (arith, numbers-few) in m)) in
-      List·getD-eq-default rows 0 z ∙ sym (getD-replicate 6 j 0 0 h) ∙ ap (λ (v : List ℕ). getD v j 0) b)
+      List·getD-eq-default sheet 0 z ∙ sym (getD-replicate 6 j 0 0 h) ∙ ap (λ (v : List ℕ). getD v j 0) b)
 
   module _ (k : ℕ) where
-    standing-is : rowStanding rows k ≡ standingOf R p k
+    standing-is : rowStanding sheet k ≡ standingOf R p k
     unfolding rowStanding rowNumbers
-    standing-is = ap (λ (i : ℕ). getD rows i 0) (sym (add-zero (k * 6))) ∙ cell k 0 (omega arith)
+    standing-is = ap (λ (i : ℕ). getD sheet i 0) (sym (add-zero (8008 + k * 6))) ∙ cell k 0 (omega arith)
 
-    app-is : rowApp rows k ≡ rowOf R p k .bid .app
+    app-is : rowApp sheet k ≡ rowOf R p k .bid .app
     unfolding rowApp rowNumbers
     app-is = cell k 1 (omega arith)
 
-    year-is : rowYear rows k ≡ rowOf R p k .bid .year
+    year-is : rowYear sheet k ≡ rowOf R p k .bid .year
     unfolding rowYear rowNumbers
     year-is = cell k 2 (omega arith)
 
-    price-is : rowPrice rows k ≡ rowOf R p k .bid .price
+    price-is : rowPrice sheet k ≡ rowOf R p k .bid .price
     unfolding rowPrice rowNumbers
     price-is = cell k 3 (omega arith)
 
-    draw-is : rowDraw rows k ≡ rowOf R p k .draw
+    draw-is : rowDraw sheet k ≡ rowOf R p k .draw
     unfolding rowDraw rowNumbers
     draw-is = cell k 4 (omega arith)
 
-    cap-is : rowCap rows k ≡ rowOf R p k .cap
+    cap-is : rowCap sheet k ≡ rowOf R p k .cap
     unfolding rowCap rowNumbers
     cap-is = cell k 5 (omega arith)
 
     module _ (z : ℕ) (h : k < R .b + R .n) (l : z < R .y) where
-      reference-is : figReference figures k z ≡ rowOf R p k .reference z
+      reference-is : figReference sheet k z ≡ rowOf R p k .reference z
       unfolding figReference figureNumbers
-      reference-is = ap (λ (i : ℕ). getD figures i 0) (sym (add-zero (k * 24 + z * 3))) ∙ W .figures-right k h z l 0 (omega arith)
+      reference-is = ap (λ (i : ℕ). getD sheet i 0) (sym (add-zero (328 + k * 24 + z * 3))) ∙ W .figures-right k h z l 0 (omega arith)
 
-      energy-is : figEnergy figures k z ≡ rowOf R p k .load z * energyOf (R .years) (rowOf R p k .bid) z
+      energy-is : figEnergy sheet k z ≡ rowOf R p k .load z * energyOf (R .years) (rowOf R p k .bid) z
       unfolding figEnergy figureNumbers
       energy-is = W .figures-right k h z l 1 (omega arith)
 
-      share-is : figShare figures k z ≡ (whole - yearAt (R .years) z .tlm) * rowOf R p k .rqm
+      share-is : figShare sheet k z ≡ (whole - yearAt (R .years) z .tlm) * rowOf R p k .rqm
       unfolding figShare figureNumbers
       share-is = W .figures-right k h z l 2 (omega arith)
 
   -- ---- the pot
 
-  bids-are : sift (inAuction rows) (below (R .b + R .n)) ≡ sift (λ k. mine R p k && enters R k) (below (R .b + R .n))
+  bids-are : sift (inAuction sheet) (below (R .b + R .n)) ≡ sift (λ k. mine R p k && enters R k) (below (R .b + R .n))
   unfolding standingOf
   bids-are = sift-same _ _ (below (R .b + R .n)) (λ k i. ap (λ (s : ℕ). eqb s entered) (standing-is k) ∙ auction-test (mine R p k) (enters R k))
 
-  autos-are : sift (inTest rows (R .b)) (below (R .b + R .n)) ≡ sift (λ k. mine R p k && not (ltb k (R .b))) (below (R .b + R .n))
+  autos-are : sift (inTest sheet (R .b)) (below (R .b + R .n)) ≡ sift (λ k. mine R p k && not (ltb k (R .b))) (below (R .b + R .n))
   unfolding standingOf
   autos-are = sift-same _ _ (below (R .b + R .n))
       (λ k i. ap (λ (s : ℕ). not (ltb k (R .b)) && not (eqb s absent)) (standing-is k) ∙ first-test (mine R p k) (enters R k) (ltb k (R .b)))
@@ -128,29 +147,30 @@ module _ (R : Round) (S : Sound R) (p : ℕ) {rows figures budgets : List ℕ} (
   unfolding rowOf rowFor
   load-out k z f = case (mine R p k) (λ t. rw (t, f)) (λ t. rw t)
 
-  cost-in : (k price z : ℕ) → k < R .b + R .n → z < R .y → sheetCost rows figures k price z ≡ costOf (R .years) (rowOf R p k) price z
+  cost-in : (k price z : ℕ) → k < R .b + R .n → z < R .y → sheetCost sheet k price z ≡ costOf (R .years) (rowOf R p k) price z
   unfolding sheetCost costOf exactParts
   cost-in k price z h l =
       rw (cap-is k, reference-is k z h l, energy-is k z h l, share-is k z h l)
       (same-parts (min price (rowOf R p k .cap) - rowOf R p k .reference z) (rowOf R p k .load z) (energyOf (R .years) (rowOf R p k .bid) z) (whole - yearAt (R .years) z .tlm) (rowOf R p k .rqm))
 
-  cost-beyond : (k price z : ℕ) → R .b + R .n ≤ k → sheetCost rows figures k price z ≡ costOf (R .years) (rowOf R p k) price z
+  cost-beyond : (k price z : ℕ) → R .b + R .n ≤ k → sheetCost sheet k price z ≡ costOf (R .years) (rowOf R p k) price z
   unfolding sheetCost costOf rowOf
   cost-beyond k price z h =
       rw (cap-is k, mine-out R k p h)
-      (let e : min price 0 - figReference figures k z ≡ 0 = omega arith in
+      (let e : min price 0 - figReference sheet k z ≡ 0 = omega arith in
       rw (e, no-load (min price 0) 0 (energyOf (R .years) (blank .bid) z) (yearAt (R .years) z .tlm) 0) (simp zero-mul))
 
-  cost-is : (k price z : ℕ) → pick (ltb z (R .y)) (sheetCost rows figures k price z) 0 ≡ costOf (R .years) (rowOf R p k) price z
+  cost-is : (k price z : ℕ) → pick (ltb z (R .y)) (sheetCost sheet k price z) 0 ≡ costOf (R .years) (rowOf R p k) price z
   unfolding costOf
   cost-is k price z = case (ltb z (R .y))
       (λ t. rw t (case (ltb k (R .b + R .n)) (λ u. cost-in k price z (ltb-true k _ u) (ltb-true z _ t)) (λ u. cost-beyond k price z (ltb-false k _ u))))
       (λ t. rw (t, load-out k z t) (sym (no-load _ _ _ _ _)))
 
-  budget-is : (z : ℕ) → pick (ltb z (R .y)) (getD budgets z 0) 0 ≡ pick (ltb z (R .y)) (budgetAt (R .y) (R .pots) p z) 0
-  budget-is z = case (ltb z (R .y)) (λ t. rw t (W .budgets-right z (ltb-true z _ t))) (λ t. rw t)
+  budget-is : (z : ℕ) → pick (ltb z (R .y)) (limitAt sheet z) 0 ≡ pick (ltb z (R .y)) (budgetAt (R .y) (R .pots) p z) 0
+  unfolding limitAt
+  budget-is z = case (ltb z (R .y)) (λ t. rw t (W .limits-right z (ltb-true z _ t))) (λ t. rw t)
 
-  pub shows : potIn rows figures budgets (R .b) (R .b + R .n) (R .y) ≡ potOf R p
+  pub shows : potIn sheet (sizeOf R n) ≡ potOf R p
   unfolding potIn potOf assemble rowOf
   shows = λ i. record {
     bids = bids-are i;
@@ -232,22 +252,19 @@ module _ (R : Round) (S : Sound R) (p : ℕ) (bytes : (i : ℕ) → getD (R .app
       let b = bounded k in
       energy-most (b .load z h) (hours-most z (rowOf R p k .bid .year) (rowOf R p k .bid .days) (yearAt (R .years) z .days) (b .days) (S .year z h .days-most)) (b .capacity) .1
 
-  module _ (h : p < R .p) {rows figures budgets : List ℕ} (W : Written R p rows figures budgets) where
-    apart : (c d : ℕ) → c < R .b + R .n → d < R .b + R .n → inAuction rows c ≡ true → inAuction rows d ≡ true
-        → rowPrice rows c ≡ rowPrice rows d → rowDraw rows c ≡ rowDraw rows d → c ≡ d
+  module _ (h : p < R .p) {sheet : List ℕ} {n : ℕ} (W : Written R p sheet n) where
+    apart : (c d : ℕ) → c < R .b + R .n → d < R .b + R .n → inAuction sheet c ≡ true → inAuction sheet d ≡ true
+        → rowPrice sheet c ≡ rowPrice sheet d → rowDraw sheet c ≡ rowDraw sheet d → c ≡ d
     unfolding potIn
     apart c d i j t u =
-        subst Lawful (sym (shows R S p W)) (lawful R p S) .apart c d (in-sift (inAuction rows) (in-below c (R .b + R .n) i) t) (in-sift (inAuction rows) (in-below d (R .b + R .n) j) u)
+        subst Lawful (sym (shows R S p W)) (lawful R p S) .apart c d (in-sift (inAuction sheet) (in-below c (R .b + R .n) i) t) (in-sift (inAuction sheet) (in-below d (R .b + R .n) j) u)
 
-    pub ready : Ready rows figures budgets (R .b) (R .b + R .n) (R .y)
+    pub ready : Ready sheet (sizeOf R n)
     ready = record {
       few = numbers-few R S p W;
       sealed = omega arith;
       some = S .years-some;
       years = S .years-most;
-      rows-whole = omega (arith, numbers-few R S p W, W .rows-length);
-      figures-whole = omega (arith, numbers-few R S p W, W .figures-length);
-      budgets-whole = omega (arith, S .years-most, W .budgets-length);
       app = λ k l. rw (app-is R S p W k) (bounded k .app);
       year = λ k l. rw (year-is R S p W k) (bounded k .year);
       price = λ k l. rw (price-is R S p W k) (bounded k .price);
@@ -256,6 +273,10 @@ module _ (R : Round) (S : Sound R) (p : ℕ) (bytes : (i : ℕ) → getD (R .app
       reference = λ k z l m. rw (reference-is R S p W k z l m) (bounded k .reference z m);
       energy = λ k z l m. rw (energy-is R S p W k z l m) (energy-in k z m);
       share = λ k z l m. rw (share-is R S p W k z l m) (share-most (yearAt (R .years) z .tlm) (bounded k .rqm));
-      budget = λ z l. rw (W .budgets-right z l) (S .budget-most p z h l);
+      limit = λ z l. limit-most z (W .limits-right z l) (S .budget-most p z h l);
       apart = apart;
+      listed = W .entered;
     }
+      where
+        limit-most : (z : ℕ) → getD sheet z 0 ≡ budgetAt (R .y) (R .pots) p z → budgetAt (R .y) (R .pots) p z ≤ highestBudget → limitAt sheet z ≤ highestBudget
+        limit-most z e g = unfold limitAt in rw e g

@@ -1,21 +1,17 @@
--- What the lists of a sheet hold once they are filled. Assumes nothing.
+-- What a sheet holds once it is filled. Assumes nothing.
 use Prim.Native.Nat.{ℕ, _+_, _*_, _≤_, _<_}
 use mathlib.Core.Path.{_≡_}
 use mathlib.Core.List.{List}
 use lib.ListN.{length, getD}
 use Rattle.rules.specs.Names.{mostApps, mostBids}
+use Rattle.rules.specs.Lists.{sift, below}
 use Rattle.rules.specs.File.{Round, Bid, budgetAt}
+use Rattle.sheet.specs.Sheet.{figuresAt, rowsAt, entrants, inAuction}
 use Rattle.rows.specs.Rows.{rowNumbers, figureNumbers, figuresIn}
 
--- the most bids by number, and how long the lists are that hold as many rows and figures
+-- the most bids by number
 abbrev pub mostNumbers : ℕ
 mostNumbers = mostBids + mostApps
-
-abbrev pub rowsLength : ℕ
-rowsLength = mostNumbers * 6
-
-abbrev pub figuresLength : ℕ
-figuresLength = mostNumbers * 24
 
 -- the numbers v stand at a place of s
 abbrev pub Stands : (v s : List ℕ) (at : ℕ) → Type 0
@@ -24,6 +20,10 @@ Stands v s at = (j : ℕ) → j < length v → getD s (at + j) 0 ≡ getD v j 0
 -- every number of s is 0
 abbrev pub Blank : List ℕ → Type 0
 Blank s = (j : ℕ) → getD s j 0 ≡ 0
+
+-- and those of the figures
+abbrev pub BlankFigures : List ℕ → Type 0
+BlankFigures s = (j : ℕ) → j < rowsAt → getD s j 0 ≡ 0
 
 -- t has what s has before a place; and from a place on
 abbrev pub Kept : (at : ℕ) (s t : List ℕ) → Type 0
@@ -41,17 +41,41 @@ pub record Put (v : List ℕ) (n at : ℕ) (s t : List ℕ) : Type 0 where
 
 -- the figures of a bid of technology t stand at the place of bid k, for the first n years
 abbrev pub Figured : (years techs : List ℕ) (y t : ℕ) (x : Bid) (k n : ℕ) → List ℕ → Type 0
-Figured years techs y t x k n figures = (i : ℕ) → i < n → Stands (figuresIn years techs y t x i) figures (k * 24 + i * 3)
+Figured years techs y t x k n sheet = (i : ℕ) → i < n → Stands (figuresIn years techs y t x i) sheet (figuresAt + k * 24 + i * 3)
 
--- the rows of the first n bids of pot p are right; the figures of bid k in the first n years; those of the first n bids; the first n budgets
+-- the rows of the first n bids of pot p are right; the figures of bid k in the first n years; those of the first n bids; the first n limits
 abbrev pub RowsRight : Round → (p n : ℕ) → List ℕ → Type 0
-RowsRight R p n rows = (k : ℕ) → k < n → Stands (rowNumbers R p k) rows (k * 6)
+RowsRight R p n sheet = (k : ℕ) → k < n → Stands (rowNumbers R p k) sheet (rowsAt + k * 6)
 
 abbrev pub FiguresRight : Round → (p k n : ℕ) → List ℕ → Type 0
-FiguresRight R p k n figures = (i : ℕ) → i < n → Stands (figureNumbers R p k i) figures (k * 24 + i * 3)
+FiguresRight R p k n sheet = (i : ℕ) → i < n → Stands (figureNumbers R p k i) sheet (figuresAt + k * 24 + i * 3)
 
 abbrev pub AllFigures : Round → (p n : ℕ) → List ℕ → Type 0
-AllFigures R p n figures = (k : ℕ) → k < n → FiguresRight R p k (R .y) figures
+AllFigures R p n sheet = (k : ℕ) → k < n → FiguresRight R p k (R .y) sheet
 
-abbrev pub BudgetsRight : (y : ℕ) (pots : List ℕ) (p n : ℕ) → List ℕ → Type 0
-BudgetsRight y pots p n budgets = (i : ℕ) → i < n → getD budgets i 0 ≡ budgetAt y pots p i
+abbrev pub LimitsRight : (y : ℕ) (pots : List ℕ) (p n : ℕ) → List ℕ → Type 0
+LimitsRight y pots p n sheet = (i : ℕ) → i < n → getD sheet i 0 ≡ budgetAt y pots p i
+
+-- ---- from s to t: the rows of all bids were written; the figures of one bid, and of all; the limits; the first n of m bids that enter. Nothing else was changed
+pub record RowsWritten (R : Round) (p : ℕ) (s t : List ℕ) : Type 0 where
+  pub right : RowsRight R p mostNumbers t
+  pub kept : Kept rowsAt s t
+
+pub record FiguresOf (R : Round) (p k : ℕ) (s t : List ℕ) : Type 0 where
+  pub right : FiguresRight R p k (R .y) t
+  pub kept : Kept (figuresAt + k * 24) s t
+  pub rest : Rest (figuresAt + k * 24 + 24) s t
+
+pub record FiguresWritten (R : Round) (p : ℕ) (s t : List ℕ) : Type 0 where
+  pub right : AllFigures R p (R .b + R .n) t
+  pub rest : Rest rowsAt s t
+
+pub record LimitsWritten (y : ℕ) (pots : List ℕ) (p : ℕ) (s t : List ℕ) : Type 0 where
+  pub right : LimitsRight y pots p y t
+  pub rest : Rest 8 s t
+
+pub record Entered (m : ℕ) (s t : List ℕ) (n : ℕ) : Type 0 where
+  pub few : n ≤ m
+  pub right : entrants t n ≡ sift (inAuction s) (below m)
+  pub kept : Kept 8 s t
+  pub rest : Rest figuresAt s t

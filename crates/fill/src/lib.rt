@@ -1,5 +1,6 @@
-// The sheet of one pot, filled from the sections of an accepted file and their counts. The lent figures are blank; what the other lists held does not matter.
+// The sheet of one pot, filled from the sections of an accepted file and their counts. The lent sheet is blank.
 use rules::Sections;
+use sheet::{Sheet, Size};
 ghost use mathlib.Core.Path.{_≡_};
 ghost use mathlib.Core.Bool.{true};
 ghost use Prim.Native.Nat.{_+_, _*_, _≤_, _<_};
@@ -7,9 +8,9 @@ ghost use lib.ListN.{length};
 ghost use Rattle.rules.specs.Names.{mostYears, mostPots, potWidth};
 ghost use Rattle.rules.specs.Round.{mine, potOf};
 ghost use Rattle.laws.specs.Reading.{Sound};
-ghost use Rattle.sheet.specs.Sheet.{potIn, Ready};
+ghost use Rattle.sheet.specs.Sheet.{sheetLength, potIn, Ready};
 ghost use Rattle.rows.specs.Rows.{roundIn};
-ghost use Rattle.fill.specs.Fill.{mostNumbers, rowsLength, figuresLength, Blank, Kept, Rest, Put, RowsRight, FiguresRight, AllFigures, BudgetsRight};
+ghost use Rattle.fill.specs.Fill.{mostNumbers, Blank, BlankFigures, Put, RowsRight, RowsWritten, FiguresOf, FiguresWritten, LimitsWritten, Entered};
 
 // The most numbers of bids: the sealed ones, and an automatic one for each application.
 const BIDS: usize = 320;
@@ -22,14 +23,14 @@ fn pot_place(y: usize, pot: usize) -> usize
     pot * (8 * y)
 }
 
-// The numbers v at a place of s.
-fn put(s: &mut [u64], at: usize, v: &[u64])
-    requires { ⌜ at + length (now v) ≤ length (now s) ⌝ }
-    ensures { λ _. ⌜ Put (now (v .entry)) (length (now (v .entry))) at (now (s .entry)) (now (s .exit)) ⌝ }
+// The numbers v at a place of the sheet.
+fn put(sheet: &mut Sheet, at: usize, v: &[u64])
+    requires { ⌜ (at + length (now v) ≤ sheetLength) × (length (now sheet) ≡ sheetLength) ⌝ }
+    ensures { λ _. ⌜ Put (now (v .entry)) (length (now (v .entry))) at (now (sheet .entry)) (now (sheet .exit)) ⌝ }
 {
     let mut j: usize = 0;
     while j < v.len() {
-        s[at + j] = v[j];
+        sheet[at + j] = v[j];
         j += 1;
     }
 }
@@ -43,15 +44,15 @@ fn fill_rows(
     bids: &[u8],
     z: Sections,
     pot: usize,
-    rows: &mut [u64],
+    sheet: &mut Sheet,
 )
-    requires { ⌜ Sound (roundIn (now years) (now pots) (now techs) (now apps) (now bids) z) × (length (now rows) ≡ rowsLength) ⌝ }
-    ensures { λ _. ⌜ RowsRight (roundIn (now (years .entry)) (now (pots .entry)) (now (techs .entry)) (now (apps .entry)) (now (bids .entry)) z) pot mostNumbers (now (rows .exit)) ⌝ }
+    requires { ⌜ Sound (roundIn (now years) (now pots) (now techs) (now apps) (now bids) z) × (length (now sheet) ≡ sheetLength) ⌝ }
+    ensures { λ _. ⌜ RowsWritten (roundIn (now (years .entry)) (now (pots .entry)) (now (techs .entry)) (now (apps .entry)) (now (bids .entry)) z) pot (now (sheet .entry)) (now (sheet .exit)) × (length (now (sheet .exit)) ≡ sheetLength) ⌝ }
 {
     let mut k: usize = 0;
     while k < BIDS {
         let v = rows::row(years, pots, techs, apps, bids, z, pot, k);
-        put(rows, k * sheet::ROW, &v);
+        put(sheet, sheet::ROWS_AT + k * sheet::ROW, &v);
         k += 1;
     }
 }
@@ -66,12 +67,11 @@ fn fill_years(
     z: Sections,
     pot: usize,
     k: usize,
-    figures: &mut [u64],
+    sheet: &mut Sheet,
 )
-    requires { ⌜ Sound (roundIn (now years) (now pots) (now techs) (now apps) (now bids) z) × (figuresLength ≤ length (now figures)) ⌝ }
+    requires { ⌜ Sound (roundIn (now years) (now pots) (now techs) (now apps) (now bids) z) × (length (now sheet) ≡ sheetLength) ⌝ }
     requires { ⌜ mine (roundIn (now years) (now pots) (now techs) (now apps) (now bids) z) pot k ≡ true ⌝ }
-    ensures { λ _. ⌜ FiguresRight (roundIn (now (years .entry)) (now (pots .entry)) (now (techs .entry)) (now (apps .entry)) (now (bids .entry)) z) pot k (z .years) (now (figures .exit)) ×
-        Kept (k * 24) (now (figures .entry)) (now (figures .exit)) × Rest (k * 24 + 24) (now (figures .entry)) (now (figures .exit)) ⌝ }
+    ensures { λ _. ⌜ FiguresOf (roundIn (now (years .entry)) (now (pots .entry)) (now (techs .entry)) (now (apps .entry)) (now (bids .entry)) z) pot k (now (sheet .entry)) (now (sheet .exit)) × (length (now (sheet .exit)) ≡ sheetLength) ⌝ }
 {
     let y = z.years;
     let x = rows::bid_of(techs, apps, bids, y, z.bids, k);
@@ -79,7 +79,7 @@ fn fill_years(
     let mut i: usize = 0;
     while i < y {
         let v = rows::figure(years, techs, y, t, x, i);
-        put(figures, k * sheet::FIGURES + i * sheet::FIGURE, &v);
+        put(sheet, sheet::FIGURES_AT + k * sheet::FIGURES + i * sheet::FIGURE, &v);
         i += 1;
     }
 }
@@ -93,34 +93,50 @@ fn fill_figures(
     bids: &[u8],
     z: Sections,
     pot: usize,
-    rows: &[u64],
-    figures: &mut [u64],
+    sheet: &mut Sheet,
 )
-    requires { ⌜ Sound (roundIn (now years) (now pots) (now techs) (now apps) (now bids) z) × (figuresLength ≤ length (now figures)) × Blank (now figures) ⌝ }
-    requires { ⌜ (length (now rows) ≡ rowsLength) × RowsRight (roundIn (now years) (now pots) (now techs) (now apps) (now bids) z) pot mostNumbers (now rows) ⌝ }
-    ensures { λ _. ⌜ AllFigures (roundIn (now (years .entry)) (now (pots .entry)) (now (techs .entry)) (now (apps .entry)) (now (bids .entry)) z) pot (z .bids + z .applications) (now (figures .exit)) ⌝ }
+    requires { ⌜ Sound (roundIn (now years) (now pots) (now techs) (now apps) (now bids) z) × (length (now sheet) ≡ sheetLength) ⌝ }
+    requires { ⌜ RowsRight (roundIn (now years) (now pots) (now techs) (now apps) (now bids) z) pot mostNumbers (now sheet) × BlankFigures (now sheet) ⌝ }
+    ensures { λ _. ⌜ FiguresWritten (roundIn (now (years .entry)) (now (pots .entry)) (now (techs .entry)) (now (apps .entry)) (now (bids .entry)) z) pot (now (sheet .entry)) (now (sheet .exit)) × (length (now (sheet .exit)) ≡ sheetLength) ⌝ }
 {
     let m = z.bids + z.applications;
     let mut k: usize = 0;
     while k < m {
-        if sheet::standing(rows, k) != sheet::ABSENT {
-            fill_years(years, pots, techs, apps, bids, z, pot, k, figures);
+        if sheet::standing(sheet, k) != sheet::ABSENT {
+            fill_years(years, pots, techs, apps, bids, z, pot, k, sheet);
         }
         k += 1;
     }
 }
 
-// The budgets of the pot, in a file of y years.
-fn fill_budgets(pots: &[u8], y: usize, pot: usize, budgets: &mut [u64])
-    requires { ⌜ (y ≤ mostYears) × (pot < mostPots) × (pot * potWidth y + potWidth y ≤ length (now pots)) × (y ≤ length (now budgets)) ⌝ }
-    ensures { λ _. ⌜ BudgetsRight y (now (pots .entry)) pot y (now (budgets .exit)) ⌝ }
+// The limits: the budgets of the pot, in a file of y years.
+fn fill_limits(pots: &[u8], y: usize, pot: usize, sheet: &mut Sheet)
+    requires { ⌜ (y ≤ mostYears) × (pot < mostPots) × (pot * potWidth y + potWidth y ≤ length (now pots)) × (length (now sheet) ≡ sheetLength) ⌝ }
+    ensures { λ _. ⌜ LimitsWritten y (now (pots .entry)) pot (now (sheet .entry)) (now (sheet .exit)) × (length (now (sheet .exit)) ≡ sheetLength) ⌝ }
 {
     let at = pot_place(y, pot);
     let mut i: usize = 0;
     while i < y {
-        budgets[i] = fields::le64(pots, at + 8 * i);
+        sheet[i] = fields::le64(pots, at + 8 * i);
         i += 1;
     }
+}
+
+// The bids that enter the auction, among the first m, and how many these are.
+fn fill_entrants(m: usize, sheet: &mut Sheet) -> usize
+    requires { ⌜ (m ≤ mostNumbers) × (length (now sheet) ≡ sheetLength) ⌝ }
+    ensures { λ r. ⌜ Entered m (now (sheet .entry)) (now (sheet .exit)) r × (length (now (sheet .exit)) ≡ sheetLength) ⌝ }
+{
+    let mut n: usize = 0;
+    let mut k: usize = 0;
+    while k < m {
+        if sheet::standing(sheet, k) == sheet::ENTERED {
+            sheet[sheet::ENTRANTS_AT + n] = k as u64;
+            n += 1;
+        }
+        k += 1;
+    }
+    n
 }
 
 // The sheet of the pot: it shows the pot of the round, and is ready to be cleared.
@@ -132,17 +148,22 @@ pub fn fill(
     bids: &[u8],
     z: Sections,
     pot: usize,
-    rows: &mut [u64],
-    figures: &mut [u64],
-    budgets: &mut [u64],
-)
+    sheet: &mut Sheet,
+) -> Size
     requires { ⌜ Sound (roundIn (now years) (now pots) (now techs) (now apps) (now bids) z) × (pot < z .pots) ⌝ }
-    requires { ⌜ (length (now rows) ≡ rowsLength) × (figuresLength ≤ length (now figures)) × (mostYears ≤ length (now budgets)) × Blank (now figures) ⌝ }
-    ensures { λ _. ⌜ potIn (now (rows .exit)) (now (figures .exit)) (now (budgets .exit)) (z .bids) (z .bids + z .applications) (z .years)
-        ≡ potOf (roundIn (now (years .entry)) (now (pots .entry)) (now (techs .entry)) (now (apps .entry)) (now (bids .entry)) z) pot ⌝ }
-    ensures { λ _. ⌜ Ready (now (rows .exit)) (now (figures .exit)) (now (budgets .exit)) (z .bids) (z .bids + z .applications) (z .years) ⌝ }
+    requires { ⌜ (length (now sheet) ≡ sheetLength) × Blank (now sheet) ⌝ }
+    ensures { λ r. ⌜ (potIn (now (sheet .exit)) r ≡ potOf (roundIn (now (years .entry)) (now (pots .entry)) (now (techs .entry)) (now (apps .entry)) (now (bids .entry)) z) pot) × Ready (now (sheet .exit)) r ⌝ }
+    ensures { λ r. ⌜ (r .sealed ≡ z .bids) × (r .bids ≡ z .bids + z .applications) ⌝ }
 {
-    fill_rows(years, pots, techs, apps, bids, z, pot, rows);
-    fill_figures(years, pots, techs, apps, bids, z, pot, rows, figures);
-    fill_budgets(pots, z.years, pot, budgets);
+    fill_rows(years, pots, techs, apps, bids, z, pot, sheet);
+    fill_figures(years, pots, techs, apps, bids, z, pot, sheet);
+    fill_limits(pots, z.years, pot, sheet);
+    let m = z.bids + z.applications;
+    let entered = fill_entrants(m, sheet);
+    Size {
+        years: z.years,
+        sealed: z.bids,
+        bids: m,
+        entered,
+    }
 }

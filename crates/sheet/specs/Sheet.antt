@@ -12,15 +12,16 @@ use Rattle.rules.specs.Value.{pound}
 use Rattle.rules.specs.Pot.{Pot}
 use Rattle.sheet.specs.declared.Size.{Size}
 
--- ---- what stands where: 8 limits, 320 bids that enter, 320 rows of 6, and the figures of 320 bids in 8 years, 3 to a year
+-- ---- what stands where: 8 limits, 320 bids that enter, the figures of 320 bids in 8 years, 3 to a year, and last 320 rows of 6: there is no number after
+-- them, so that a bid past the last has a row of zeros
 abbrev pub entrantsAt : ℕ
 entrantsAt = 8
 
-abbrev pub rowsAt : ℕ
-rowsAt = 328
-
 abbrev pub figuresAt : ℕ
-figuresAt = 2248
+figuresAt = 328
+
+abbrev pub rowsAt : ℕ
+rowsAt = 8008
 
 abbrev pub sheetLength : ℕ
 sheetLength = 9928
@@ -51,32 +52,32 @@ abbrev pub spare : ℕ
 spare = 2
 
 unfoldable pub rowStanding : List ℕ → ℕ → ℕ
-rowStanding sheet k = getD sheet (328 + k * 6) 0
+rowStanding sheet k = getD sheet (8008 + k * 6) 0
 
 unfoldable pub rowApp : List ℕ → ℕ → ℕ
-rowApp sheet k = getD sheet (328 + k * 6 + 1) 0
+rowApp sheet k = getD sheet (8008 + k * 6 + 1) 0
 
 unfoldable pub rowYear : List ℕ → ℕ → ℕ
-rowYear sheet k = getD sheet (328 + k * 6 + 2) 0
+rowYear sheet k = getD sheet (8008 + k * 6 + 2) 0
 
 unfoldable pub rowPrice : List ℕ → ℕ → ℕ
-rowPrice sheet k = getD sheet (328 + k * 6 + 3) 0
+rowPrice sheet k = getD sheet (8008 + k * 6 + 3) 0
 
 unfoldable pub rowDraw : List ℕ → ℕ → ℕ
-rowDraw sheet k = getD sheet (328 + k * 6 + 4) 0
+rowDraw sheet k = getD sheet (8008 + k * 6 + 4) 0
 
 unfoldable pub rowCap : List ℕ → ℕ → ℕ
-rowCap sheet k = getD sheet (328 + k * 6 + 5) 0
+rowCap sheet k = getD sheet (8008 + k * 6 + 5) 0
 
 -- ---- the figures of a bid in a year, 3 numbers to a year and 8 years to a bid: reference price, load factor × hours × capacity, (1 − TLM) × RQM
 unfoldable pub figReference : List ℕ → (k y : ℕ) → ℕ
-figReference sheet k y = getD sheet (2248 + k * 24 + y * 3) 0
+figReference sheet k y = getD sheet (328 + k * 24 + y * 3) 0
 
 unfoldable pub figEnergy : List ℕ → (k y : ℕ) → ℕ
-figEnergy sheet k y = getD sheet (2248 + k * 24 + y * 3 + 1) 0
+figEnergy sheet k y = getD sheet (328 + k * 24 + y * 3 + 1) 0
 
 unfoldable pub figShare : List ℕ → (k y : ℕ) → ℕ
-figShare sheet k y = getD sheet (2248 + k * 24 + y * 3 + 2) 0
+figShare sheet k y = getD sheet (328 + k * 24 + y * 3 + 2) 0
 
 -- the exact cost in parts of bid k in year y at a clearing price
 unfoldable pub sheetCost : List ℕ → (k price y : ℕ) → ℕ

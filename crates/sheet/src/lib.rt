@@ -25,14 +25,14 @@ pub const FIGURE: usize = 3;
 
 pub const FIGURES: usize = 24;
 
-// Where the entrants, the rows and the figures start, after the limits; and the whole.
+// Where the entrants, the figures and the rows start, after the limits; and the whole.
 pub const ENTRANTS_AT: usize = COLUMNS;
 
-pub const ROWS_AT: usize = ENTRANTS_AT + BIDS;
+pub const FIGURES_AT: usize = ENTRANTS_AT + BIDS;
 
-pub const FIGURES_AT: usize = ROWS_AT + BIDS * ROW;
+pub const ROWS_AT: usize = FIGURES_AT + BIDS * FIGURES;
 
-pub const LENGTH: usize = FIGURES_AT + BIDS * FIGURES;
+pub const LENGTH: usize = ROWS_AT + BIDS * ROW;
 
 pub type Sheet = [u64; LENGTH];
 

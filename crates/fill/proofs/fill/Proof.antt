@@ -3,43 +3,40 @@ use borrow.Author.Needs.{needs}
 use denote.Ref.{now}
 use Rattle.rows.specs.Rows.{roundIn}
 use native.Mathlib.Omega.{arith}
-use mathlib.Core.Path.{_∙_}
+use mathlib.Core.Path.{refl, _∙_}
 use Rattle.fill.proofs.Laws.{pot-room}
-use Rattle.fill.proofs.Shown.{Written, shows, ready}
+use Rattle.fill.proofs.Shown.{written, shows, ready}
 use Rattle.fill.proofs.fill.Statement.{statement}
 use Rattle.fill.proofs.fill.Tie as tie
 
 fill-figures-requires : tie.Need-fill-figures-requires
 fill-figures-requires c κs =
-    let s = c .before .before .before .before .before .before .before .before .before .before .before .before .before .before in
-    ((s .pre .0 .0, s .pre .1 .1, s .pre .1 .3), (c .before .before .before .rows .given ∙ s .pre .1 .0, c .before .before .before .before .fill-rows .ensures))
+    let pre = c .before .before .before .before .before .before .before .before .pre in
+    let rows = c .before .fill-rows .ensures in
+    ((pre .0 .0, rows .1), (rows .0 .right, λ j h. rows .0 .kept j h ∙ pre .1 .1 j))
 
-fill-budgets-requires : tie.Need-fill-budgets-requires
-fill-budgets-requires c κs =
-    let s = c .before .before .before .before .before .before .before .before .before .before .before .before .before .before .before .before .before .before in
-    let S = s .pre .0 .0 in
-    (S .years-most, omega (arith, S .pots-few, s .pre .0 .1), pot-room _ S _ (s .pre .0 .1), omega (arith, S .years-most, s .pre .1 .2))
+fill-limits-requires : tie.Need-fill-limits-requires
+fill-limits-requires c κs =
+    let pre = c .before .before .before .before .before .before .before .before .before .before .pre in
+    let S = pre .0 .0 in
+    (S .years-most, omega (arith, S .pots-few, pre .0 .1), pot-room _ S _ (pre .0 .1), c .before .fill-figures .ensures .1)
+
+add-m : tie.Need-add-m
+add-m c = let S = c .before .before .before .before .before .before .before .before .before .before .before .before .pre .0 .0 in omega (arith, S .bids-few, S .apps-few)
+
+fill-entrants-requires : tie.Need-fill-entrants-requires
+fill-entrants-requires c κs = let S = c .before .before .before .before .before .before .before .before .before .before .before .before .before .pre .0 .0 in (omega (arith, S .bids-few, S .apps-few), c .before .before .fill-limits .ensures .1)
 
 returns : tie.Need-returns
 returns c =
-    let s = c .before .before .before .before .before .before .before .before .before .before .before .before .before .before .before .before .before .before .before .before .before in
-    let a = s .args in
+    let pre = c .before .before .before .before .before .before .before .before .before .before .before .before .before .before .pre in
+    let S = pre .0 .0 in
+    let a = c .before .before .before .before .before .before .before .before .before .before .before .before .before .before .args in
     let R = roundIn (now (a .years)) (now (a .pots)) (now (a .techs)) (now (a .apps)) (now (a .bids)) (a .z) in
-    let rows = c .before .before .before .before .before .before .before .before .before .before .before .fill-rows in
-    let figures = c .before .before .before .before .before .before .fill-figures in
-    let budgets = c .before .before .fill-budgets in
-    let w : Written R (a .pot) (rows .last .1 .1 .1 .1 .1 .1 .1 .0) (figures .last .1 .1 .1 .1 .1 .1 .1 .1 .0) (budgets .last .1 .1 .1 .0) = record {
-      rows-length = c .before .before .before .before .before .before .before .before .before .before .rows .given ∙ s .pre .1 .0;
-      figures-length = omega (arith, c .before .before .before .before .before .figures .given, s .pre .1 .1);
-      budgets-length = omega (arith, c .before .budgets .given, s .pre .1 .2);
-      rows-right = rows .ensures;
-      figures-right = figures .ensures;
-      budgets-right = budgets .ensures;
-    } in
-    let bytes = c .before .before .before .before .before .before .before .before .before .before .before .before .before .before .before .before .before .shared-slice-known4 .given in
-    (shows R (s .pre .0 .0) (a .pot) w, ready R (s .pre .0 .0) (a .pot) (λ i. omega (arith, bytes i)) (s .pre .0 .1) w)
+    let w = written refl (S .years-most) (c .before .before .before .before .before .before .before .fill-rows .ensures .0) (c .before .before .before .before .before .fill-figures .ensures .0) (c .before .before .before .fill-limits .ensures .0) (c .fill-entrants .ensures .0) (c .fill-entrants .ensures .1) in
+    let bytes = c .before .before .before .before .before .before .before .before .before .before .shared-slice-known4 .given in
+    ((shows R S (a .pot) w, ready R S (a .pot) (λ i. omega (arith, bytes i)) (pre .0 .1) w), (refl, refl))
 
 pub fill-spec : {M : Type 1} → statement M
 fill-spec =
-    tie.close (tie.spec (λ c κs. search needs) fill-figures-requires fill-budgets-requires (λ c. search needs) (λ c. search needs) (λ c. search needs)
-    returns)
+    tie.close (tie.spec (λ c κs. search needs) fill-figures-requires fill-limits-requires add-m fill-entrants-requires returns)

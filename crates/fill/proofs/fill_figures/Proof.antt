@@ -1,59 +1,58 @@
 -- `fill::fill_figures` meets its contract. After k turns the figures of the first k bids are right, and those after them are blank yet.
-use Prim.Native.Nat.{_≤_, _-_}
+use Prim.Native.Nat.{_≤_, _<_, _-_}
+use mathlib.Core.Path.{_≡_, refl, ap, _∙_}
+use lib.ListN.{length}
 use native.Mathlib.Omega.{arith}
 use mathlib.Core.Logic.{⊎-elim}
 use denote.Ref.{now}
 use Rattle.rows.specs.Rows.{roundIn}
-use Rattle.fill.specs.Fill.{AllFigures}
-use Rattle.fill.proofs.Laws.{Done, done-none, done-own, done-other, of-pot, of-another, all-of}
+use Rattle.fill.proofs.Laws.{Done, done-none, done-own, done-other, done-all, of-pot, of-another}
 use Rattle.fill.proofs.fill_figures.Statement.{statement}
 use Rattle.fill.proofs.fill_figures.Tie as tie
 
 abbrev Inv-loop : tie.InvT-loop
-Inv-loop years pots techs apps bids z pot rows figures₀ m k₀ figures k = (k ≤ m) × Done (roundIn years pots techs apps bids z) pot k figures₀ figures
+Inv-loop years pots techs apps bids z pot sheet₀ m k₀ sheet k = (k ≤ m) × (length sheet ≡ 9928) × Done (roundIn years pots techs apps bids z) pot k sheet₀ sheet
 
 abbrev μ-loop : tie.MeasureT-loop
-μ-loop years pots techs apps bids z pot rows figures₀ m k₀ figures k = m - k
+μ-loop years pots techs apps bids z pot sheet₀ m k₀ sheet k = m - k
 
 loop-holds : tie.Need-loop-holds Inv-loop μ-loop
-loop-holds c = (omega arith, done-none _ _ _)
+loop-holds c = (omega arith, c .before .before .before .before .before .before .pre .0 .1, done-none _ _ _)
 
 standing-requires : tie.Need-standing-requires Inv-loop μ-loop
-standing-requires c κs =
-    let p = c .before .before .before .before .before .before .before .before .before .before .pre in
-    omega (arith, c .loop-test .taken, p .0 .0 .bids-few, p .0 .0 .apps-few, p .1 .0)
+standing-requires c κs = let p = c .before .before .before .before .before .before .before .before .before .pre in omega (arith, c .before .loop-test .taken, p .0 .0 .bids-few, p .0 .0 .apps-few)
 
 fill-years-requires : tie.Need-fill-years-requires Inv-loop μ-loop
 fill-years-requires c κs =
-    let s = c .before .before .before .before .before .before .before .before .before .before .before .before .before in
-    let S = s .pre .0 .0 in (
-      (S, omega (arith, s .pre .0 .1, c .before .before .before .before .loop .inv .1 .same)),
-      of-pot _ _ _ (now (s .args .rows)) (omega (arith, c .before .before .before .loop-test .taken, S .bids-few, S .apps-few)) (s .pre .1 .1) (c .before .before .standing .ensures) (c .before .if1 .taken),
+    let pre = c .before .before .before .before .before .before .before .before .before .before .before .before .pre in
+    let S = pre .0 .0 in
+    let inv = c .before .before .before .before .before .loop .inv in
+    let small : c .before .before .before .before .before .loop .k < 320 = omega (arith, c .before .before .before .before .loop-test .taken, S .bids-few, S .apps-few) in (
+      (S, inv .1),
+      of-pot _ _ _ (now (c .before .before .before .before .before .before .before .before .before .before .before .before .args .sheet)) (c .before .before .before .before .before .loop .sheet) small (pre .1 .0) (λ j h. inv .2 .rest j (omega (arith, c .before .before .before .before .loop-test .taken, S .bids-few, S .apps-few))) (c .before .before .standing .ensures) (c .before .if1 .taken),
     )
 
 loop-again : tie.Need-loop-again Inv-loop μ-loop
 loop-again c =
-    let s = c .before .before .before .before .before .before .before .before .before .before .before .before in
-    let S = s .pre .0 .0 in
-    let d = c .before .before .before .loop .inv .1 in (
-      omega (arith, c .before .before .loop-test .taken),
-      ⊎-elim (λ w. let turn = w .2 .ensures in done-own _ _ _ d (w .5) (S .years-most) (w .3 .given) (turn .0) (turn .1) (turn .2))
-          (λ w. done-other _ _ _ d (w .1) (s .pre .0 .2)
-          (of-another _ _ _ (now (s .args .rows)) (omega (arith, c .before .before .loop-test .taken, S .bids-few, S .apps-few)) (s .pre .1 .1) (c .before .standing .ensures) (w .0 .left)))
+    let pre = c .before .before .before .before .before .before .before .before .before .before .before .pre in
+    let S = pre .0 .0 in
+    let inv = c .before .before .before .before .loop .inv in
+    let few : c .before .before .before .before .loop .k < 320 = omega (arith, c .before .before .before .loop-test .taken, S .bids-few, S .apps-few) in (
+      omega (arith, c .before .before .before .loop-test .taken),
+      ⊎-elim (λ w. ap length (w .3) ∙ w .2 .ensures .1) (λ w. ap length (w .1) ∙ inv .1) (c .if1 .came),
+      ⊎-elim (λ w. done-own _ _ _ (inv .2) (w .3) (S .years-most) (w .2 .ensures .0))
+          (λ w. done-other _ _ _ (inv .2) (w .1) few (S .years-most) (pre .1 .1)
+          (of-another _ _ _ (now (c .before .before .before .before .before .before .before .before .before .before .before .args .sheet)) (c .before .before .before .before .loop .sheet) few (pre .1 .0) (λ j h. inv .2 .rest j (omega (arith, few))) (c .before .standing .ensures) (w .0 .left)))
           (c .if1 .came),
     )
 
-same-length : tie.Need-same-length Inv-loop μ-loop
-same-length c = c .before .loop .inv .1 .same
-
 returns : tie.Need-returns Inv-loop μ-loop
 returns c =
-    let a = c .before .before .before .before .before .before .before .before .before .before .args in
-    let R = roundIn (now (a .years)) (now (a .pots)) (now (a .techs)) (now (a .apps)) (now (a .bids)) (a .z) in
-    let l = c .before .loop in
-    all-of (λ n. AllFigures R (a .pot) n (l .figures)) (l .inv .1 .right) (l .inv .0) (c .loop-test .left)
+    let S = c .before .before .before .before .before .before .before .before .pre .0 .0 in
+    let inv = c .before .loop .inv in
+    (done-all _ _ refl (omega (arith, S .bids-few, S .apps-few)) (inv .0) (c .loop-test .left) (inv .2), inv .1)
 
 pub fill-figures-spec : {M : Type 1} → statement M
 fill-figures-spec =
     tie.close (tie.spec Inv-loop μ-loop (λ c. omega arith) loop-holds standing-requires fill-years-requires (λ c. omega arith) (λ c. omega arith)
-    loop-again same-length returns)
+    loop-again returns)

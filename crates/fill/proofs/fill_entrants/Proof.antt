@@ -1,0 +1,43 @@
+-- `fill::fill_entrants` meets its contract. After k turns the first k bids have been looked at.
+use Prim.Native.Nat.{_≤_, _-_}
+use native.Mathlib.Omega.{arith}
+use mathlib.Core.Logic.{⊎-elim}
+use Rattle.fill.proofs.Laws.{Entering, entering-none, entering-hit, entering-miss, entering-done}
+use Rattle.fill.proofs.fill_entrants.Statement.{statement}
+use Rattle.fill.proofs.fill_entrants.Tie as tie
+
+abbrev Inv-loop : tie.InvT-loop
+Inv-loop m sheet₀ n₀ k₀ sheet n k = (k ≤ m) × (n ≤ k) × Entering sheet₀ k n sheet
+
+abbrev μ-loop : tie.MeasureT-loop
+μ-loop m sheet₀ n₀ k₀ sheet n k = m - k
+
+loop-holds : tie.Need-loop-holds Inv-loop μ-loop
+loop-holds c = (omega arith, omega arith, entering-none _ (c .pre .1))
+
+standing-requires : tie.Need-standing-requires Inv-loop μ-loop
+standing-requires c κs = omega (arith, c .before .loop-test .taken, c .before .before .before .pre .0)
+
+add-sheet : tie.Need-add-sheet Inv-loop μ-loop
+add-sheet c = omega (arith, c .before .before .before .before .loop .inv .1, c .before .before .before .loop-test .taken, c .before .before .before .before .before .pre .0)
+
+element-write-sheet : tie.Need-element-write-sheet Inv-loop μ-loop
+element-write-sheet c = omega (arith, c .before .before .before .before .loop .inv .1, c .before .before .before .loop-test .taken, c .before .before .before .before .before .pre .0)
+
+loop-again : tie.Need-loop-again Inv-loop μ-loop
+loop-again c =
+    let inv = c .before .before .before .before .loop .inv in (
+      omega (arith, c .before .before .before .loop-test .taken),
+      ⊎-elim (λ w. omega (arith, inv .1, w .2)) (λ w. omega (arith, inv .1, w .2)) (c .if1 .came),
+      ⊎-elim (λ w. entering-hit _ _ _ (inv .2) (c .before .standing .ensures) (omega (arith, c .before .before .before .loop-test .taken, c .before .before .before .before .before .pre .0)) (w .0 .taken) (w .1) (w .2))
+          (λ w. entering-miss _ _ _ (inv .2) (c .before .standing .ensures) (w .0 .left) (w .1) (w .2))
+          (c .if1 .came),
+    )
+
+returns : tie.Need-returns Inv-loop μ-loop
+returns c = let inv = c .before .loop .inv in (entering-done _ (inv .0) (c .loop-test .left) (inv .2), inv .2 .same)
+
+pub fill-entrants-spec : {M : Type 1} → statement M
+fill-entrants-spec =
+    tie.close (tie.spec Inv-loop μ-loop loop-holds standing-requires add-sheet (λ c. omega arith) element-write-sheet (λ c. omega arith)
+    (λ c. omega arith) (λ c. omega arith) loop-again returns)
