@@ -19,11 +19,10 @@ use Rattle.laws.specs.Reading.{Sound}
 use Rattle.laws.specs.Reading as r
 use Rattle.laws.specs.Mono.{Lawful}
 use Rattle.laws.specs.Bids.{mine-out, lawful}
-use Rattle.sheet.specs.declared.Size.{Size}
 use Rattle.sheet.specs.Sheet.{sheetLength, limitAt, entrants, absent, entered, spare, rowStanding, rowApp, rowYear, rowPrice, rowDraw, rowCap, figReference, figEnergy, figShare, sheetCost, inAuction, inTest, potIn, mostEnergy, Ready}
 use Rattle.rows.specs.Rows.{rowOf, standingOf, rowNumbers, figureNumbers}
 use Rattle.rows.proofs.Laws.{good, mine-in, row-blank, energy-most, share-most}
-use Rattle.fill.specs.Fill.{mostNumbers, RowsRight, AllFigures, LimitsRight, RowsWritten, FiguresWritten, LimitsWritten, Entered}
+use Rattle.fill.specs.Fill.{mostNumbers, RowsRight, AllFigures, LimitsRight, RowsWritten, FiguresWritten, LimitsWritten, Entered, sizeOf}
 
 -- what has been written
 pub record Written (R : Round) (p : ℕ) (sheet : List ℕ) (n : ℕ) : Type 0 where
@@ -47,10 +46,6 @@ written {R} {p} {m} {n} {s} {t} {u} {v} {w} em hy A B C D l = record {
   where
     same : (k : ℕ) → rowStanding w k ≡ rowStanding v k
     same k = unfold rowStanding in D .rest (8008 + k * 6) (omega arith)
-
--- the size of the sheet
-abbrev pub sizeOf : Round → ℕ → Size
-sizeOf R n = record { years = R .y; sealed = R .b; bids = R .b + R .n; entered = n }
 
 -- ---- tests of a standing
 

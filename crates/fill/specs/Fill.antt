@@ -6,6 +6,7 @@ use lib.ListN.{length, getD}
 use Rattle.rules.specs.Names.{mostApps, mostBids}
 use Rattle.rules.specs.Lists.{sift, below}
 use Rattle.rules.specs.File.{Round, Bid, budgetAt}
+use Rattle.sheet.specs.declared.Size.{Size}
 use Rattle.sheet.specs.Sheet.{figuresAt, rowsAt, entrants, inAuction}
 use Rattle.rows.specs.Rows.{rowNumbers, figureNumbers, figuresIn}
 
@@ -79,3 +80,7 @@ pub record Entered (m : ℕ) (s t : List ℕ) (n : ℕ) : Type 0 where
   pub right : entrants t n ≡ sift (inAuction s) (below m)
   pub kept : Kept 8 s t
   pub rest : Rest figuresAt s t
+
+-- the size of a round's sheet, where n bids enter
+abbrev pub sizeOf : Round → ℕ → Size
+sizeOf R n = record { years = R .y; sealed = R .b; bids = R .b + R .n; entered = n }

@@ -10,7 +10,7 @@ ghost use Rattle.rules.specs.Round.{mine, potOf};
 ghost use Rattle.laws.specs.Reading.{Sound};
 ghost use Rattle.sheet.specs.Sheet.{sheetLength, potIn, Ready};
 ghost use Rattle.rows.specs.Rows.{roundIn};
-ghost use Rattle.fill.specs.Fill.{mostNumbers, Blank, BlankFigures, Put, RowsRight, RowsWritten, FiguresOf, FiguresWritten, LimitsWritten, Entered};
+ghost use Rattle.fill.specs.Fill.{mostNumbers, Blank, BlankFigures, Put, RowsRight, RowsWritten, FiguresOf, FiguresWritten, LimitsWritten, Entered, sizeOf};
 
 // The most numbers of bids: the sealed ones, and an automatic one for each application.
 const BIDS: usize = 320;
@@ -153,7 +153,7 @@ pub fn fill(
     requires { ⌜ Sound (roundIn (now years) (now pots) (now techs) (now apps) (now bids) z) × (pot < z .pots) ⌝ }
     requires { ⌜ (length (now sheet) ≡ sheetLength) × Blank (now sheet) ⌝ }
     ensures { λ r. ⌜ (potIn (now (sheet .exit)) r ≡ potOf (roundIn (now (years .entry)) (now (pots .entry)) (now (techs .entry)) (now (apps .entry)) (now (bids .entry)) z) pot) × Ready (now (sheet .exit)) r ⌝ }
-    ensures { λ r. ⌜ (r .sealed ≡ z .bids) × (r .bids ≡ z .bids + z .applications) ⌝ }
+    ensures { λ r. ⌜ r ≡ sizeOf (roundIn (now (years .entry)) (now (pots .entry)) (now (techs .entry)) (now (apps .entry)) (now (bids .entry)) z) (r .entered) ⌝ }
 {
     fill_rows(years, pots, techs, apps, bids, z, pot, sheet);
     fill_figures(years, pots, techs, apps, bids, z, pot, sheet);

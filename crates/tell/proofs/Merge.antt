@@ -17,14 +17,16 @@ use Rattle.rules.specs.Result.{Told, told, toldIn, appTold, potAt}
 use Rattle.laws.specs.Lists.{case, In, here, sift-in, in-sift, in-below, below-in}
 use Rattle.laws.specs.Reading.{Sound, tech-pot, app-tech, bid-app}
 use Rattle.laws.specs.Bids.{appPot, bidPot, mine-own, mine-auto, bid-own}
+use Rattle.sheet.specs.declared.Size.{Size}
 use Rattle.sheet.specs.Sheet.{rowStanding, rowPrice, absent, inAuction, inTest, potIn}
 use Rattle.sets.specs.Sets.{fill}
 use Rattle.sets.proofs.Arrays.{put-is, memb-sift, fill-length, fill-at}
+use Rattle.fill.specs.Fill.{sizeOf}
 use Rattle.auction.specs.declared.Cleared.{Cleared}
 use Rattle.auction.specs.Cleared.{bidOr, paidOr, ClearedAs}
 use Rattle.result.specs.declared.Tellings.{Tellings}
 use Rattle.result.specs.Tells.{Tells}
-use Rattle.tell.specs.Tell.{wonIn, bidIn, paidIn, autoIn, stands, anewOf, placed}
+use Rattle.tell.specs.Tell.{Numbered, wonIn, bidIn, paidIn, autoIn, stands, anewOf, placed}
 use Rattle.tell.specs.Told.{ToldTo, toldWith}
 
 -- ---- rows of numbers
@@ -128,48 +130,48 @@ and-true-is : (x : Bool) → (x && true) ≡ x
 and-true-is true = refl
 and-true-is false = refl
 
-module _ (R : Round) (p : ℕ) (rows figures budgets : List ℕ) (E : potIn rows figures budgets (R .b) (R .b + R .n) (R .y) ≡ potOf R p) where
-  entering : (k : ℕ) → k < R .b + R .n → inAuction rows k ≡ (mine R p k && enters R k)
+module _ (R : Round) (p : ℕ) (sheet : List ℕ) (n : ℕ) (E : potIn sheet (sizeOf R n) ≡ potOf R p) where
+  entering : (k : ℕ) → k < R .b + R .n → inAuction sheet k ≡ (mine R p k && enters R k)
   entering k h =
-      sym (memb-sift (inAuction rows) k (R .b + R .n) h)
+      sym (memb-sift (inAuction sheet) k (R .b + R .n) h)
       ∙ ap (memb k) (shown ∙ ap (λ (Q : Pot). Q .bids) E ∙ meant)
       ∙ memb-sift (λ k. mine R p k && enters R k) k (R .b + R .n) h
     where
-      shown : sift (inAuction rows) (below (R .b + R .n)) ≡ potIn rows figures budgets (R .b) (R .b + R .n) (R .y) .bids
+      shown : sift (inAuction sheet) (below (R .b + R .n)) ≡ potIn sheet (sizeOf R n) .bids
       shown = unfold potIn in refl
 
       meant : potOf R p .bids ≡ sift (λ k. mine R p k && enters R k) (below (R .b + R .n))
       meant = unfold potOf assemble in refl
 
-  testing : (k : ℕ) → k < R .b + R .n → inTest rows (R .b) k ≡ (mine R p k && not (ltb k (R .b)))
+  testing : (k : ℕ) → k < R .b + R .n → inTest sheet (R .b) k ≡ (mine R p k && not (ltb k (R .b)))
   testing k h =
-      sym (memb-sift (inTest rows (R .b)) k (R .b + R .n) h)
+      sym (memb-sift (inTest sheet (R .b)) k (R .b + R .n) h)
       ∙ ap (memb k) (shown ∙ ap (λ (Q : Pot). Q .autos) E ∙ meant)
       ∙ memb-sift (λ k. mine R p k && not (ltb k (R .b))) k (R .b + R .n) h
     where
-      shown : sift (inTest rows (R .b)) (below (R .b + R .n)) ≡ potIn rows figures budgets (R .b) (R .b + R .n) (R .y) .autos
+      shown : sift (inTest sheet (R .b)) (below (R .b + R .n)) ≡ potIn sheet (sizeOf R n) .autos
       shown = unfold potIn in refl
 
       meant : potOf R p .autos ≡ sift (λ k. mine R p k && not (ltb k (R .b))) (below (R .b + R .n))
       meant = unfold potOf assemble in refl
 
-  priced : (k : ℕ) → rowPrice rows k ≡ potOf R p .price k
+  priced : (k : ℕ) → rowPrice sheet k ≡ potOf R p .price k
   priced k = shown ∙ ap (λ (Q : Pot). Q .price k) E
     where
-      shown : rowPrice rows k ≡ potIn rows figures budgets (R .b) (R .b + R .n) (R .y) .price k
+      shown : rowPrice sheet k ≡ potIn sheet (sizeOf R n) .price k
       shown = unfold potIn in refl
 
   -- an application is the pot's where its automatic bid stands in the sheet
-  own-app : (a : ℕ) → a < R .n → stands rows (R .b + a) ≡ eqb (appPot R a) p
+  own-app : (a : ℕ) → a < R .n → stands sheet (R .b + a) ≡ eqb (appPot R a) p
   unfolding stands
   own-app a h =
       let f : ltb (R .b + a) (R .b) ≡ false = le-ltb (R .b + a) (R .b) (omega arith) in
       let z : R .b + a - R .b ≡ a = omega arith in
-      let t : (not (ltb (R .b + a) (R .b)) && not (eqb (rowStanding rows (R .b + a)) absent)) ≡ (mine R p (R .b + a) && not (ltb (R .b + a) (R .b))) = testing (R .b + a) (omega arith) in
+      let t : (not (ltb (R .b + a) (R .b)) && not (eqb (rowStanding sheet (R .b + a)) absent)) ≡ (mine R p (R .b + a) && not (ltb (R .b + a) (R .b))) = testing (R .b + a) (omega arith) in
       (rw f at t) ∙ and-true-is (mine R p (R .b + a)) ∙ mine-auto R (R .b + a) p (omega arith) (omega arith) ∙ ap (λ (x : ℕ). eqb (appPot R x) p) z
 
   -- its automatic bid enters the auction where it has no sealed one
-  own-silent : (a : ℕ) → a < R .n → appPot R a ≡ p → inAuction rows (R .b + a) ≡ silent R a
+  own-silent : (a : ℕ) → a < R .n → appPot R a ≡ p → inAuction sheet (R .b + a) ≡ silent R a
   own-silent a h e =
       let z : R .b + a - R .b ≡ a = omega arith in
       entering (R .b + a) (omega arith)
@@ -178,37 +180,37 @@ module _ (R : Round) (p : ℕ) (rows figures budgets : List ℕ) (E : potIn rows
       enters-auto : R .b + a - R .b ≡ a → enters R (R .b + a) ≡ silent R a
       enters-auto z = unfold enters in rw (le-ltb (R .b + a) (R .b) (omega arith), z)
 
-  own-bid : (k : ℕ) → k < R .b → inAuction rows k ≡ eqb (bidPot R k) p
+  own-bid : (k : ℕ) → k < R .b → inAuction sheet k ≡ eqb (bidPot R k) p
   own-bid k h = entering k (omega arith) ∙ ap₂ _&&_ (mine-own R k p h) sealed ∙ and-true-is (eqb (bidPot R k) p)
     where
       sealed : enters R k ≡ true
       sealed = unfold enters in rw (lt-ltb k (R .b) h)
 
-  in-pot : (k : ℕ) → k < R .b + R .n → inAuction rows k ≡ true → In k (potOf R p .bids)
-  in-pot k h t = rw (← ap (λ (Q : Pot). Q .bids) E) (unfold potIn in in-sift (inAuction rows) (in-below k (R .b + R .n) h) t)
+  in-pot : (k : ℕ) → k < R .b + R .n → inAuction sheet k ≡ true → In k (potOf R p .bids)
+  in-pot k h t = rw (← ap (λ (Q : Pot). Q .bids) E) (unfold potIn in in-sift (inAuction sheet) (in-below k (R .b + R .n) h) t)
 
   small : R .b + R .n < noBid → Small (potOf R p)
-  small h k i = let j : In k (potIn rows figures budgets (R .b) (R .b + R .n) (R .y) .bids) = rw (ap (λ (Q : Pot). Q .bids) E) i in omega (arith, lies j)
+  small h k i = let j : In k (potIn sheet (sizeOf R n) .bids) = rw (ap (λ (Q : Pot). Q .bids) E) i in omega (arith, lies j)
     where
-      lies : In k (potIn rows figures budgets (R .b) (R .b + R .n) (R .y) .bids) → k < R .b + R .n
-      lies j = below-in k (R .b + R .n) (sift-in k (inAuction rows) (below (R .b + R .n)) (unfold potIn in j) .0)
+      lies : In k (potIn sheet (sizeOf R n) .bids) → k < R .b + R .n
+      lies j = below-in k (R .b + R .n) (sift-in k (inAuction sheet) (below (R .b + R .n)) (unfold potIn in j) .0)
 
   -- a number of each application: told before for the pots before, and now for this one's
   column-told : (f X : ℕ → ℕ) (l : List ℕ) → R .n ≤ length l
       → ((a : ℕ) → a < R .n → appPot R a < p → getD l a 0 ≡ X a) → ((a : ℕ) → a < R .n → appPot R a ≡ p → f a ≡ X a)
-      → (a : ℕ) → a < R .n → appPot R a < p + 1 → getD (fill l (λ a. anewOf (stands rows (R .b + a)) (f a) (getD l a 0)) (R .n)) a 0 ≡ X a
+      → (a : ℕ) → a < R .n → appPot R a < p + 1 → getD (fill l (λ a. anewOf (stands sheet (R .b + a)) (f a) (getD l a 0)) (R .n)) a 0 ≡ X a
   unfolding anewOf
   column-told f X l long old new a h q =
-      fill-at l (λ a. anewOf (stands rows (R .b + a)) (f a) (getD l a 0)) (R .n) a 0 long h
+      fill-at l (λ a. anewOf (stands sheet (R .b + a)) (f a) (getD l a 0)) (R .n) a 0 long h
       ∙ rw (own-app a h) (case (eqb (appPot R a) p) (λ t. rw t (new a h (eqb-true (appPot R a) p t)))
       (λ u. rw u (let z = eqb-false (appPot R a) p u in old a h (omega arith))))
 
   reasons-told : (f X : ℕ → ℕ) (l : List ℕ) → R .b ≤ length l
       → ((k : ℕ) → k < R .b → bidPot R k < p → getD l k 0 ≡ X k) → ((k : ℕ) → k < R .b → bidPot R k ≡ p → f k ≡ X k)
-      → (k : ℕ) → k < R .b → bidPot R k < p + 1 → getD (fill l (λ k. anewOf (inAuction rows k) (f k) (getD l k 0)) (R .b)) k 0 ≡ X k
+      → (k : ℕ) → k < R .b → bidPot R k < p + 1 → getD (fill l (λ k. anewOf (inAuction sheet k) (f k) (getD l k 0)) (R .b)) k 0 ≡ X k
   unfolding anewOf
   reasons-told f X l long old new k h q =
-      fill-at l (λ k. anewOf (inAuction rows k) (f k) (getD l k 0)) (R .b) k 0 long h
+      fill-at l (λ k. anewOf (inAuction sheet k) (f k) (getD l k 0)) (R .b) k 0 long h
       ∙ rw (own-bid k h) (case (eqb (bidPot R k) p) (λ t. rw t (new k h (eqb-true (bidPot R k) p t)))
       (λ u. rw u (let z = eqb-false (bidPot R k) p u in old k h (omega arith))))
 
@@ -241,7 +243,7 @@ module _ (R : Round) (p : ℕ) (rows figures budgets : List ℕ) (E : potIn rows
     reason-now : (k : ℕ) → k < R .b → bidPot R k ≡ p → getD (c .reasons) k 0 ≡ reason (potAt R k) k
     reason-now k l e = C .reason k (in-pot k (omega arith) (own-bid k l ∙ eq-eqb (bidPot R k) p e)) ∙ its-bid k l e
 
-    auto-now : (a : ℕ) → a < R .n → appPot R a ≡ p → autoIn (rowStanding rows (R .b + a)) (getD (c .reasons) (R .b + a) 0) ≡ appTold R a .reason
+    auto-now : (a : ℕ) → a < R .n → appPot R a ≡ p → autoIn (rowStanding sheet (R .b + a)) (getD (c .reasons) (R .b + a) 0) ≡ appTold R a .reason
     unfolding autoIn
     auto-now a l e =
         rw (own-silent a l e) (case (silent R a)
@@ -249,7 +251,7 @@ module _ (R : Round) (p : ℕ) (rows figures budgets : List ℕ) (E : potIn rows
         (λ u. rw u))
         ∙ sym (auto-of (potOf R p) c C (small few) (R .b) (silent R a) a (least a l)) ∙ ap (λ (x : Told). x .reason) (its a e)
 
-    pub tell-pot : (t : Tellings) → ToldTo R p t → ToldTo R (p + 1) (toldWith rows (R .b) (R .n) p c t)
+    pub tell-pot : (t : Tellings) → ToldTo R p t → ToldTo R (p + 1) (toldWith sheet (R .b) (R .n) p c t)
     unfolding toldWith
     tell-pot t T = record {
       sizes = record {
@@ -273,9 +275,9 @@ module _ (R : Round) (p : ℕ) (rows figures budgets : List ℕ) (E : potIn rows
           (λ a l e. won-of (potOf R p) c C (small few) (R .b) (silent R a) a (least a l) _ _ (way (potOf R p)) refl refl ∙ ap (λ (x : Told). x .won) (its a e));
       bid = column-told (λ a. bidIn (c .outcome) (R .b) (getD (c .bids) a 0)) (λ a. appTold R a .bid) (t .bids) (omega (arith, T .sizes .bids, S .apps-few)) (T .bid)
           (λ a l e. bid-of (potOf R p) c C (small few) (R .b) (silent R a) a (least a l) _ _ (way (potOf R p)) refl refl ∙ ap (λ (x : Told). x .bid) (its a e));
-      auto = column-told (λ a. autoIn (rowStanding rows (R .b + a)) (getD (c .reasons) (R .b + a) 0)) (λ a. appTold R a .reason) (t .autos)
+      auto = column-told (λ a. autoIn (rowStanding sheet (R .b + a)) (getD (c .reasons) (R .b + a) 0)) (λ a. appTold R a .reason) (t .autos)
           (omega (arith, T .sizes .autos, S .apps-few)) (T .auto) auto-now;
-      paid = column-told (λ a. paidIn (c .outcome) (rowPrice rows (R .b + a)) (getD (c .paid) a 0)) (λ a. appTold R a .paid) (t .paid)
+      paid = column-told (λ a. paidIn (c .outcome) (rowPrice sheet (R .b + a)) (getD (c .paid) a 0)) (λ a. appTold R a .paid) (t .paid)
           (omega (arith, T .sizes .paid, S .apps-few)) (T .paid)
           (λ a l e. ap (λ (x : ℕ). paidIn (c .outcome) x (getD (c .paid) a 0)) (priced (R .b + a))
           ∙ paid-of (potOf R p) c C (small few) (R .b) (silent R a) a (least a l) _ _ (way (potOf R p)) refl refl ∙ ap (λ (x : Told). x .paid) (its a e));
@@ -283,9 +285,9 @@ module _ (R : Round) (p : ℕ) (rows figures budgets : List ℕ) (E : potIn rows
     }
 
 -- the parts of what is told, put together
-pub with-is : (rows : List ℕ) (b n p : ℕ) (c : Cleared) (t : Tellings) {prices totals won bids autos paid reasons : List ℕ}
-    → prices ≡ toldWith rows b n p c t .prices → totals ≡ toldWith rows b n p c t .totals → won ≡ toldWith rows b n p c t .won → bids ≡ toldWith rows b n p c t .bids
-    → autos ≡ toldWith rows b n p c t .autos → paid ≡ toldWith rows b n p c t .paid → reasons ≡ toldWith rows b n p c t .reasons
+pub with-is : (sheet : List ℕ) (b n p : ℕ) (c : Cleared) (t : Tellings) {prices totals won bids autos paid reasons : List ℕ}
+    → prices ≡ toldWith sheet b n p c t .prices → totals ≡ toldWith sheet b n p c t .totals → won ≡ toldWith sheet b n p c t .won → bids ≡ toldWith sheet b n p c t .bids
+    → autos ≡ toldWith sheet b n p c t .autos → paid ≡ toldWith sheet b n p c t .paid → reasons ≡ toldWith sheet b n p c t .reasons
     → _≡_ {A = Tellings} (record {
       outcomes = set (t .outcomes) p (c .outcome);
       prices = prices;
@@ -295,9 +297,9 @@ pub with-is : (rows : List ℕ) (b n p : ℕ) (c : Cleared) (t : Tellings) {pric
       autos = autos;
       paid = paid;
       reasons = reasons;
-    }) (toldWith rows b n p c t)
+    }) (toldWith sheet b n p c t)
 unfolding toldWith
-with-is rows b n p c t e1 e2 e3 e4 e5 e6 e7 = λ i. record {
+with-is sheet b n p c t e1 e2 e3 e4 e5 e6 e7 = λ i. record {
   outcomes = set (t .outcomes) p (c .outcome);
   prices = e1 i;
   totals = e2 i;
@@ -309,10 +311,18 @@ with-is rows b n p c t e1 e2 e3 e4 e5 e6 e7 = λ i. record {
 }
 
 -- one pot more, from what the sheet shows and what its clearing answered
-pub told-next : (R : Round) (p : ℕ) (rows figures budgets : List ℕ) (E : potIn rows figures budgets (R .b) (R .b + R .n) (R .y) ≡ potOf R p) → Sound R → p < R .p
-    → (c : Cleared) → ClearedAs (potIn rows figures budgets (R .b) (R .b + R .n) (R .y)) c → (t : Tellings) {r : Tellings} → r ≡ toldWith rows (R .b) (R .n) p c t
+pub numbered : {R : Round} {of : Size} {n : ℕ} → of ≡ sizeOf R n → Sound R → Numbered of
+numbered e S = rw e (record { sealed = omega arith; few = S .bids-few; apps = omega (arith, S .apps-few) })
+
+pub told-next : (R : Round) (p : ℕ) (sheet : List ℕ) (of : Size) {n : ℕ} → of ≡ sizeOf R n → potIn sheet of ≡ potOf R p → Sound R → p < R .p
+    → (c : Cleared) → ClearedAs (potIn sheet of) c → (t : Tellings) {r : Tellings} → r ≡ toldWith sheet (of .sealed) (of .bids - of .sealed) p c t
     → ToldTo R p t → ToldTo R (p + 1) r
-told-next R p rows figures budgets E S h c C t e T = rw e (tell-pot R p rows figures budgets E S h c (rw E at C) t T)
+told-next R p sheet of {n} eo E S h c C t e T =
+    let F : potIn sheet (sizeOf R n) ≡ potOf R p = rw eo at E in
+    rw (e, eo, apps) (tell-pot R p sheet n F S h c (rw E at C) t T)
+  where
+    apps : R .b + R .n - R .b ≡ R .n
+    apps = omega arith
 
 -- all pots are told
 pub told-all : (R : Round) → Sound R → (t : Tellings) (p : ℕ) → p ≡ R .p → ToldTo R p t → Tells R t

@@ -37,11 +37,11 @@ pub record ToldTo (R : Round) (p : ℕ) (t : Tellings) : Type 0 where
   pub paid : (a : ℕ) → a < R .n → appPot R a < p → getD (t .paid) a 0 ≡ appTold R a .paid
   pub reason : (k : ℕ) → k < R .b → bidPot R k < p → getD (t .reasons) k 0 ≡ reason (potAt R k) k
 
--- the clearing c of pot p added, where its sheet has the rows, b sealed bids and n applications
-module _ (rows : List ℕ) (b n p : ℕ) (c : Cleared) where
+-- the clearing c of pot p added, where its sheet has b sealed bids and n applications
+module _ (sheet : List ℕ) (b n p : ℕ) (c : Cleared) where
   -- a number for each application: told anew for those of the pot
   abbrev pub column : (ℕ → ℕ) → List ℕ → List ℕ
-  column f l = fill l (λ a. anewOf (stands rows (b + a)) (f a) (getD l a 0)) n
+  column f l = fill l (λ a. anewOf (stands sheet (b + a)) (f a) (getD l a 0)) n
 
   unfoldable pub toldWith : Tellings → Tellings
   toldWith t = record {
@@ -50,7 +50,7 @@ module _ (rows : List ℕ) (b n p : ℕ) (c : Cleared) where
     totals = placed (λ k. getD (c .totals) k 0) (t .totals) (p * 8) 8;
     won = column (λ a. wonIn (c .outcome) (getD (c .bids) a 0)) (t .won);
     bids = column (λ a. bidIn (c .outcome) b (getD (c .bids) a 0)) (t .bids);
-    autos = column (λ a. autoIn (rowStanding rows (b + a)) (getD (c .reasons) (b + a) 0)) (t .autos);
-    paid = column (λ a. paidIn (c .outcome) (rowPrice rows (b + a)) (getD (c .paid) a 0)) (t .paid);
-    reasons = fill (t .reasons) (λ k. anewOf (inAuction rows k) (getD (c .reasons) k 0) (getD (t .reasons) k 0)) b;
+    autos = column (λ a. autoIn (rowStanding sheet (b + a)) (getD (c .reasons) (b + a) 0)) (t .autos);
+    paid = column (λ a. paidIn (c .outcome) (rowPrice sheet (b + a)) (getD (c .paid) a 0)) (t .paid);
+    reasons = fill (t .reasons) (λ k. anewOf (inAuction sheet k) (getD (c .reasons) k 0) (getD (t .reasons) k 0)) b;
   }

@@ -1,11 +1,12 @@
 // What is told of a round: each pot is cleared on its own sheet, and what is told of it goes to the places of its applications and bids.
 ghost use mathlib.Core.Path.{_≡_};
-ghost use Prim.Native.Nat.{_+_, _*_, _≤_, _<_};
+ghost use Prim.Native.Nat.{_+_, _-_, _*_, _<_};
 ghost use lib.ListN.{length, getD};
 ghost use Rattle.sheet.specs.Sheet.{rowStanding, rowPrice, inAuction};
 ghost use Rattle.sets.specs.Sets.{fill};
 ghost use Rattle.tell.specs.Told.{ToldTo, toldWith};
 use auction::Cleared;
+use sheet::{Sheet, Size};
 use result::Tellings;
 use rules::Sections;
 ghost use Rattle.rules.specs.File.{Round};
@@ -13,7 +14,7 @@ ghost use Rattle.laws.specs.Reading.{Sound};
 ghost use Rattle.rows.specs.Rows.{roundIn};
 ghost use Rattle.fill.specs.Fill.{Blank};
 ghost use Rattle.result.specs.Tells.{Tells};
-ghost use Rattle.tell.specs.Tell.{wonIn, bidIn, paidIn, autoIn, stands, anewOf, placed};
+ghost use Rattle.tell.specs.Tell.{wonIn, bidIn, paidIn, autoIn, stands, anewOf, placed, Numbered};
 
 // Did an application win, whose winning bid in outcome 1 is w?
 fn won(outcome: u64, w: u64) -> u64
@@ -61,19 +62,19 @@ fn auto(standing: u64, reason: u64) -> u64
 }
 
 // Is bid k of the pot that the sheet shows?
-fn stands(rows: &[u64], k: usize) -> bool
-    requires { ⌜ k * 6 + 6 ≤ length (now rows) ⌝ }
-    ensures { λ r. ⌜ r ≡ stands (now (rows .entry)) k ⌝ }
+fn stands(sheet: &Sheet, k: usize) -> bool
+    requires { ⌜ k < 320 ⌝ }
+    ensures { λ r. ⌜ r ≡ stands (now (sheet .entry)) k ⌝ }
 {
-    sheet::standing(rows, k) != sheet::ABSENT
+    sheet::standing(sheet, k) != sheet::ABSENT
 }
 
 // Does bid k enter the auction of that pot?
-fn enters(rows: &[u64], k: usize) -> bool
-    requires { ⌜ k * 6 + 6 ≤ length (now rows) ⌝ }
-    ensures { λ r. ⌜ r ≡ inAuction (now (rows .entry)) k ⌝ }
+fn enters(sheet: &Sheet, k: usize) -> bool
+    requires { ⌜ k < 320 ⌝ }
+    ensures { λ r. ⌜ r ≡ inAuction (now (sheet .entry)) k ⌝ }
 {
-    sheet::standing(rows, k) == sheet::ENTERED
+    sheet::standing(sheet, k) == sheet::ENTERED
 }
 
 // What is told anew of what is the pot's, and what was told of any other.
@@ -83,22 +84,23 @@ fn anew(own: bool, new: u64, old: u64) -> u64
     if own { new } else { old }
 }
 
-// Which of n applications have won.
+// Which applications have won.
 fn all_won(
     told: [u64; 64],
-    rows: &[u64],
+    sheet: &Sheet,
+    of: Size,
     outcome: u64,
     bids: [u64; 64],
-    b: usize,
-    n: usize,
 ) -> [u64; 64]
-    requires { ⌜ (n ≤ 64) × ((b + n) * 6 ≤ length (now rows)) ⌝ }
-    ensures { λ r. ⌜ r ≡ fill told (λ a. anewOf (stands (now (rows .entry)) (b + a)) (wonIn outcome (getD bids a 0)) (getD told a 0)) n ⌝ }
+    requires { ⌜ Numbered of ⌝ }
+    ensures { λ r. ⌜ r ≡ fill told (λ a. anewOf (stands (now (sheet .entry)) (of .sealed + a)) (wonIn outcome (getD bids a 0)) (getD told a 0)) (of .bids - of .sealed) ⌝ }
 {
     let mut next = told;
+    let b = of.sealed;
+    let n = of.bids - b;
     let mut a: usize = 0;
     while a < n {
-        next[a] = anew(stands(rows, b + a), won(outcome, bids[a]), told[a]);
+        next[a] = anew(stands(sheet, b + a), won(outcome, bids[a]), told[a]);
         a += 1;
     }
     next
@@ -107,20 +109,21 @@ fn all_won(
 // Their bids.
 fn all_bids(
     told: [u64; 64],
-    rows: &[u64],
+    sheet: &Sheet,
+    of: Size,
     outcome: u64,
     bids: [u64; 64],
-    b: usize,
-    n: usize,
 ) -> [u64; 64]
-    requires { ⌜ (n ≤ 64) × ((b + n) * 6 ≤ length (now rows)) ⌝ }
-    ensures { λ r. ⌜ r ≡ fill told (λ a. anewOf (stands (now (rows .entry)) (b + a)) (bidIn outcome b (getD bids a 0)) (getD told a 0)) n ⌝ }
+    requires { ⌜ Numbered of ⌝ }
+    ensures { λ r. ⌜ r ≡ fill told (λ a. anewOf (stands (now (sheet .entry)) (of .sealed + a)) (bidIn outcome (of .sealed) (getD bids a 0)) (getD told a 0)) (of .bids - of .sealed) ⌝ }
 {
     let mut next = told;
+    let b = of.sealed;
+    let n = of.bids - b;
     let mut a: usize = 0;
     while a < n {
         next[a] = anew(
-            stands(rows, b + a),
+            stands(sheet, b + a),
             bid(outcome, b as u64, bids[a]),
             told[a],
         );
@@ -132,21 +135,22 @@ fn all_bids(
 // What they are paid.
 fn all_paid(
     told: [u64; 64],
-    rows: &[u64],
+    sheet: &Sheet,
+    of: Size,
     outcome: u64,
     prices: [u64; 64],
-    b: usize,
-    n: usize,
 ) -> [u64; 64]
-    requires { ⌜ (n ≤ 64) × ((b + n) * 6 ≤ length (now rows)) ⌝ }
-    ensures { λ r. ⌜ r ≡ fill told (λ a. anewOf (stands (now (rows .entry)) (b + a)) (paidIn outcome (rowPrice (now (rows .entry)) (b + a)) (getD prices a 0)) (getD told a 0)) n ⌝ }
+    requires { ⌜ Numbered of ⌝ }
+    ensures { λ r. ⌜ r ≡ fill told (λ a. anewOf (stands (now (sheet .entry)) (of .sealed + a)) (paidIn outcome (rowPrice (now (sheet .entry)) (of .sealed + a)) (getD prices a 0)) (getD told a 0)) (of .bids - of .sealed) ⌝ }
 {
     let mut next = told;
+    let b = of.sealed;
+    let n = of.bids - b;
     let mut a: usize = 0;
     while a < n {
         next[a] = anew(
-            stands(rows, b + a),
-            paid(outcome, sheet::price(rows, b + a), prices[a]),
+            stands(sheet, b + a),
+            paid(outcome, sheet::price(sheet, b + a), prices[a]),
             told[a],
         );
         a += 1;
@@ -155,16 +159,18 @@ fn all_paid(
 }
 
 // The reasons of their automatic bids.
-fn all_autos(told: [u64; 64], rows: &[u64], reasons: [u64; 320], b: usize, n: usize) -> [u64; 64]
-    requires { ⌜ (n ≤ 64) × ((b + n) * 6 ≤ length (now rows)) × (b ≤ 256) ⌝ }
-    ensures { λ r. ⌜ r ≡ fill told (λ a. anewOf (stands (now (rows .entry)) (b + a)) (autoIn (rowStanding (now (rows .entry)) (b + a)) (getD reasons (b + a) 0)) (getD told a 0)) n ⌝ }
+fn all_autos(told: [u64; 64], sheet: &Sheet, of: Size, reasons: [u64; 320]) -> [u64; 64]
+    requires { ⌜ Numbered of ⌝ }
+    ensures { λ r. ⌜ r ≡ fill told (λ a. anewOf (stands (now (sheet .entry)) (of .sealed + a)) (autoIn (rowStanding (now (sheet .entry)) (of .sealed + a)) (getD reasons (of .sealed + a) 0)) (getD told a 0)) (of .bids - of .sealed) ⌝ }
 {
     let mut next = told;
+    let b = of.sealed;
+    let n = of.bids - b;
     let mut a: usize = 0;
     while a < n {
         next[a] = anew(
-            stands(rows, b + a),
-            auto(sheet::standing(rows, b + a), reasons[b + a]),
+            stands(sheet, b + a),
+            auto(sheet::standing(sheet, b + a), reasons[b + a]),
             told[a],
         );
         a += 1;
@@ -172,15 +178,16 @@ fn all_autos(told: [u64; 64], rows: &[u64], reasons: [u64; 320], b: usize, n: us
     next
 }
 
-// The reasons of b sealed bids.
-fn all_reasons(told: [u64; 256], rows: &[u64], reasons: [u64; 320], b: usize) -> [u64; 256]
-    requires { ⌜ (b ≤ 256) × (b * 6 ≤ length (now rows)) ⌝ }
-    ensures { λ r. ⌜ r ≡ fill told (λ k. anewOf (inAuction (now (rows .entry)) k) (getD reasons k 0) (getD told k 0)) b ⌝ }
+// The reasons of the sealed bids.
+fn all_reasons(told: [u64; 256], sheet: &Sheet, of: Size, reasons: [u64; 320]) -> [u64; 256]
+    requires { ⌜ Numbered of ⌝ }
+    ensures { λ r. ⌜ r ≡ fill told (λ k. anewOf (inAuction (now (sheet .entry)) k) (getD reasons k 0) (getD told k 0)) (of .sealed) ⌝ }
 {
     let mut next = told;
+    let b = of.sealed;
     let mut k: usize = 0;
     while k < b {
-        next[k] = anew(enters(rows, k), reasons[k], told[k]);
+        next[k] = anew(enters(sheet, k), reasons[k], told[k]);
         k += 1;
     }
     next
@@ -213,10 +220,11 @@ fn all_totals(told: [u64; 32], totals: [u64; 8], p: usize) -> [u64; 32]
     }
     next
 }
-// What is told of the round, with the clearing of pot p added, whose sheet has these rows: b sealed bids, n applications.
-fn with(t: Tellings, c: Cleared, rows: &[u64], b: usize, n: usize, p: usize) -> Tellings
-    requires { ⌜ (p < 4) × (n ≤ 64) × (b ≤ 256) × ((b + n) * 6 ≤ length (now rows)) ⌝ }
-    ensures { λ r. ⌜ r ≡ toldWith (now (rows .entry)) b n p c t ⌝ }
+
+// What is told of the round, with the clearing of pot p added, whose sheet this is.
+fn with(t: Tellings, c: Cleared, sheet: &Sheet, of: Size, p: usize) -> Tellings
+    requires { ⌜ (p < 4) × Numbered of ⌝ }
+    ensures { λ r. ⌜ r ≡ toldWith (now (sheet .entry)) (of .sealed) (of .bids - of .sealed) p c t ⌝ }
 {
     let mut outcomes = t.outcomes;
     outcomes[p] = c.outcome;
@@ -228,17 +236,17 @@ fn with(t: Tellings, c: Cleared, rows: &[u64], b: usize, n: usize, p: usize) -> 
     let totals = all_totals(before, now, p);
     let own = c.bids;
     let before = t.won;
-    let won = all_won(before, rows, c.outcome, own, b, n);
+    let won = all_won(before, sheet, of, c.outcome, own);
     let before = t.bids;
-    let bids = all_bids(before, rows, c.outcome, own, b, n);
+    let bids = all_bids(before, sheet, of, c.outcome, own);
     let why = c.reasons;
     let before = t.autos;
-    let autos = all_autos(before, rows, why, b, n);
+    let autos = all_autos(before, sheet, of, why);
     let before = t.paid;
     let now = c.paid;
-    let paid = all_paid(before, rows, c.outcome, now, b, n);
+    let paid = all_paid(before, sheet, of, c.outcome, now);
     let before = t.reasons;
-    let reasons = all_reasons(before, rows, why, b);
+    let reasons = all_reasons(before, sheet, of, why);
     Tellings {
         outcomes,
         prices,
@@ -268,16 +276,10 @@ fn nothing() -> Tellings
 }
 
 // A sheet to be filled.
-fn blank_rows() -> [u64; 1920]
-    ensures { λ r. ⌜ 1920 ≡ length r ⌝ }
+fn blank_sheet() -> Sheet
+    ensures { λ r. ⌜ (length r ≡ 9928) × Blank r ⌝ }
 {
-    [0; 1920]
-}
-
-fn blank_figures() -> [u64; 7680]
-    ensures { λ r. ⌜ (7680 ≡ length r) × Blank r ⌝ }
-{
-    [0; 7680]
+    [0; sheet::LENGTH]
 }
 
 // Pot p is cleared on its sheet, and told.
@@ -295,25 +297,10 @@ fn pot(
     ensures { λ r. ⌜ (ToldTo (roundIn (now (years .entry)) (now (pots .entry)) (now (techs .entry)) (now (apps .entry)) (now (bids .entry)) z) p t
         → ToldTo (roundIn (now (years .entry)) (now (pots .entry)) (now (techs .entry)) (now (apps .entry)) (now (bids .entry)) z) (p + 1) r) ⌝ }
 {
-    let mut rows = blank_rows();
-    let mut figures = blank_figures();
-    let mut budgets = [0u64; 8];
-    fill::fill(
-        years,
-        pots,
-        techs,
-        apps,
-        bids,
-        z,
-        p,
-        &mut rows,
-        &mut figures,
-        &mut budgets,
-    );
-    let b = z.bids;
-    let n = z.applications;
-    let c = auction::clear_pot(&rows, &figures, &budgets, b, b + n, z.years);
-    with(t, c, &rows, b, n, p)
+    let mut sheet = blank_sheet();
+    let of = fill::fill(years, pots, techs, apps, bids, z, p, &mut sheet);
+    let c = auction::clear_pot(&sheet, of);
+    with(t, c, &sheet, of, p)
 }
 
 // What is told of the round that the parts of an accepted file and their counts show.

@@ -12,10 +12,10 @@ use Rattle.tell.proofs.all_autos.Statement.{statement}
 use Rattle.tell.proofs.all_autos.Tie as tie
 
 abbrev Inv-loop : tie.InvT-loop
-Inv-loop rows b n told reasons next₀ a₀ next a = (a ≤ n) × (next ≡ fill told (λ i. anewOf (stands rows (b + i)) (autoIn (rowStanding rows (b + i)) (getD reasons (b + i) 0)) (getD told i 0)) a)
+Inv-loop sheet told reasons next₀ b n a₀ next a = (a ≤ n) × (next ≡ fill told (λ i. anewOf (stands sheet (b + i)) (autoIn (rowStanding sheet (b + i)) (getD reasons (b + i) 0)) (getD told i 0)) a)
 
 abbrev μ-loop : tie.MeasureT-loop
-μ-loop rows b n told reasons next₀ a₀ next a = n - a
+μ-loop sheet told reasons next₀ b n a₀ next a = n - a
 
 loop-holds : tie.Need-loop-holds Inv-loop μ-loop
 unfolding fill
@@ -29,6 +29,6 @@ returns c = done (fill _ _) (c .before .loop .inv .1) (c .before .loop .inv .0) 
 
 pub all-autos-spec : {M : Type 1} → statement M
 all-autos-spec =
-    tie.close (tie.spec Inv-loop μ-loop loop-holds (λ c. search needs) (λ c κs. search needs) (λ c. search needs) (λ c κs. search needs)
+    tie.close (tie.spec Inv-loop μ-loop (λ c. search needs) loop-holds (λ c. search needs) (λ c κs. search needs) (λ c. search needs) (λ c κs. search needs)
     (λ c. search needs) (λ c. search needs) (λ c. search needs) (λ c κs. search needs) (λ c. search needs) (λ c. search needs) (λ c κs. search needs)
     (λ c. search needs) (λ c. search needs) (λ c. search needs) (λ c. search needs) loop-again returns)

@@ -12,10 +12,10 @@ use Rattle.tell.proofs.all_reasons.Statement.{statement}
 use Rattle.tell.proofs.all_reasons.Tie as tie
 
 abbrev Inv-loop : tie.InvT-loop
-Inv-loop rows b told reasons next₀ k₀ next k = (k ≤ b) × (next ≡ fill told (λ i. anewOf (inAuction rows i) (getD reasons i 0) (getD told i 0)) k)
+Inv-loop sheet told reasons next₀ b k₀ next k = (k ≤ b) × (next ≡ fill told (λ i. anewOf (inAuction sheet i) (getD reasons i 0) (getD told i 0)) k)
 
 abbrev μ-loop : tie.MeasureT-loop
-μ-loop rows b told reasons next₀ k₀ next k = b - k
+μ-loop sheet told reasons next₀ b k₀ next k = b - k
 
 loop-holds : tie.Need-loop-holds Inv-loop μ-loop
 unfolding fill
