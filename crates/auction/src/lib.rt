@@ -3,7 +3,9 @@
 ghost use mathlib.Core.Path.{_≡_};
 ghost use Prim.Native.Nat.{_+_, _<_};
 use pot::PotState;
-use sheet::{Sheet, Size, COLUMNS};
+use sheet::COLUMNS;
+use sheet::Sheet;
+use sheet::Size;
 ghost use Rattle.sheet.specs.Sheet.{potIn, Ready};
 ghost use Rattle.auction.specs.Cleared.{ClearedAs};
 ghost use Rattle.auction.specs.Numbers.{reasonBy, reasonsOf, winningOf, payOf, paidOf, flatOf, toldOf};

@@ -1,6 +1,7 @@
 // The sheet of one pot, filled from the sections of an accepted file and their counts. The lent sheet is blank.
 use rules::Sections;
-use sheet::{Sheet, Size};
+use sheet::Sheet;
+use sheet::Size;
 ghost use mathlib.Core.Path.{_≡_};
 ghost use mathlib.Core.Bool.{true};
 ghost use Prim.Native.Nat.{_+_, _*_, _≤_, _<_};
@@ -79,7 +80,11 @@ fn fill_years(
     let mut i: usize = 0;
     while i < y {
         let v = rows::figure(years, techs, y, t, x, i);
-        put(sheet, sheet::FIGURES_AT + k * sheet::FIGURES + i * sheet::FIGURE, &v);
+        put(
+            sheet,
+            sheet::FIGURES_AT + k * sheet::FIGURES + i * sheet::FIGURE,
+            &v,
+        );
         i += 1;
     }
 }

@@ -14,7 +14,9 @@ ghost use Rattle.ties.specs.Ties.{laidTo};
 ghost use Rattle.pot.specs.Marks.{joinedOf, Others, Looked, atOf, firstMark, winOf, turnOf, winAll, turnAll, turnedOf, hungOf, shutOf, settledOf, widened, followsOf, aloneOf, sharedOf, tieOf, startedOf, yearSum, mostSum, renewedOf, renewedTo, totalledOf, revaluedOf, triedOf, trialOf, Summed};
 ghost use Rattle.pot.specs.Rep.{Stands, Seen, Onward};
 use names::YEARS;
-use sheet::{Sheet, Size, COLUMNS};
+use sheet::COLUMNS;
+use sheet::Sheet;
+use sheet::Size;
 use totals::WON;
 
 // The marks of a bid that has not won: not looked at, turned down alone, turned down in a tie, not of this auction.
@@ -373,7 +375,14 @@ impl PotState {
     }
 
     // Of the bids taken those chosen win; all others are turned down and their years close.
-    fn shared(self, sheet: &Sheet, of: Size, set: [bool; 320], wins: [bool; 320], p: u64) -> PotState
+    fn shared(
+        self,
+        sheet: &Sheet,
+        of: Size,
+        set: [bool; 320],
+        wins: [bool; 320],
+        p: u64,
+    ) -> PotState
         requires { ⌜ Ready (now sheet) of ⌝ }
         ensures { λ r. ⌜ r ≡ sharedOf (now (sheet .entry)) of set wins p self ⌝ }
     {

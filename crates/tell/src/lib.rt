@@ -6,9 +6,10 @@ ghost use Rattle.sheet.specs.Sheet.{rowStanding, rowPrice, inAuction};
 ghost use Rattle.sets.specs.Sets.{fill};
 ghost use Rattle.tell.specs.Told.{ToldTo, toldWith};
 use auction::Cleared;
-use sheet::{Sheet, Size};
 use result::Tellings;
 use rules::Sections;
+use sheet::Sheet;
+use sheet::Size;
 ghost use Rattle.rules.specs.File.{Round};
 ghost use Rattle.laws.specs.Reading.{Sound};
 ghost use Rattle.rows.specs.Rows.{roundIn};
@@ -85,13 +86,7 @@ fn anew(own: bool, new: u64, old: u64) -> u64
 }
 
 // Which applications have won.
-fn all_won(
-    told: [u64; 64],
-    sheet: &Sheet,
-    of: Size,
-    outcome: u64,
-    bids: [u64; 64],
-) -> [u64; 64]
+fn all_won(told: [u64; 64], sheet: &Sheet, of: Size, outcome: u64, bids: [u64; 64]) -> [u64; 64]
     requires { ⌜ Numbered of ⌝ }
     ensures { λ r. ⌜ r ≡ fill told (λ a. anewOf (stands (now (sheet .entry)) (of .sealed + a)) (wonIn outcome (getD bids a 0)) (getD told a 0)) (of .bids - of .sealed) ⌝ }
 {
@@ -107,13 +102,7 @@ fn all_won(
 }
 
 // Their bids.
-fn all_bids(
-    told: [u64; 64],
-    sheet: &Sheet,
-    of: Size,
-    outcome: u64,
-    bids: [u64; 64],
-) -> [u64; 64]
+fn all_bids(told: [u64; 64], sheet: &Sheet, of: Size, outcome: u64, bids: [u64; 64]) -> [u64; 64]
     requires { ⌜ Numbered of ⌝ }
     ensures { λ r. ⌜ r ≡ fill told (λ a. anewOf (stands (now (sheet .entry)) (of .sealed + a)) (bidIn outcome (of .sealed) (getD bids a 0)) (getD told a 0)) (of .bids - of .sealed) ⌝ }
 {
@@ -133,13 +122,7 @@ fn all_bids(
 }
 
 // What they are paid.
-fn all_paid(
-    told: [u64; 64],
-    sheet: &Sheet,
-    of: Size,
-    outcome: u64,
-    prices: [u64; 64],
-) -> [u64; 64]
+fn all_paid(told: [u64; 64], sheet: &Sheet, of: Size, outcome: u64, prices: [u64; 64]) -> [u64; 64]
     requires { ⌜ Numbered of ⌝ }
     ensures { λ r. ⌜ r ≡ fill told (λ a. anewOf (stands (now (sheet .entry)) (of .sealed + a)) (paidIn outcome (rowPrice (now (sheet .entry)) (of .sealed + a)) (getD prices a 0)) (getD told a 0)) (of .bids - of .sealed) ⌝ }
 {

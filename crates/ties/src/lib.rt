@@ -11,7 +11,8 @@ ghost use Rattle.sheet.specs.Sheet.{Ready};
 ghost use Rattle.totals.specs.Totals.{fitsTo};
 ghost use Rattle.ties.specs.Ties.{raisedTo, laidTo, basesOf, Base, aloneTotal, aloneFits, keepsOf, compactOf, aboveOf, ranksOf, startsOf, ownAt, ownsOf, Numbers, touchOf, touchedOf, bestMask, combinationOf, Summed, Placed, addedOf, onesOf, costsOf, oneYearsOf, yearsOf, jointOf, lookedAt, bestBy, Tabled, Dated, choiceOf};
 use names::YEARS;
-use sheet::{Sheet, Size};
+use sheet::Sheet;
+use sheet::Size;
 
 // The sets of delivery years.
 const SETS: usize = 16;
@@ -73,13 +74,7 @@ fn laid(table: [u64; 128], row: [u64; 8], t: usize) -> [u64; 128]
 }
 
 // What the present winners cost, a row of years for each set of delivery years that has the price p.
-pub fn bases(
-    sheet: &Sheet,
-    of: Size,
-    marks: [u16; 320],
-    prices: [u64; 4],
-    p: u64,
-) -> [u64; 128]
+pub fn bases(sheet: &Sheet, of: Size, marks: [u16; 320], prices: [u64; 4], p: u64) -> [u64; 128]
     requires { ⌜ Ready (now sheet) of ⌝ }
     ensures { λ r. ⌜ r ≡ basesOf (now (sheet .entry)) of marks prices p ⌝ }
 {

@@ -4,7 +4,9 @@ ghost use mathlib.Core.Path.{_≡_};
 ghost use Prim.Native.Nat.{_≤_, _<_};
 ghost use Rattle.sheet.specs.Sheet.{Ready};
 ghost use Rattle.totals.specs.Totals.{Adding, dearest, worthOf, totalOf, partOf, filled, raised, rowFits, autoTotal};
-use sheet::{Sheet, Size, COLUMNS};
+use sheet::COLUMNS;
+use sheet::Sheet;
+use sheet::Size;
 
 // The mark of a bid that has won.
 pub const WON: u16 = 1;
@@ -36,12 +38,7 @@ fn added(sheet: &Sheet, of: Size, k: usize, price: u64, before: [u64; COLUMNS]) 
 }
 
 // Every winner revalued: the row of year totals.
-pub fn revalued(
-    sheet: &Sheet,
-    of: Size,
-    marks: [u16; 320],
-    prices: [u64; 4],
-) -> [u64; COLUMNS]
+pub fn revalued(sheet: &Sheet, of: Size, marks: [u16; 320], prices: [u64; 4]) -> [u64; COLUMNS]
     requires { ⌜ Ready (now sheet) of ⌝ }
     ensures { λ r. ⌜ r ≡ filled (λ z. totalOf (now (sheet .entry)) marks prices z (of .bids)) (of .years) ⌝ }
 {
@@ -60,13 +57,7 @@ pub fn revalued(
 }
 
 // Of the bids that entered the auction the winners that start in year d, all at one price: their row of year totals.
-pub fn part(
-    sheet: &Sheet,
-    of: Size,
-    marks: [u16; 320],
-    price: u64,
-    d: usize,
-) -> [u64; COLUMNS]
+pub fn part(sheet: &Sheet, of: Size, marks: [u16; 320], price: u64, d: usize) -> [u64; COLUMNS]
     requires { ⌜ Ready (now sheet) of ⌝ }
     ensures { λ r. ⌜ r ≡ filled (λ z. partOf (now (sheet .entry)) marks price d z (of .bids)) (of .years) ⌝ }
 {
