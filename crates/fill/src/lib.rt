@@ -8,9 +8,8 @@ ghost use Prim.Native.Nat.{_+_, _*_, _≤_, _<_};
 ghost use lib.ListN.{length};
 ghost use Rattle.rules.specs.Names.{mostYears, mostPots, potWidth};
 ghost use Rattle.rules.specs.Round.{mine, potOf};
-ghost use Rattle.laws.specs.Reading.{Sound};
 ghost use Rattle.sheet.specs.Sheet.{sheetLength, potIn, Ready};
-ghost use Rattle.rows.specs.Rows.{roundIn};
+ghost use Rattle.rows.specs.Rows.{roundIn, Held};
 ghost use Rattle.fill.specs.Fill.{mostNumbers, Blank, BlankFigures, Put, RowsRight, RowsWritten, FiguresOf, FiguresWritten, LimitsWritten, Entered, sizeOf};
 
 // The most numbers of bids: the sealed ones, and an automatic one for each application.
@@ -38,21 +37,17 @@ fn put(sheet: &mut Sheet, at: usize, v: &[u64])
 
 // The rows of all bids. Those of other pots are zeros, and so are those after the last bid.
 fn fill_rows(
-    years: &[u8],
-    pots: &[u8],
-    techs: &[u8],
-    apps: &[u8],
-    bids: &[u8],
+    file: &[u8],
     z: Sections,
     pot: usize,
     sheet: &mut Sheet,
 )
-    requires { ⌜ Sound (roundIn (now years) (now pots) (now techs) (now apps) (now bids) z) × (length (now sheet) ≡ sheetLength) ⌝ }
-    ensures { λ _. ⌜ RowsWritten (roundIn (now (years .entry)) (now (pots .entry)) (now (techs .entry)) (now (apps .entry)) (now (bids .entry)) z) pot (now (sheet .entry)) (now (sheet .exit)) × (length (now (sheet .exit)) ≡ sheetLength) ⌝ }
+    requires { ⌜ Held (now file) z × (length (now sheet) ≡ sheetLength) ⌝ }
+    ensures { λ _. ⌜ RowsWritten (roundIn (now (file .entry)) z) pot (now (sheet .entry)) (now (sheet .exit)) × (length (now (sheet .exit)) ≡ sheetLength) ⌝ }
 {
     let mut k: usize = 0;
     while k < BIDS {
-        let v = rows::row(years, pots, techs, apps, bids, z, pot, k);
+        let v = rows::row(file, z, pot, k);
         put(sheet, sheet::ROWS_AT + k * sheet::ROW, &v);
         k += 1;
     }
@@ -60,20 +55,24 @@ fn fill_rows(
 
 // The figures of bid k of the pot in the years of the file.
 fn fill_years(
-    years: &[u8],
-    pots: &[u8],
-    techs: &[u8],
-    apps: &[u8],
-    bids: &[u8],
+    file: &[u8],
     z: Sections,
     pot: usize,
     k: usize,
     sheet: &mut Sheet,
 )
-    requires { ⌜ Sound (roundIn (now years) (now pots) (now techs) (now apps) (now bids) z) × (length (now sheet) ≡ sheetLength) ⌝ }
-    requires { ⌜ mine (roundIn (now years) (now pots) (now techs) (now apps) (now bids) z) pot k ≡ true ⌝ }
-    ensures { λ _. ⌜ FiguresOf (roundIn (now (years .entry)) (now (pots .entry)) (now (techs .entry)) (now (apps .entry)) (now (bids .entry)) z) pot k (now (sheet .entry)) (now (sheet .exit)) × (length (now (sheet .exit)) ≡ sheetLength) ⌝ }
+    requires { ⌜ Held (now file) z × (length (now sheet) ≡ sheetLength) ⌝ }
+    requires { ⌜ mine (roundIn (now file) z) pot k ≡ true ⌝ }
+    ensures { λ _. ⌜ FiguresOf (roundIn (now (file .entry)) z) pot k (now (sheet .entry)) (now (sheet .exit)) × (length (now (sheet .exit)) ≡ sheetLength) ⌝ }
 {
+    let second = z.second;
+    let years = &file[names::COUNT_WIDTH..second];
+    let third = z.third;
+    let fourth = z.fourth;
+    let techs = &file[third + names::COUNT_WIDTH..fourth];
+    let fifth = z.fifth;
+    let apps = &file[fourth + names::COUNT_WIDTH..fifth];
+    let bids = &file[fifth + names::COUNT_WIDTH..];
     let y = z.years;
     let x = rows::bid_of(techs, apps, bids, y, z.bids, k);
     let t = rows::tech_of(apps, x.app);
@@ -91,24 +90,20 @@ fn fill_years(
 
 // The figures of all bids, over blank ones: those of other pots, which the rows tell, stay zeros.
 fn fill_figures(
-    years: &[u8],
-    pots: &[u8],
-    techs: &[u8],
-    apps: &[u8],
-    bids: &[u8],
+    file: &[u8],
     z: Sections,
     pot: usize,
     sheet: &mut Sheet,
 )
-    requires { ⌜ Sound (roundIn (now years) (now pots) (now techs) (now apps) (now bids) z) × (length (now sheet) ≡ sheetLength) ⌝ }
-    requires { ⌜ RowsRight (roundIn (now years) (now pots) (now techs) (now apps) (now bids) z) pot mostNumbers (now sheet) × BlankFigures (now sheet) ⌝ }
-    ensures { λ _. ⌜ FiguresWritten (roundIn (now (years .entry)) (now (pots .entry)) (now (techs .entry)) (now (apps .entry)) (now (bids .entry)) z) pot (now (sheet .entry)) (now (sheet .exit)) × (length (now (sheet .exit)) ≡ sheetLength) ⌝ }
+    requires { ⌜ Held (now file) z × (length (now sheet) ≡ sheetLength) ⌝ }
+    requires { ⌜ RowsRight (roundIn (now file) z) pot mostNumbers (now sheet) × BlankFigures (now sheet) ⌝ }
+    ensures { λ _. ⌜ FiguresWritten (roundIn (now (file .entry)) z) pot (now (sheet .entry)) (now (sheet .exit)) × (length (now (sheet .exit)) ≡ sheetLength) ⌝ }
 {
     let m = z.bids + z.applications;
     let mut k: usize = 0;
     while k < m {
         if sheet::standing(sheet, k) != sheet::ABSENT {
-            fill_years(years, pots, techs, apps, bids, z, pot, k, sheet);
+            fill_years(file, z, pot, k, sheet);
         }
         k += 1;
     }
@@ -146,23 +141,21 @@ fn fill_entrants(m: usize, sheet: &mut Sheet) -> usize
 
 // The sheet of the pot: it shows the pot of the round, and is ready to be cleared.
 pub fn fill(
-    years: &[u8],
-    pots: &[u8],
-    techs: &[u8],
-    apps: &[u8],
-    bids: &[u8],
+    file: &[u8],
     z: Sections,
     pot: usize,
     sheet: &mut Sheet,
 ) -> Size
-    requires { ⌜ Sound (roundIn (now years) (now pots) (now techs) (now apps) (now bids) z) × (pot < z .pots) ⌝ }
+    requires { ⌜ Held (now file) z × (pot < z .pots) ⌝ }
     requires { ⌜ (length (now sheet) ≡ sheetLength) × Blank (now sheet) ⌝ }
-    ensures { λ r. ⌜ (potIn (now (sheet .exit)) r ≡ potOf (roundIn (now (years .entry)) (now (pots .entry)) (now (techs .entry)) (now (apps .entry)) (now (bids .entry)) z) pot) × Ready (now (sheet .exit)) r ⌝ }
-    ensures { λ r. ⌜ r ≡ sizeOf (roundIn (now (years .entry)) (now (pots .entry)) (now (techs .entry)) (now (apps .entry)) (now (bids .entry)) z) (r .entered) ⌝ }
+    ensures { λ r. ⌜ (potIn (now (sheet .exit)) r ≡ potOf (roundIn (now (file .entry)) z) pot) × Ready (now (sheet .exit)) r ⌝ }
+    ensures { λ r. ⌜ r ≡ sizeOf (roundIn (now (file .entry)) z) (r .entered) ⌝ }
 {
-    fill_rows(years, pots, techs, apps, bids, z, pot, sheet);
-    fill_figures(years, pots, techs, apps, bids, z, pot, sheet);
-    fill_limits(pots, z.years, pot, sheet);
+    fill_rows(file, z, pot, sheet);
+    fill_figures(file, z, pot, sheet);
+    let second = z.second;
+    let third = z.third;
+    fill_limits(&file[second + names::COUNT_WIDTH..third], z.years, pot, sheet);
     let m = z.bids + z.applications;
     let entered = fill_entrants(m, sheet);
     Size {

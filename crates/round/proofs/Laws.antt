@@ -16,7 +16,7 @@ use Rattle.rules.specs.declared.Answer.the-variants.{Cleared, Refused}
 use Rattle.laws.specs.Reading.{Sound}
 use Rattle.laws.specs.Fault.{handed-on, ends-there}
 use Rattle.laws.specs.Small.{reading-small}
-use Rattle.rows.specs.Rows.{roundIn}
+use Rattle.rows.specs.Rows.{roundIn, Held}
 use Rattle.result.specs.declared.Tellings.{Tellings}
 use Rattle.result.specs.Tells.{Small, Counted, Tells}
 use Rattle.rules.specs.Listing.{refusalLine, roundLines, listingFor, listingOf}
@@ -24,15 +24,9 @@ use Rattle.lines.specs.Printed.{Printed}
 use Rattle.listing.specs.Told.{longest}
 use Rattle.round.specs.Round.{Clears, SmallAnswer, listed, Lists}
 
--- the parts of a file whose sections are these
-abbrev pub partsIn : List ℕ → Sections → Round
-partsIn s z =
-    roundIn (part s countWidth (z .second)) (part s (z .second + countWidth) (z .third)) (part s (z .third + countWidth) (z .fourth))
-    (part s (z .fourth + countWidth) (z .fifth)) (part s (z .fifth + countWidth) (length s)) z
-
 -- what is known of an accepted file
 pub record Handed (s : List ℕ) (z : Sections) : Type 0 where
-  pub round : partsIn s z ≡ roundOf s
+  pub round : roundIn s z ≡ roundOf s
   pub sound : Sound (roundOf s)
   pub small : Small (z .years) (z .deliveries) (z .pots) (z .applications) (z .bids)
   pub counted : Counted (roundOf s) (z .years) (z .deliveries) (z .pots) (z .applications) (z .bids)
@@ -42,23 +36,30 @@ pub record Handed (s : List ℕ) (z : Sections) : Type 0 where
   pub four : z .fourth + countWidth ≤ z .fifth
   pub five : z .fifth + countWidth ≤ length s
 
--- the parts of a file, the last one up to n
-abbrev partsTo : List ℕ → Round → ℕ → Round
-partsTo s R n =
-    roundIn (part s countWidth (potsAt (R .y))) (part s (potsAt (R .y) + countWidth) (techsAt (R .y) (R .p)))
-    (part s (techsAt (R .y) (R .p) + countWidth) (appsAt (R .y) (R .p) (R .t)))
-    (part s (appsAt (R .y) (R .p) (R .t) + countWidth) (bidsAt (R .y) (R .p) (R .t) (R .n)))
-    (part s (bidsAt (R .y) (R .p) (R .t) (R .n) + countWidth) n)
-    (sectionsOf R)
-
-parts-whole : (s : List ℕ) → partsTo s (roundOf s) (endAt (roundOf s .y) (roundOf s .p) (roundOf s .t) (roundOf s .n) (roundOf s .b)) ≡ roundOf s
+-- the sections of a file that ends where they do
+parts-whole : (s : List ℕ) → length s ≡ endAt (roundOf s .y) (roundOf s .p) (roundOf s .t) (roundOf s .n) (roundOf s .b) → roundIn s (sectionsOf (roundOf s)) ≡ roundOf s
 unfolding sectionsOf roundOf sections
-parts-whole s = refl
+parts-whole s e = ap (λ (n : ℕ). upTo n) e
+  where
+    upTo : ℕ → Round
+    upTo n = record {
+      years = part s countWidth (potsAt (roundOf s .y));
+      pots = roundOf s .pots;
+      techs = roundOf s .techs;
+      apps = roundOf s .apps;
+      bids = part s (bidsAt (roundOf s .y) (roundOf s .p) (roundOf s .t) (roundOf s .n) + countWidth) n;
+      y = roundOf s .y;
+      d = roundOf s .d;
+      p = roundOf s .p;
+      t = roundOf s .t;
+      n = roundOf s .n;
+      b = roundOf s .b;
+    }
 
 handed-sections : (s : List ℕ) → length s ≡ endAt (roundOf s .y) (roundOf s .p) (roundOf s .t) (roundOf s .n) (roundOf s .b) → Sound (roundOf s) → Handed s (sectionsOf (roundOf s))
 unfolding sectionsOf
 handed-sections s e S = record {
-  round = ap (λ (n : ℕ). partsTo s (roundOf s) n) e ∙ parts-whole s;
+  round = parts-whole s e;
   sound = S;
   small = record { years = S .years-most; deliveries = S .deliveries-few; pots = S .pots-few; apps = S .apps-few; bids = S .bids-few };
   counted = record { years = refl; deliveries = refl; pots = refl; apps = refl; bids = refl };
@@ -76,10 +77,10 @@ handed s {z} e =
 
 -- ---- one law for each return
 
-pub parts-sound : (s : List ℕ) {z : Sections} → Handed s z → Sound (partsIn s z)
-parts-sound s h = rw (h .round) (h .sound)
+pub held : (s : List ℕ) {z : Sections} → Handed s z → Held s z
+held s h = record { sound = rw (h .round) (h .sound); one = h .one; two = h .two; three = h .three; four = h .four; five = h .five }
 
-pub parts-told : (s : List ℕ) {z : Sections} {t : Tellings} → Handed s z → Tells (partsIn s z) t → Tells (roundOf s) t
+pub parts-told : (s : List ℕ) {z : Sections} {t : Tellings} → Handed s z → Tells (roundIn s z) t → Tells (roundOf s) t
 parts-told s h t = rw (h .round) at t
 
 -- the lent result is too short

@@ -15,23 +15,12 @@ ghost use Rattle.result.specs.Tells.{Tells};
 ghost use Rattle.listing.specs.Told.{longest};
 ghost use Rattle.round.specs.Round.{Clears, SmallAnswer, Lists};
 
-// What is told of an accepted file, whose sections these are: each is handed on as the part of the file that it occupies.
+// What is told of an accepted file, whose sections these are.
 fn told(file: &[u8], z: Sections) -> Tellings
     requires { ⌜ reading (now file) ≡ Accepted z ⌝ }
     ensures { λ r. ⌜ Tells (roundOf (now (file .entry))) r ⌝ }
 {
-    let second = z.second;
-    let third = z.third;
-    let fourth = z.fourth;
-    let fifth = z.fifth;
-    tell::tell(
-        &file[names::COUNT_WIDTH..second],
-        &file[second + names::COUNT_WIDTH..third],
-        &file[third + names::COUNT_WIDTH..fourth],
-        &file[fourth + names::COUNT_WIDTH..fifth],
-        &file[fifth + names::COUNT_WIDTH..],
-        z,
-    )
+    tell::tell(file, z)
 }
 
 // An accepted file cleared into a lent result, if that is long enough.

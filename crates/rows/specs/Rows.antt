@@ -5,22 +5,24 @@ use mathlib.Core.Bool.{Bool, not, _||_}
 use mathlib.Core.List.{List, [], _∷_, map}
 use lib.ListN.{length}
 use lib.Dec.{ltb}
-use Rattle.rules.specs.Names.{mostYears, mostTechs, yearWidth, techWidth, appWidth, bidWidth, whole, longYear}
+use Rattle.rules.specs.Names.{countWidth, mostYears, mostTechs, yearWidth, techWidth, appWidth, bidWidth, whole, longYear}
 use Rattle.rules.specs.Lists.{pick, memb, below}
-use Rattle.rules.specs.File.{Round, Bid, sectionsOf, yearAt, techAt, appAt, bidAt}
+use Rattle.rules.specs.Bytes.{part}
+use Rattle.rules.specs.File.{Round, Bid, yearAt, techAt, appAt, bidAt}
 use Rattle.rules.specs.Round.{Row, blank, energyOf, automatic, bidOf, mine, silent, enters, rowFor}
 use Rattle.rules.specs.declared.Sections.{Sections}
+use Rattle.laws.specs.Reading.{Sound}
 use Rattle.sheet.specs.Sheet.{absent, entered, spare}
 use Rattle.rows.specs.declared.Terms.{Terms}
 
--- the round that the parts of a file and their counts show
-abbrev pub roundIn : (years pots techs apps bids : List ℕ) → Sections → Round
-roundIn years pots techs apps bids z = record {
-  years = years;
-  pots = pots;
-  techs = techs;
-  apps = apps;
-  bids = bids;
+-- the round that a file shows whose sections these are: each is the part of the file that it occupies
+abbrev pub roundIn : List ℕ → Sections → Round
+roundIn s z = record {
+  years = part s countWidth (z .second);
+  pots = part s (z .second + countWidth) (z .third);
+  techs = part s (z .third + countWidth) (z .fourth);
+  apps = part s (z .fourth + countWidth) (z .fifth);
+  bids = part s (z .fifth + countWidth) (length s);
   y = z .years;
   d = z .deliveries;
   p = z .pots;
@@ -29,10 +31,14 @@ roundIn years pots techs apps bids z = record {
   b = z .bids;
 }
 
--- of the sections of a round and their counts it is the round itself
-pub round-is : (R : Round) → roundIn (R .years) (R .pots) (R .techs) (R .apps) (R .bids) (sectionsOf R) ≡ R
-unfolding sectionsOf
-round-is R = refl
+-- the sections stand one after the other in the file, and its round is sound
+pub record Held (s : List ℕ) (z : Sections) : Type 0 where
+  pub sound : Sound (roundIn s z)
+  pub one : countWidth ≤ z .second
+  pub two : z .second + countWidth ≤ z .third
+  pub three : z .third + countWidth ≤ z .fourth
+  pub four : z .fourth + countWidth ≤ z .fifth
+  pub five : z .fifth + countWidth ≤ length s
 
 -- the bid that its terms show
 abbrev pub shown : Terms → Bid

@@ -8,8 +8,7 @@ ghost use Rattle.rules.specs.Names.{mostYears, mostTechs, techWidth, appWidth, 
 ghost use Rattle.rules.specs.Value.{hoursOf};
 ghost use Rattle.rules.specs.File.{yearAt, techAt, appAt, bidAt};
 ghost use Rattle.rules.specs.Round.{energyOf, mine};
-ghost use Rattle.laws.specs.Reading.{Sound};
-ghost use Rattle.rows.specs.Rows.{roundIn, shown, TechIn, YearIn, AppIn, BidIn, ownBid, numbered, silentIn, standingIn, rowNumbers, figuresIn};
+ghost use Rattle.rows.specs.Rows.{roundIn, Held, shown, TechIn, YearIn, AppIn, BidIn, ownBid, numbered, silentIn, standingIn, rowNumbers, figuresIn};
 
 // ---- technologies
 
@@ -162,22 +161,24 @@ fn standing(bids: &[u8], b: usize, k: usize) -> u64
 
 // Does bid k stand in the pot?
 fn mine(
-    years: &[u8],
-    pots: &[u8],
-    techs: &[u8],
-    apps: &[u8],
-    bids: &[u8],
+    file: &[u8],
     z: Sections,
     pot: usize,
     k: usize,
 ) -> bool
-    requires { ⌜ Sound (roundIn (now years) (now pots) (now techs) (now apps) (now bids) z) ⌝ }
-    ensures { λ r. ⌜ r ≡ mine (roundIn (now (years .entry)) (now (pots .entry)) (now (techs .entry)) (now (apps .entry)) (now (bids .entry)) z) pot k ⌝ }
+    requires { ⌜ Held (now file) z ⌝ }
+    ensures { λ r. ⌜ r ≡ mine (roundIn (now (file .entry)) z) pot k ⌝ }
 {
     let m = z.bids + z.applications;
     if m <= k {
         return false;
     }
+    let third = z.third;
+    let fourth = z.fourth;
+    let techs = &file[third + names::COUNT_WIDTH..fourth];
+    let fifth = z.fifth;
+    let apps = &file[fourth + names::COUNT_WIDTH..fifth];
+    let bids = &file[fifth + names::COUNT_WIDTH..];
     let x = bid_of(techs, apps, bids, z.years, z.bids, k);
     pot_of(techs, z.years, tech_of(apps, x.app)) == pot
 }
@@ -186,19 +187,21 @@ fn mine(
 
 // The row of bid k: standing, application, start year, price, draw of the application, administrative price.
 pub fn row(
-    years: &[u8],
-    pots: &[u8],
-    techs: &[u8],
-    apps: &[u8],
-    bids: &[u8],
+    file: &[u8],
     z: Sections,
     pot: usize,
     k: usize,
 ) -> [u64; 6]
-    requires { ⌜ Sound (roundIn (now years) (now pots) (now techs) (now apps) (now bids) z) ⌝ }
-    ensures { λ r. ⌜ r ≡ rowNumbers (roundIn (now (years .entry)) (now (pots .entry)) (now (techs .entry)) (now (apps .entry)) (now (bids .entry)) z) pot k ⌝ }
+    requires { ⌜ Held (now file) z ⌝ }
+    ensures { λ r. ⌜ r ≡ rowNumbers (roundIn (now (file .entry)) z) pot k ⌝ }
 {
-    if mine(years, pots, techs, apps, bids, z, pot, k) {
+    if mine(file, z, pot, k) {
+        let third = z.third;
+        let fourth = z.fourth;
+        let techs = &file[third + names::COUNT_WIDTH..fourth];
+        let fifth = z.fifth;
+        let apps = &file[fourth + names::COUNT_WIDTH..fifth];
+        let bids = &file[fifth + names::COUNT_WIDTH..];
         let x = bid_of(techs, apps, bids, z.years, z.bids, k);
         let standing = standing(bids, z.bids, k);
         let draw = draw_of(apps, x.app);

@@ -11,8 +11,7 @@ use rules::Sections;
 use sheet::Sheet;
 use sheet::Size;
 ghost use Rattle.rules.specs.File.{Round};
-ghost use Rattle.laws.specs.Reading.{Sound};
-ghost use Rattle.rows.specs.Rows.{roundIn};
+ghost use Rattle.rows.specs.Rows.{roundIn, Held};
 ghost use Rattle.fill.specs.Fill.{Blank};
 ghost use Rattle.result.specs.Tells.{Tells};
 ghost use Rattle.tell.specs.Tell.{wonIn, bidIn, paidIn, autoIn, stands, anewOf, placed, Numbered};
@@ -268,41 +267,33 @@ fn blank_sheet() -> Sheet
 // Pot p is cleared on its sheet, and told.
 fn pot(
     t: Tellings,
-    years: &[u8],
-    pots: &[u8],
-    techs: &[u8],
-    apps: &[u8],
-    bids: &[u8],
+    file: &[u8],
     z: Sections,
     p: usize,
 ) -> Tellings
-    requires { ⌜ Sound (roundIn (now years) (now pots) (now techs) (now apps) (now bids) z) × (p < z .pots) ⌝ }
-    ensures { λ r. ⌜ (ToldTo (roundIn (now (years .entry)) (now (pots .entry)) (now (techs .entry)) (now (apps .entry)) (now (bids .entry)) z) p t
-        → ToldTo (roundIn (now (years .entry)) (now (pots .entry)) (now (techs .entry)) (now (apps .entry)) (now (bids .entry)) z) (p + 1) r) ⌝ }
+    requires { ⌜ Held (now file) z × (p < z .pots) ⌝ }
+    ensures { λ r. ⌜ (ToldTo (roundIn (now (file .entry)) z) p t
+        → ToldTo (roundIn (now (file .entry)) z) (p + 1) r) ⌝ }
 {
     let mut sheet = blank_sheet();
-    let of = fill::fill(years, pots, techs, apps, bids, z, p, &mut sheet);
+    let of = fill::fill(file, z, p, &mut sheet);
     let c = auction::clear_pot(&sheet, of);
     with(t, c, &sheet, of, p)
 }
 
 // What is told of the round that the parts of an accepted file and their counts show.
 pub fn tell(
-    years: &[u8],
-    pots: &[u8],
-    techs: &[u8],
-    apps: &[u8],
-    bids: &[u8],
+    file: &[u8],
     z: Sections,
 ) -> Tellings
-    requires { ⌜ Sound (roundIn (now years) (now pots) (now techs) (now apps) (now bids) z) ⌝ }
-    ensures { λ r. ⌜ Tells (roundIn (now (years .entry)) (now (pots .entry)) (now (techs .entry)) (now (apps .entry)) (now (bids .entry)) z) r ⌝ }
+    requires { ⌜ Held (now file) z ⌝ }
+    ensures { λ r. ⌜ Tells (roundIn (now (file .entry)) z) r ⌝ }
 {
     let mut t = nothing();
     let n = z.pots;
     let mut p: usize = 0;
     while p < n {
-        t = pot(t, years, pots, techs, apps, bids, z, p);
+        t = pot(t, file, z, p);
         p += 1;
     }
     t

@@ -32,7 +32,7 @@ returns c =
     let pre = c .before .before .before .before .before .before .before .before .before .before .before .before .before .before .pre in
     let S = pre .0 .0 in
     let a = c .before .before .before .before .before .before .before .before .before .before .before .before .before .before .args in
-    let R = roundIn (now (a .years)) (now (a .pots)) (now (a .techs)) (now (a .apps)) (now (a .bids)) (a .z) in
+    let R = roundIn (now (a .file)) (a .z) in
     let w = written refl (S .years-most) (c .before .before .before .before .before .before .before .fill-rows .ensures .0) (c .before .before .before .before .before .fill-figures .ensures .0) (c .before .before .before .fill-limits .ensures .0) (c .fill-entrants .ensures .0) (c .fill-entrants .ensures .1) in
     let bytes = c .before .before .before .before .before .before .before .before .before .before .shared-slice-known4 .given in
     ((shows R S (a .pot) w, ready R S (a .pot) (λ i. omega (arith, bytes i)) (pre .0 .1) w), refl)

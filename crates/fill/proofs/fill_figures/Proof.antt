@@ -11,10 +11,10 @@ use Rattle.fill.proofs.fill_figures.Statement.{statement}
 use Rattle.fill.proofs.fill_figures.Tie as tie
 
 abbrev Inv-loop : tie.InvT-loop
-Inv-loop years pots techs apps bids z pot sheet₀ m k₀ sheet k = (k ≤ m) × (length sheet ≡ 9928) × Done (roundIn years pots techs apps bids z) pot k sheet₀ sheet
+Inv-loop file z pot sheet₀ m k₀ sheet k = (k ≤ m) × (length sheet ≡ 9928) × Done (roundIn file z) pot k sheet₀ sheet
 
 abbrev μ-loop : tie.MeasureT-loop
-μ-loop years pots techs apps bids z pot sheet₀ m k₀ sheet k = m - k
+μ-loop file z pot sheet₀ m k₀ sheet k = m - k
 
 loop-holds : tie.Need-loop-holds Inv-loop μ-loop
 loop-holds c = (omega arith, c .before .before .before .before .before .before .pre .0 .1, done-none _ _ _)

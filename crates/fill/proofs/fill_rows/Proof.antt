@@ -12,10 +12,10 @@ use Rattle.fill.proofs.fill_rows.Statement.{statement}
 use Rattle.fill.proofs.fill_rows.Tie as tie
 
 abbrev Inv-loop : tie.InvT-loop
-Inv-loop years pots techs apps bids z pot sheet₀ k₀ sheet k = (k ≤ mostNumbers) × (length sheet ≡ 9928) × RowsRight (roundIn years pots techs apps bids z) pot k sheet × Kept 8008 sheet₀ sheet
+Inv-loop file z pot sheet₀ k₀ sheet k = (k ≤ mostNumbers) × (length sheet ≡ 9928) × RowsRight (roundIn file z) pot k sheet × Kept 8008 sheet₀ sheet
 
 abbrev μ-loop : tie.MeasureT-loop
-μ-loop years pots techs apps bids z pot sheet₀ k₀ sheet k = mostNumbers - k
+μ-loop file z pot sheet₀ k₀ sheet k = mostNumbers - k
 
 loop-holds : tie.Need-loop-holds Inv-loop μ-loop
 loop-holds c = (omega arith, c .before .before .before .before .before .pre .1, λ k h. absurd (omega arith), λ j h. refl)
@@ -38,7 +38,7 @@ loop-again c =
 returns : tie.Need-returns Inv-loop μ-loop
 returns c =
     let a = c .before .before .before .before .before .before .before .args in
-    let R = roundIn (now (a .years)) (now (a .pots)) (now (a .techs)) (now (a .apps)) (now (a .bids)) (a .z) in
+    let R = roundIn (now (a .file)) (a .z) in
     let l = c .before .loop in
     (record { right = all-of (λ n. RowsRight R (a .pot) n (l .sheet)) (l .inv .2) (l .inv .0) (c .loop-test .left); kept = l .inv .3 }, l .inv .1)
 

@@ -69,7 +69,7 @@ returns : tie.Need-returns Inv-loop μ-loop
 returns c =
     let a = c .before .before .before .before .before .before .before .before .before .args in
     let pre = c .before .before .before .before .before .before .before .before .before .pre in
-    let R = roundIn (now (a .years)) (now (a .pots)) (now (a .techs)) (now (a .apps)) (now (a .bids)) (a .z) in
+    let R = roundIn (now (a .file)) (a .z) in
     let l = c .before .loop in
     let bid = c .before .before .before .bid-of in
     let tech = c .before .before .tech-of in (

@@ -9,10 +9,10 @@ use Rattle.tell.proofs.tell.Statement.{statement}
 use Rattle.tell.proofs.tell.Tie as tie
 
 abbrev Inv-loop : tie.InvT-loop
-Inv-loop years pots techs apps bids z t₀ n p₀ t p = (p ≤ z .pots) × ToldTo (roundIn years pots techs apps bids z) p t
+Inv-loop file z t₀ n p₀ t p = (p ≤ z .pots) × ToldTo (roundIn file z) p t
 
 abbrev μ-loop : tie.MeasureT-loop
-μ-loop years pots techs apps bids z t₀ n p₀ t p = n - p
+μ-loop file z t₀ n p₀ t p = n - p
 
 loop-holds : tie.Need-loop-holds Inv-loop μ-loop
 loop-holds c = (omega arith, c .nothing .ensures _)
@@ -24,7 +24,7 @@ loop-again : tie.Need-loop-again Inv-loop μ-loop
 loop-again c = (omega arith, c .pot .ensures (c .before .before .loop .inv .1))
 
 returns : tie.Need-returns Inv-loop μ-loop
-returns c = told-all _ (c .before .before .before .before .before .before .before .before .pre) _ _ (omega (arith, c .before .loop .inv .0, c .loop-test .left)) (c .before .loop .inv .1)
+returns c = told-all _ (c .before .before .before .before .before .before .before .before .pre .sound) _ _ (omega (arith, c .before .loop .inv .0, c .loop-test .left)) (c .before .loop .inv .1)
 
 pub tell-spec : {M : Type 1} → statement M
 tell-spec =
