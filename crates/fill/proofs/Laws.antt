@@ -2,17 +2,17 @@
 use Prim.Native.Nat.{ℕ, zero, suc, _+_, _-_, _*_, _≤_, _<_}
 use mathlib.Core.Path.{_≡_, refl, sym, ap, subst, _∙_}
 use mathlib.Core.Bool.{Bool, true, false}
-use mathlib.Core.List.{List, _∷_}
+use mathlib.Core.List.{List, [], _∷_}
 use native.Mathlib.Numerals.{add-one}
 use native.Mathlib.Omega.{arith}
 use native.Mathlib.Nat.{add-zero, le-antisymm, mul-le-mul, mul-le-mul-right}
-use lib.ListN.{length, getD, set, length-set, getD-replicate}
-use lib.Seq.{getD-set-same, getD-set-other}
+use lib.ListN.{length, getD, set, take, drop, length-set, getD-replicate}
+use lib.Seq.{getD-drop, getD-set-same, getD-set-other}
 use lib.Dec.{eqb}
 use borrow.Author.Tests.{eqb-true, eqb-false, eq-eqb, ne-eqb}
 use Rattle.rules.specs.Names.{mostYears, mostPots, potWidth}
 use Rattle.rules.specs.Lists.{pick, sift, below}
-use Rattle.rules.specs.Bytes.{le}
+use Rattle.rules.specs.Bytes.{le, part}
 use Rattle.rules.specs.File.{Round, Bid, appAt, budgetAt}
 use Rattle.rules.specs.Round.{mine, enters}
 use Rattle.laws.specs.Lists.{case}
@@ -35,6 +35,16 @@ pot-room R S p h = omega (arith, S .pots-whole, mul-le-mul-right {m = suc p} (po
 
 pub budget-read : (y : ℕ) (pots : List ℕ) (p i : ℕ) {at x : ℕ} → at ≡ p * potWidth y → x ≡ le 8 pots (at + 8 * i) → x ≡ budgetAt y pots p i
 budget-read y pots p i e h = read-at 8 pots (8 * i) e h
+
+-- a part of a file of bytes has bytes
+take-byte : (n : ℕ) (s : List ℕ) → ((i : ℕ) → getD s i 0 < 256) → (i : ℕ) → getD (take n s) i 0 < 256
+take-byte zero s h i = omega arith
+take-byte (suc n) [] h i = omega arith
+take-byte (suc n) (x ∷ s) h zero = h 0
+take-byte (suc n) (x ∷ s) h (suc i) = take-byte n s (λ j. h (suc j)) i
+
+pub part-byte : (s : List ℕ) (a e : ℕ) → ((i : ℕ) → getD s i 0 < 256) → (i : ℕ) → getD (part s a e) i 0 < 256
+part-byte s a e h i = take-byte (e - a) (drop a s) (λ j. rw (getD-drop a s j 0) (h (a + j))) i
 
 -- ---- numbers put at a place
 

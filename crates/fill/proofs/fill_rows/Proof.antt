@@ -18,10 +18,10 @@ abbrev μ-loop : tie.MeasureT-loop
 μ-loop file z pot sheet₀ k₀ sheet k = mostNumbers - k
 
 loop-holds : tie.Need-loop-holds Inv-loop μ-loop
-loop-holds c = (omega arith, c .before .before .before .before .before .pre .1, λ k h. absurd (omega arith), λ j h. refl)
+loop-holds c = (omega arith, c .before .pre .1, λ k h. absurd (omega arith), λ j h. refl)
 
 row-requires : tie.Need-row-requires Inv-loop μ-loop
-row-requires c κs = c .before .before .before .before .before .before .before .pre .0
+row-requires c κs = c .before .before .before .pre .0
 
 slice-aggregate-put : tie.Need-slice-aggregate-put Inv-loop μ-loop
 slice-aggregate-put c = row-length _ _ _ (c .before .before .row .ensures)
@@ -37,7 +37,7 @@ loop-again c =
 
 returns : tie.Need-returns Inv-loop μ-loop
 returns c =
-    let a = c .before .before .before .before .before .before .before .args in
+    let a = c .before .before .before .args in
     let R = roundIn (now (a .file)) (a .z) in
     let l = c .before .loop in
     (record { right = all-of (λ n. RowsRight R (a .pot) n (l .sheet)) (l .inv .2) (l .inv .0) (c .loop-test .left); kept = l .inv .3 }, l .inv .1)

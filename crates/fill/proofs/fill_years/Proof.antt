@@ -4,6 +4,7 @@ use native.Mathlib.Omega.{arith}
 use mathlib.Core.Path.{_≡_, refl, sym, _∙_}
 use lib.ListN.{length}
 use denote.Ref.{now}
+use borrow.Author.Needs.{needs}
 use Rattle.rows.proofs.Laws.{mine-in, bid-in, its-app, its-year, figure-length}
 use Rattle.rows.specs.Rows.{roundIn, shown}
 use Rattle.fill.specs.Fill.{Figured, Kept, Rest}
@@ -12,35 +13,35 @@ use Rattle.fill.proofs.fill_years.Statement.{statement}
 use Rattle.fill.proofs.fill_years.Tie as tie
 
 abbrev Inv-loop : tie.InvT-loop
-Inv-loop years pots techs apps bids pot k sheet₀ y x t i₀ sheet i =
+Inv-loop file pot k sheet₀ second years third fourth techs fifth y x t i₀ sheet i =
     (i ≤ y) × (length sheet ≡ 9928) × Figured years techs y t (shown x) k i sheet × Kept (328 + k * 24) sheet₀ sheet × Rest (328 + k * 24 + i * 3) sheet₀ sheet
 
 abbrev μ-loop : tie.MeasureT-loop
-μ-loop years pots techs apps bids pot k sheet₀ y x t i₀ sheet i = y - i
+μ-loop file pot k sheet₀ second years third fourth techs fifth y x t i₀ sheet i = y - i
 
 bid-of-requires : tie.Need-bid-of-requires Inv-loop μ-loop
-bid-of-requires c κs = let p = c .before .before .before .before .before .pre in bid-in _ (p .0 .0) _ (mine-in _ _ _ (sym (p .1)) refl)
+bid-of-requires c κs = let p = c .before .before .before .before .before .pre in bid-in _ (p .0 .0 .sound) _ (mine-in _ _ _ (sym (p .1)) refl)
 
 tech-of-requires : tie.Need-tech-of-requires Inv-loop μ-loop
-tech-of-requires c κs = let p = c .before .before .before .before .before .before .pre in its-app _ (p .0 .0) _ (mine-in _ _ _ (sym (p .1)) refl) (c .bid-of .ensures)
+tech-of-requires c κs = let p = c .before .before .before .before .before .before .pre in its-app _ (p .0 .0 .sound) _ (mine-in _ _ _ (sym (p .1)) refl) (c .bid-of .ensures)
 
 loop-holds : tie.Need-loop-holds Inv-loop μ-loop
 loop-holds c = (omega arith, c .before .before .before .before .before .before .before .pre .0 .1, λ i h. absurd (omega arith), λ j h. refl, λ j h. refl)
 
 figure-requires : tie.Need-figure-requires Inv-loop μ-loop
-figure-requires c κs = let p = c .before .before .before .before .before .before .before .before .before .pre in its-year _ (p .0 .0) _ (mine-in _ _ _ (sym (p .1)) refl) (c .before .before .before .bid-of .ensures) (c .before .before .tech-of .ensures) _ (c .loop-test .taken)
+figure-requires c κs = let p = c .before .before .before .before .before .before .before .before .before .pre in its-year _ (p .0 .0 .sound) _ (mine-in _ _ _ (sym (p .1)) refl) (c .before .before .before .bid-of .ensures) (c .before .before .tech-of .ensures) _ (c .loop-test .taken)
 
 mul-put : tie.Need-mul-put Inv-loop μ-loop
-mul-put c = let p = c .before .before .before .before .before .before .before .before .before .before .before .pre in omega (arith, p .0 .0 .bids-few, p .0 .0 .apps-few, mine-in _ _ _ (sym (p .1)) refl)
+mul-put c = let p = c .before .before .before .before .before .before .before .before .before .before .before .pre in omega (arith, p .0 .0 .sound .bids-few, p .0 .0 .sound .apps-few, mine-in _ _ _ (sym (p .1)) refl)
 
 add-put : tie.Need-add-put Inv-loop μ-loop
-add-put c = let p = c .before .before .before .before .before .before .before .before .before .before .before .pre in omega (arith, p .0 .0 .bids-few, p .0 .0 .apps-few, mine-in _ _ _ (sym (p .1)) refl)
+add-put c = let p = c .before .before .before .before .before .before .before .before .before .before .before .pre in omega (arith, p .0 .0 .sound .bids-few, p .0 .0 .sound .apps-few, mine-in _ _ _ (sym (p .1)) refl)
 
 mul-put-2 : tie.Need-mul-put-2 Inv-loop μ-loop
-mul-put-2 c = omega (arith, c .before .before .before .before .before .before .before .before .before .before .before .pre .0 .0 .years-most, c .before .before .loop-test .taken)
+mul-put-2 c = omega (arith, c .before .before .before .before .before .before .before .before .before .before .before .pre .0 .0 .sound .years-most, c .before .before .loop-test .taken)
 
 add-put-2 : tie.Need-add-put-2 Inv-loop μ-loop
-add-put-2 c = let p = c .before .before .before .before .before .before .before .before .before .before .before .pre in omega (arith, c .before .before .loop-test .taken, p .0 .0 .years-most, p .0 .0 .bids-few, p .0 .0 .apps-few, mine-in _ _ _ (sym (p .1)) refl)
+add-put-2 c = let p = c .before .before .before .before .before .before .before .before .before .before .before .pre in omega (arith, c .before .before .loop-test .taken, p .0 .0 .sound .years-most, p .0 .0 .sound .bids-few, p .0 .0 .sound .apps-few, mine-in _ _ _ (sym (p .1)) refl)
 
 slice-aggregate-put : tie.Need-slice-aggregate-put Inv-loop μ-loop
 slice-aggregate-put c = figure-length _ _ _ _ _ _ (c .before .before .figure .ensures)
@@ -48,7 +49,7 @@ slice-aggregate-put c = figure-length _ _ _ _ _ _ (c .before .before .figure .en
 put-requires : tie.Need-put-requires Inv-loop μ-loop
 put-requires c κs =
     let p = c .before .before .before .before .before .before .before .before .before .before .before .before .pre in (
-      omega (arith, figure-length _ _ _ _ _ _ (c .before .before .figure .ensures), c .before .before .before .loop-test .taken, p .0 .0 .years-most, p .0 .0 .bids-few, p .0 .0 .apps-few, mine-in _ _ _ (sym (p .1)) refl),
+      omega (arith, figure-length _ _ _ _ _ _ (c .before .before .figure .ensures), c .before .before .before .loop-test .taken, p .0 .0 .sound .years-most, p .0 .0 .sound .bids-few, p .0 .0 .sound .apps-few, mine-in _ _ _ (sym (p .1)) refl),
       c .before .before .before .before .loop .inv .1,
     )
 
@@ -77,12 +78,13 @@ returns c =
         right = figures-own R (a .pot) (a .k) (l .sheet) (pre .1) (bid .ensures) (tech .ensures)
             (all-of (λ n. Figured (R .years) (R .techs) (R .y) (tech .result) (shown (bid .result)) (a .k) n (l .sheet)) (l .inv .2) (l .inv .0) (c .loop-test .left));
         kept = l .inv .3;
-        rest = λ j h. l .inv .4 j (omega (arith, l .inv .0, pre .0 .0 .years-most));
+        rest = λ j h. l .inv .4 j (omega (arith, l .inv .0, pre .0 .0 .sound .years-most));
       },
       l .inv .1,
     )
 
 pub fill-years-spec : {M : Type 1} → statement M
 fill-years-spec =
-    tie.close (tie.spec Inv-loop μ-loop bid-of-requires tech-of-requires loop-holds figure-requires mul-put add-put mul-put-2 add-put-2 slice-aggregate-put
+    tie.close (tie.spec Inv-loop μ-loop (λ c. search needs) (λ c. search needs) (λ c. search needs) (λ c. search needs) (λ c. search needs) (λ c. search needs) (λ c. search needs) (λ c. search needs) (λ c. search needs) (λ c. search needs) (λ c. search needs) (λ c. search needs) (λ c. search needs) (λ c. search needs) (λ c. search needs)
+    bid-of-requires tech-of-requires loop-holds figure-requires mul-put add-put mul-put-2 add-put-2 slice-aggregate-put
     put-requires (λ c. omega arith) (λ c. omega arith) loop-again returns)
