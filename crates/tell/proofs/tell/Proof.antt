@@ -18,13 +18,13 @@ loop-holds : tie.Need-loop-holds Inv-loop μ-loop
 loop-holds c = (omega arith, c .nothing .ensures _)
 
 pot-requires : tie.Need-pot-requires Inv-loop μ-loop
-pot-requires c κs = (c .before .before .before .before .before .before .before .before .pre, c .loop-test .taken)
+pot-requires c κs = (c .before .before .before .before .pre, c .loop-test .taken)
 
 loop-again : tie.Need-loop-again Inv-loop μ-loop
 loop-again c = (omega arith, c .pot .ensures (c .before .before .loop .inv .1))
 
 returns : tie.Need-returns Inv-loop μ-loop
-returns c = told-all _ (c .before .before .before .before .before .before .before .before .pre .sound) _ _ (omega (arith, c .before .loop .inv .0, c .loop-test .left)) (c .before .loop .inv .1)
+returns c = told-all _ (c .before .before .before .before .pre .sound) _ _ (omega (arith, c .before .loop .inv .0, c .loop-test .left)) (c .before .loop .inv .1)
 
 pub tell-spec : {M : Type 1} → statement M
 tell-spec =
