@@ -36,12 +36,7 @@ fn put(sheet: &mut Sheet, at: usize, v: &[u64])
 }
 
 // The rows of all bids. Those of other pots are zeros, and so are those after the last bid.
-fn fill_rows(
-    file: &[u8],
-    z: Sections,
-    pot: usize,
-    sheet: &mut Sheet,
-)
+fn fill_rows(file: &[u8], z: Sections, pot: usize, sheet: &mut Sheet)
     requires { ⌜ Held (now file) z × (length (now sheet) ≡ sheetLength) ⌝ }
     ensures { λ _. ⌜ RowsWritten (roundIn (now (file .entry)) z) pot (now (sheet .entry)) (now (sheet .exit)) × (length (now (sheet .exit)) ≡ sheetLength) ⌝ }
 {
@@ -54,13 +49,7 @@ fn fill_rows(
 }
 
 // The figures of bid k of the pot in the years of the file.
-fn fill_years(
-    file: &[u8],
-    z: Sections,
-    pot: usize,
-    k: usize,
-    sheet: &mut Sheet,
-)
+fn fill_years(file: &[u8], z: Sections, pot: usize, k: usize, sheet: &mut Sheet)
     requires { ⌜ Held (now file) z × (length (now sheet) ≡ sheetLength) ⌝ }
     requires { ⌜ mine (roundIn (now file) z) pot k ≡ true ⌝ }
     ensures { λ _. ⌜ FiguresOf (roundIn (now (file .entry)) z) pot k (now (sheet .entry)) (now (sheet .exit)) × (length (now (sheet .exit)) ≡ sheetLength) ⌝ }
@@ -89,12 +78,7 @@ fn fill_years(
 }
 
 // The figures of all bids, over blank ones: those of other pots, which the rows tell, stay zeros.
-fn fill_figures(
-    file: &[u8],
-    z: Sections,
-    pot: usize,
-    sheet: &mut Sheet,
-)
+fn fill_figures(file: &[u8], z: Sections, pot: usize, sheet: &mut Sheet)
     requires { ⌜ Held (now file) z × (length (now sheet) ≡ sheetLength) ⌝ }
     requires { ⌜ RowsRight (roundIn (now file) z) pot mostNumbers (now sheet) × BlankFigures (now sheet) ⌝ }
     ensures { λ _. ⌜ FiguresWritten (roundIn (now (file .entry)) z) pot (now (sheet .entry)) (now (sheet .exit)) × (length (now (sheet .exit)) ≡ sheetLength) ⌝ }
@@ -140,12 +124,7 @@ fn fill_entrants(m: usize, sheet: &mut Sheet) -> usize
 }
 
 // The sheet of the pot: it shows the pot of the round, and is ready to be cleared.
-pub fn fill(
-    file: &[u8],
-    z: Sections,
-    pot: usize,
-    sheet: &mut Sheet,
-) -> Size
+pub fn fill(file: &[u8], z: Sections, pot: usize, sheet: &mut Sheet) -> Size
     requires { ⌜ Held (now file) z × (pot < z .pots) ⌝ }
     requires { ⌜ (length (now sheet) ≡ sheetLength) × Blank (now sheet) ⌝ }
     ensures { λ r. ⌜ (potIn (now (sheet .exit)) r ≡ potOf (roundIn (now (file .entry)) z) pot) × Ready (now (sheet .exit)) r ⌝ }
@@ -155,7 +134,12 @@ pub fn fill(
     fill_figures(file, z, pot, sheet);
     let second = z.second;
     let third = z.third;
-    fill_limits(&file[second + names::COUNT_WIDTH..third], z.years, pot, sheet);
+    fill_limits(
+        &file[second + names::COUNT_WIDTH..third],
+        z.years,
+        pot,
+        sheet,
+    );
     let m = z.bids + z.applications;
     let entered = fill_entrants(m, sheet);
     Size {

@@ -160,12 +160,7 @@ fn standing(bids: &[u8], b: usize, k: usize) -> u64
 }
 
 // Does bid k stand in the pot?
-fn mine(
-    file: &[u8],
-    z: Sections,
-    pot: usize,
-    k: usize,
-) -> bool
+fn mine(file: &[u8], z: Sections, pot: usize, k: usize) -> bool
     requires { ⌜ Held (now file) z ⌝ }
     ensures { λ r. ⌜ r ≡ mine (roundIn (now (file .entry)) z) pot k ⌝ }
 {
@@ -186,12 +181,7 @@ fn mine(
 // ---- the numbers of the sheet
 
 // The row of bid k: standing, application, start year, price, draw of the application, administrative price.
-pub fn row(
-    file: &[u8],
-    z: Sections,
-    pot: usize,
-    k: usize,
-) -> [u64; 6]
+pub fn row(file: &[u8], z: Sections, pot: usize, k: usize) -> [u64; 6]
     requires { ⌜ Held (now file) z ⌝ }
     ensures { λ r. ⌜ r ≡ rowNumbers (roundIn (now (file .entry)) z) pot k ⌝ }
 {

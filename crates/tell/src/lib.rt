@@ -265,12 +265,7 @@ fn blank_sheet() -> Sheet
 }
 
 // Pot p is cleared on its sheet, and told.
-fn pot(
-    t: Tellings,
-    file: &[u8],
-    z: Sections,
-    p: usize,
-) -> Tellings
+fn pot(t: Tellings, file: &[u8], z: Sections, p: usize) -> Tellings
     requires { ⌜ Held (now file) z × (p < z .pots) ⌝ }
     ensures { λ r. ⌜ (ToldTo (roundIn (now (file .entry)) z) p t
         → ToldTo (roundIn (now (file .entry)) z) (p + 1) r) ⌝ }
@@ -282,10 +277,7 @@ fn pot(
 }
 
 // What is told of the round that the parts of an accepted file and their counts show.
-pub fn tell(
-    file: &[u8],
-    z: Sections,
-) -> Tellings
+pub fn tell(file: &[u8], z: Sections) -> Tellings
     requires { ⌜ Held (now file) z ⌝ }
     ensures { λ r. ⌜ Tells (roundIn (now (file .entry)) z) r ⌝ }
 {

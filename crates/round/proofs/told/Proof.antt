@@ -4,10 +4,10 @@ use Rattle.round.proofs.told.Statement.{statement}
 use Rattle.round.proofs.told.Tie as tie
 
 tell-requires : tie.Need-tell-requires
-tell-requires c κs = held _ (handed (now (c .args .file)) (c .pre))
+tell-requires c κs = held _ (handed (now (c .before .args .file)) (c .before .pre))
 
 returns : tie.Need-returns
-returns c = parts-told _ (handed (now (c .args .file)) (c .pre)) (c .tell .ensures)
+returns c = parts-told _ (handed (now (c .before .before .args .file)) (c .before .before .pre)) (c .tell .ensures)
 
 pub told-spec : {M : Type 1} → statement M
 told-spec =
