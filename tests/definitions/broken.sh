@@ -1,20 +1,20 @@
 #!/bin/sh
-# broken.sh: each edit of a definition under crates/rules/must-fail that names what it breaks is made in a copy, and crate laws must be refused at each
-# law named. The worked cases are set aside there, so that no edit is refused by them. `small-pots.K` is row K of that theorem, where the law
+# broken.sh: each edit of a definition under crates/rules/must-fail that names what it breaks is made in a copy, and the crates of laws must be refused at
+# each law named. The worked cases are set aside there, so that no edit is refused by them. `small-pots.K` is row K of that theorem, where the law
 # comes out false by computation. Works in target/broken.
 set -eu
 root=$(cd "$(dirname "$0")/../.." && pwd)
 d=$root/target/broken
 edits=$root/crates/rules/must-fail
 
-# copy: crates rules and laws without the worked cases
+# copy: the definitions and their laws, without the worked cases
 copy() {
     rm -rf "$d"
     mkdir -p "$d/crates"
-    cp -r "$root/crates/rules" "$root/crates/laws" "$d/crates"
+    cp -r "$root/crates/rules" "$root"/crates/*_laws "$d/crates"
     rm -rf "$d"/crates/*/must-fail "$d/crates/rules/specs/Worked.antt" "$d/crates/rules/specs/Listing.antt"
     sed -i '/^pub mod Worked$/d; /^pub mod Listing$/d' "$d/crates/rules/specs/Lib.antt"
-    printf 'rules:\nlaws: rules\n' >"$d/crates.txt"
+    grep -E '^(rules|[a-z]+_laws):' "$root/crates.txt" >"$d/crates.txt"
 }
 
 # edited FILE OLD NEW: the file's text with OLD, which stands in it once, turned to NEW
@@ -41,7 +41,7 @@ refused() {
         law=$(printf '%s\n' "$line" | sed 's/.* error: `\([^`]*\)`.*/\1/')
         if [ "$law" = small-pots ]; then
             place=$(printf '%s\n' "$line" | sed 's/^\([^:]*\):\([0-9]*\):\([0-9]*\):.*/\2 \3/')
-            law=$law.$(sed -n "${place% *}p" "$d/crates/laws/specs/Pots.antt" | cut -c "1-${place#* }" | tr ',' '\n' | wc -l)
+            law=$law.$(sed -n "${place% *}p" "$d/crates/pot_laws/specs/Pots.antt" | cut -c "1-${place#* }" | tr ',' '\n' | wc -l)
         fi
         echo "$law"
     done

@@ -10,10 +10,10 @@ use borrow.Author.Tests.{lt-ltb, le-ltb}
 use Rattle.rules.specs.Names.{noPrice, noBid, becauseWon, mostApps}
 use Rattle.rules.specs.Lists.{pick, memb, sift, below}
 use Rattle.rules.specs.Pot.{Pot, winners, seen, priceFrom, clearing, total, auction, wideEnd, adminFits, outcome, priceIn, totalIn, paid, unlookedReason, auctionReason, reason, winnersOf}
-use Rattle.laws.specs.Lists.{case, clash, In, here, memb-in, sift-in, sift-same, sift-both, below-in}
+use Rattle.pot_laws.specs.Lists.{case, clash, In, here, memb-in, sift-in, sift-same, sift-both, below-in}
 use Rattle.sheet.specs.declared.Size.{Size}
-use Rattle.sheet.specs.Sheet.{rowApp, rowYear, rowCap, inAuction, potIn, Ready}
-use Rattle.sets.proofs.Arrays.{eqb-sym, put-is, at-start, fill-at}
+use Rattle.sheet.specs.Sheet.{rowApp, rowYear, rowAdmin, inAuction, potIn, Ready}
+use Rattle.arrays.proofs.Arrays.{eqb-sym, put-is, at-start, fill-at}
 use Rattle.totals.specs.Totals.{totalOf, filled, rowFits, autoTotal}
 use Rattle.totals.proofs.Link as link
 use Rattle.ties.proofs.Sums.{price-won}
@@ -112,7 +112,7 @@ module _ (sheet : List ℕ) (of : Size) (ok : Ready sheet of) where
         go [] e = unfold payOf in rw (le-ltb noBid (of .bids) (omega (arith, ok .few)))
         go (w ∷ l) e =
             let z = in-bids w l e in
-            unfold payOf in rw (lt-ltb w (of .bids) (bid-lt w (z .0))) (ap (λ (x : ℕ). min x (rowCap sheet w)) (R .price (rowYear sheet w) (ok .year w (bid-lt w (z .0))) ∙ won-price w (memb-in w ws (z .1))) ∙ opened w)
+            unfold payOf in rw (lt-ltb w (of .bids) (bid-lt w (z .0))) (ap (λ (x : ℕ). min x (rowAdmin sheet w)) (R .price (rowYear sheet w) (ok .year w (bid-lt w (z .0))) ∙ won-price w (memb-in w ws (z .1))) ∙ opened w)
           where
             won-price : (w : ℕ) → In w ws → priceFrom P noPrice ws (rowYear sheet w) ≡ clearing P ws (rowYear sheet w)
             won-price w i = started (price-won P noPrice w ws i)
@@ -120,7 +120,7 @@ module _ (sheet : List ℕ) (of : Size) (ok : Ready sheet of) where
                 started : priceFrom P noPrice ws (P .yr w) ≡ clearing P ws (P .yr w) → priceFrom P noPrice ws (rowYear sheet w) ≡ clearing P ws (rowYear sheet w)
                 started e = unfold potIn in e
 
-            opened : (w : ℕ) → min (clearing P ws (rowYear sheet w)) (rowCap sheet w) ≡ paid P w
+            opened : (w : ℕ) → min (clearing P ws (rowYear sheet w)) (rowAdmin sheet w) ≡ paid P w
             opened w = unfold paid potIn in refl
 
     -- the reason of a bid
@@ -173,7 +173,7 @@ module _ (sheet : List ℕ) (of : Size) (ok : Ready sheet of) where
     total = λ z h.
         let g : z < of .years = below z h in
         ap (λ (l : List ℕ). getD l z 0) e ∙ link.row-at sheet of ok (λ x. autoTotal sheet (of .sealed) x (of .bids)) z g
-        ∙ link.admin-is sheet of ok z g ∙ (unfold totalIn in rw t);
+        ∙ link.admin-total-is sheet of ok z g ∙ (unfold totalIn in rw t);
     reason = λ k i. at-start 320 k 6 0 (link.small sheet of ok k (bid-lt k i)) ∙ (unfold reason in rw t);
     bid = λ f q a h. clash t f;
     paid = λ f q a h. clash t f;

@@ -9,7 +9,7 @@ use lib.ListN.{length, getD, set}
 use borrow.Author.Tests.{eq-eqb, ne-eqb, lt-ltb, le-ltb}
 use Rattle.rules.specs.Names.{becauseWon}
 use Rattle.sheet.specs.declared.Size.{Size}
-use Rattle.sheet.specs.Sheet.{Ready, rowApp, rowYear, rowCap}
+use Rattle.sheet.specs.Sheet.{Ready, rowApp, rowYear, rowAdmin}
 use Rattle.pot.specs.declared.PotState.{PotState}
 use Rattle.auction.specs.declared.Cleared.{Cleared}
 use Rattle.auction.specs.Numbers.{reasonBy, reasonAt, reasonsOf, winningOf, payOf, paidOf, toldOf}
@@ -44,7 +44,7 @@ winning-miss sheet marks k e h = rw (add-one k, ne-eqb (getD marks k 0) becauseW
 
 -- ---- what is paid
 
-pub pay-hit : (sheet : List ℕ) (of : Size) (prices : List ℕ) (w : ℕ) {r d c : ℕ} → w < of .bids → d ≡ rowYear sheet w → c ≡ rowCap sheet w → r ≡ min (getD prices d 0) c → r ≡ payOf sheet of prices w
+pub pay-hit : (sheet : List ℕ) (of : Size) (prices : List ℕ) (w : ℕ) {r d c : ℕ} → w < of .bids → d ≡ rowYear sheet w → c ≡ rowAdmin sheet w → r ≡ min (getD prices d 0) c → r ≡ payOf sheet of prices w
 unfolding payOf
 pay-hit sheet of prices w h e q p = rw (lt-ltb w (of .bids) h) (p ∙ ap₂ (λ (x z : ℕ). min (getD prices x 0) z) e q)
 

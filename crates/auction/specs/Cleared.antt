@@ -6,7 +6,7 @@ use mathlib.Core.List.{List, [], _∷_}
 use lib.ListN.{getD}
 use Rattle.rules.specs.Names.{mostApps, mostDeliveries, noBid}
 use Rattle.rules.specs.Pot.{Pot, auction, wideEnd, adminFits, outcome, priceIn, totalIn, paid, reason, winnersOf}
-use Rattle.laws.specs.Lists.{In}
+use Rattle.pot_laws.specs.Lists.{In}
 use Rattle.auction.specs.declared.Cleared.{Cleared}
 
 -- an application's winning bid, where those that won for it are listed; and what it is paid

@@ -7,8 +7,8 @@ use lib.Dec.{eqb, ltb}
 use Rattle.rules.specs.Names.{auctioned, noPrice, noBid, noReason, becauseWon, unlookedWon, unlookedElse}
 use Rattle.rules.specs.Lists.{pick}
 use Rattle.sheet.specs.declared.Size.{Size}
-use Rattle.sheet.specs.Sheet.{rowApp, rowYear, rowCap}
-use Rattle.sets.specs.Sets.{fill}
+use Rattle.sheet.specs.Sheet.{rowApp, rowYear, rowAdmin}
+use Rattle.arrays.specs.Sets.{fill}
 use Rattle.pot.specs.declared.PotState.{PotState}
 use Rattle.auction.specs.declared.Cleared.{Cleared}
 
@@ -32,7 +32,7 @@ winningOf sheet marks (suc k) = pick (eqb (getD marks k 0) becauseWon) (set (win
 
 -- what the winning bid w is paid, where the bids are numbered below m
 unfoldable pub payOf : (sheet : List ℕ) (of : Size) (prices : List ℕ) (w : ℕ) → ℕ
-payOf sheet of prices w = pick (ltb w (of .bids)) (min (getD prices (rowYear sheet w) 0) (rowCap sheet w)) 0
+payOf sheet of prices w = pick (ltb w (of .bids)) (min (getD prices (rowYear sheet w) 0) (rowAdmin sheet w)) 0
 
 unfoldable pub noPay : List ℕ
 noPay = replicate 64 0

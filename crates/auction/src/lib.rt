@@ -2,6 +2,7 @@
 // specs/Numbers.antt what each function computes.
 ghost use mathlib.Core.Path.{_≡_};
 ghost use Prim.Native.Nat.{_+_, _<_};
+use names::NUMBERS;
 use pot::PotState;
 use sheet::COLUMNS;
 use sheet::Sheet;
@@ -16,7 +17,7 @@ pub struct Cleared {
     pub outcome: u64,
     pub prices: [u64; 4],
     pub totals: [u64; COLUMNS],
-    pub reasons: [u64; 320],
+    pub reasons: [u64; NUMBERS],
     pub bids: [u64; 64],
     pub paid: [u64; 64],
 }
@@ -36,11 +37,11 @@ fn reason(mark: u16, won: bool) -> u64
 }
 
 // The reasons of all bids.
-fn reasons(sheet: &Sheet, of: Size, marks: [u16; 320], won: [bool; 64]) -> [u64; 320]
+fn reasons(sheet: &Sheet, of: Size, marks: [u16; NUMBERS], won: [bool; 64]) -> [u64; NUMBERS]
     requires { ⌜ Ready (now sheet) of ⌝ }
     ensures { λ r. ⌜ r ≡ reasonsOf (now (sheet .entry)) marks won (of .bids) ⌝ }
 {
-    let mut out = [0u64; 320];
+    let mut out = [0u64; NUMBERS];
     let m = of.bids;
     let mut k: usize = 0;
     while k < m {
@@ -52,7 +53,7 @@ fn reasons(sheet: &Sheet, of: Size, marks: [u16; 320], won: [bool; 64]) -> [u64;
 }
 
 // The number of each application's winning bid.
-fn winning(sheet: &Sheet, of: Size, marks: [u16; 320]) -> [u64; 64]
+fn winning(sheet: &Sheet, of: Size, marks: [u16; NUMBERS]) -> [u64; 64]
     requires { ⌜ Ready (now sheet) of ⌝ }
     ensures { λ r. ⌜ r ≡ winningOf (now (sheet .entry)) marks (of .bids) ⌝ }
 {
@@ -77,7 +78,7 @@ fn pay(sheet: &Sheet, of: Size, prices: [u64; 4], w: u64) -> u64
     let k = w as usize;
     if k < of.bids {
         let d = sheet::year(sheet, k);
-        return value::capped(prices[d], sheet::cap(sheet, k));
+        return value::capped(prices[d], sheet::admin(sheet, k));
     }
     0
 }
@@ -103,7 +104,7 @@ fn flat(outcome: u64, totals: [u64; COLUMNS], reason: u64) -> Cleared
         outcome,
         prices: [names::NO_PRICE; 4],
         totals,
-        reasons: [reason; 320],
+        reasons: [reason; NUMBERS],
         bids: [names::NO_BID; 64],
         paid: [0; 64],
     }

@@ -7,7 +7,7 @@ use Rattle.rules.specs.File.{Round, yearAt, techAt, appAt, bidAt}
 use Rattle.rules.specs.Refusals.{orElse, orFault, scan, sevenOf, eightOf, nineOf, bidFault}
 use Rattle.rules.specs.declared.Reading.{Reading}
 use Rattle.rules.specs.declared.Reading.the-variants.{Refused}
-use Rattle.laws.specs.Walk.{refuses, same-rule}
+use Rattle.reading_laws.specs.Walk.{refuses, same-rule}
 use Rattle.bids.specs.Bids.{judgeOf, heldOf, alone}
 
 -- the rule of the numbers that were read is the rule of the bid

@@ -30,10 +30,6 @@ le-drop (suc k) m s at =
     let q : le k (drop m s) (at + 1) ≡ le k s (m + at + 1) = le-drop k m s (at + 1) ∙ ap (λ (x : ℕ). le k s x) p in
     omega (arith, getD-drop m s at 0, q)
 
--- a number that stands within a part is the file's, so much further on
-pub le-part : (k : ℕ) (s : List ℕ) (a e at : ℕ) → at + k ≤ e - a → le k (part s a e) at ≡ le k s (a + at)
-le-part k s a e at h = le-take k (e - a) (drop a s) at h ∙ le-drop k a s at
-
 module _ (s : List ℕ) (a e : ℕ) where
   -- a part that lies within the file is as long as it says
   pub part-length : a ≤ e → e ≤ length s → length (part s a e) ≡ e - a

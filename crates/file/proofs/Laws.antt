@@ -12,9 +12,9 @@ use Rattle.rules.specs.Refusals.{scan, countFault, section, sevenOf, eightOf, n
 use Rattle.rules.specs.declared.Sections.{Sections}
 use Rattle.rules.specs.declared.Reading.{Reading}
 use Rattle.rules.specs.declared.Reading.the-variants.{Accepted, Refused}
-use Rattle.laws.specs.Walk.{given-yes, refuses}
-use Rattle.laws.specs.Reading.{holds, YearRight, year-right, app-right, deliveries-most, counts}
-use Rattle.laws.specs.Fault.{Table, years, pots, techs, apps, bids, tables, says, countIs, recordIs, judges, judgesAll, Right, AllRight, none, also, after, goes, stops, faulty, or-passes, sections-pass, count-right, record-right, ends-within}
+use Rattle.reading_laws.specs.Walk.{given-yes, refuses}
+use Rattle.reading_laws.specs.Reading.{holds, YearRight, year-right, app-right, deliveries-most, counts}
+use Rattle.reading_laws.specs.Fault.{Table, years, pots, techs, apps, bids, tables, says, countIs, recordIs, judges, judgesAll, Right, AllRight, none, also, after, goes, stops, faulty, or-passes, sections-pass, count-right, record-right, ends-within}
 use Rattle.fields.proofs.Le.{part-length}
 use Rattle.records.specs.Records.{yearsOf, potsOf, techsOf, appsOf}
 use Rattle.bids.specs.Bids.{tablesOf, Looked, bidsOf, lowestOf}
@@ -117,7 +117,7 @@ module _ (s : List ℕ) {f : ℕ} (e : f ≡ countFault s 0 1 mostYears) where
 -- what is known of the sections so far
 pub record Facts1 (s : List ℕ) (g : Sections) : Type 0 where
   pub most : g .years ≤ mostYears
-  pub within : g .second ≤ length s
+  pub within : g .«pots_at» ≤ length s
 
 module _ (s : List ℕ) {g : Sections} (h : readYears s ≡ Accepted g) where
   pub facts1 : Facts1 s g
@@ -127,28 +127,28 @@ module _ (s : List ℕ) {g : Sections} (h : readYears s ≡ Accepted g) where
       known-of : AllRight s (toYears (roundOf s)) → Facts1 s (afterYears s)
       known-of (also y none) = let k = years-known s y in record { most = k .0; within = k .1 }
 
-  module _ {f : ℕ} (e : f ≡ countFault s (g .second) 1 mostPots) where
-    pub pots-refused : (f ≡ 0 → ⊥) → Refused f (g .second) ≡ readPots s
+  module _ {f : ℕ} (e : f ≡ countFault s (g .«pots_at») 1 mostPots) where
+    pub pots-refused : (f ≡ 0 → ⊥) → Refused f (g .«pots_at») ≡ readPots s
     unfolding readYears readPots
     pots-refused z =
         let a = goes s (toYears (roundOf s)) (afterYears s) h in
-        next-refused s (a .0) (pots (roundOf s)) (Accepted (afterPots s)) (λ x. x .second) (λ x. potWidth (x .years)) (a .1) refl e z
+        next-refused s (a .0) (pots (roundOf s)) (Accepted (afterPots s)) (λ x. x .«pots_at») (λ x. potWidth (x .years)) (a .1) refl e z
 
-    pub pots-read : f ≡ 0 → {n : ℕ} {l : List ℕ} {r : Reading} → n ≡ le countWidth s (g .second)
-        → l ≡ part s (g .second + countWidth) (g .second + countWidth + n * potWidth (g .years))
-        → r ≡ potsOf l (g .second + countWidth) (withPots g n) → r ≡ readPots s
+    pub pots-read : f ≡ 0 → {n : ℕ} {l : List ℕ} {r : Reading} → n ≡ le countWidth s (g .«pots_at»)
+        → l ≡ part s (g .«pots_at» + countWidth) (g .«pots_at» + countWidth + n * potWidth (g .years))
+        → r ≡ potsOf l (g .«pots_at» + countWidth) (withPots g n) → r ≡ readPots s
     unfolding readYears readPots potsOf roundOf sections
     pots-read z p q r =
         let a = goes s (toYears (roundOf s)) (afterYears s) h in
-        next-read s (a .0) (pots (roundOf s)) (Accepted (afterPots s)) (λ x. x .second) (λ x. potWidth (x .years)) (a .1) refl e
-        (λ x n l. potsOf l (x .second + countWidth) (withPots x n)) refl z p q r
+        next-read s (a .0) (pots (roundOf s)) (Accepted (afterPots s)) (λ x. x .«pots_at») (λ x. potWidth (x .years)) (a .1) refl e
+        (λ x n l. potsOf l (x .«pots_at» + countWidth) (withPots x n)) refl z p q r
 
 -- ---- the technologies, after the pots
 
 -- what is known of the sections so far
 pub record Facts2 (s : List ℕ) (g : Sections) : Type 0 where
   pub most : g .years ≤ mostYears
-  pub within : g .third ≤ length s
+  pub within : g .«technologies_at» ≤ length s
 
 module _ (s : List ℕ) {g : Sections} (h : readPots s ≡ Accepted g) where
   pub facts2 : Facts2 s g
@@ -158,30 +158,30 @@ module _ (s : List ℕ) {g : Sections} (h : readPots s ≡ Accepted g) where
       known-of : AllRight s (toPots (roundOf s)) → Facts2 s (afterPots s)
       known-of (also y (also p none)) = record { most = years-known s y .0; within = pots-known s p .1 }
 
-  module _ {f : ℕ} (e : f ≡ countFault s (g .third) 1 mostTechs) where
-    pub techs-refused : (f ≡ 0 → ⊥) → Refused f (g .third) ≡ readTechs s
+  module _ {f : ℕ} (e : f ≡ countFault s (g .«technologies_at») 1 mostTechs) where
+    pub techs-refused : (f ≡ 0 → ⊥) → Refused f (g .«technologies_at») ≡ readTechs s
     unfolding readPots readTechs
     techs-refused z =
         let a = goes s (toPots (roundOf s)) (afterPots s) h in
-        next-refused s (a .0) (techs (roundOf s)) (Accepted (afterTechs s)) (λ x. x .third) (λ x. techWidth (x .years)) (a .1) refl e z
+        next-refused s (a .0) (techs (roundOf s)) (Accepted (afterTechs s)) (λ x. x .«technologies_at») (λ x. techWidth (x .years)) (a .1) refl e z
 
-    pub techs-read : f ≡ 0 → {n : ℕ} {l : List ℕ} {r : Reading} → n ≡ le countWidth s (g .third)
-        → l ≡ part s (g .third + countWidth) (g .third + countWidth + n * techWidth (g .years))
-        → r ≡ techsOf l (g .third + countWidth) (withTechs g n) → r ≡ readTechs s
+    pub techs-read : f ≡ 0 → {n : ℕ} {l : List ℕ} {r : Reading} → n ≡ le countWidth s (g .«technologies_at»)
+        → l ≡ part s (g .«technologies_at» + countWidth) (g .«technologies_at» + countWidth + n * techWidth (g .years))
+        → r ≡ techsOf l (g .«technologies_at» + countWidth) (withTechs g n) → r ≡ readTechs s
     unfolding readPots readTechs techsOf roundOf sections
     techs-read z p q r =
         let a = goes s (toPots (roundOf s)) (afterPots s) h in
-        next-read s (a .0) (techs (roundOf s)) (Accepted (afterTechs s)) (λ x. x .third) (λ x. techWidth (x .years)) (a .1) refl e
-        (λ x n l. techsOf l (x .third + countWidth) (withTechs x n)) refl z p q r
+        next-read s (a .0) (techs (roundOf s)) (Accepted (afterTechs s)) (λ x. x .«technologies_at») (λ x. techWidth (x .years)) (a .1) refl e
+        (λ x n l. techsOf l (x .«technologies_at» + countWidth) (withTechs x n)) refl z p q r
 
 -- ---- the applications, after the technologies
 
 -- what is known of the sections so far
 pub record Facts3 (s : List ℕ) (g : Sections) : Type 0 where
-  pub days : g .deliveries * yearWidth ≤ length (part s countWidth (g .second))
-  pub starts : countWidth ≤ g .second
-  pub ended : g .second ≤ length s
-  pub within : g .fourth ≤ length s
+  pub days : g .deliveries * yearWidth ≤ length (part s countWidth (g .«pots_at»))
+  pub starts : countWidth ≤ g .«pots_at»
+  pub ended : g .«pots_at» ≤ length s
+  pub within : g .«applications_at» ≤ length s
 
 -- the years' part is as long as the years
 years-long : (s : List ℕ) → Right s (years (roundOf s)) → roundOf s .y * yearWidth ≤ length (part s countWidth (potsAt (roundOf s .y)))
@@ -200,36 +200,36 @@ module _ (s : List ℕ) {g : Sections} (h : readTechs s ≡ Accepted g) where
         within = techs-known s t .1;
       }
 
-  module _ {f : ℕ} (e : f ≡ countFault s (g .fourth) 0 mostApps) where
-    pub apps-refused : (f ≡ 0 → ⊥) → Refused f (g .fourth) ≡ readApps s
+  module _ {f : ℕ} (e : f ≡ countFault s (g .«applications_at») 0 mostApps) where
+    pub apps-refused : (f ≡ 0 → ⊥) → Refused f (g .«applications_at») ≡ readApps s
     unfolding readTechs readApps
     apps-refused z =
         let a = goes s (toTechs (roundOf s)) (afterTechs s) h in
-        next-refused s (a .0) (apps (roundOf s)) (Accepted (afterApps s)) (λ x. x .fourth) (λ x. appWidth) (a .1) refl e z
+        next-refused s (a .0) (apps (roundOf s)) (Accepted (afterApps s)) (λ x. x .«applications_at») (λ x. appWidth) (a .1) refl e z
 
-    pub apps-read : f ≡ 0 → {n : ℕ} {years l : List ℕ} {r : Reading} → n ≡ le countWidth s (g .fourth)
-        → years ≡ part s countWidth (g .second)
-        → l ≡ part s (g .fourth + countWidth) (g .fourth + countWidth + n * appWidth)
-        → r ≡ appsOf years l (g .fourth + countWidth) (withApps g n) → r ≡ readApps s
+    pub apps-read : f ≡ 0 → {n : ℕ} {years l : List ℕ} {r : Reading} → n ≡ le countWidth s (g .«applications_at»)
+        → years ≡ part s countWidth (g .«pots_at»)
+        → l ≡ part s (g .«applications_at» + countWidth) (g .«applications_at» + countWidth + n * appWidth)
+        → r ≡ appsOf years l (g .«applications_at» + countWidth) (withApps g n) → r ≡ readApps s
     unfolding readTechs readApps appsOf roundOf sections
     apps-read z {n} {l = l} p y q r =
         let a = goes s (toTechs (roundOf s)) (afterTechs s) h in
-        next-read s (a .0) (apps (roundOf s)) (Accepted (afterApps s)) (λ x. x .fourth) (λ x. appWidth) (a .1) refl e
-        (λ x n l. appsOf (part s countWidth (x .second)) l (x .fourth + countWidth) (withApps x n)) refl z p q
-        (r ∙ ap (λ (x : List ℕ). appsOf x l (g .fourth + countWidth) (withApps g n)) y)
+        next-read s (a .0) (apps (roundOf s)) (Accepted (afterApps s)) (λ x. x .«applications_at») (λ x. appWidth) (a .1) refl e
+        (λ x n l. appsOf (part s countWidth (x .«pots_at»)) l (x .«applications_at» + countWidth) (withApps x n)) refl z p q
+        (r ∙ ap (λ (x : List ℕ). appsOf x l (g .«applications_at» + countWidth) (withApps g n)) y)
 
 -- ---- the bids, after the applications
 
 -- what is known of the sections so far
 pub record Facts4 (s : List ℕ) (g : Sections) : Type 0 where
-  pub starts : countWidth ≤ g .second
-  pub ended : g .second ≤ length s
-  pub techs-start : g .third + countWidth ≤ g .fourth
-  pub techs-end : g .fourth ≤ length s
-  pub apps-start : g .fourth + countWidth ≤ g .fifth
-  pub within : g .fifth ≤ length s
+  pub starts : countWidth ≤ g .«pots_at»
+  pub ended : g .«pots_at» ≤ length s
+  pub techs-start : g .«technologies_at» + countWidth ≤ g .«applications_at»
+  pub techs-end : g .«applications_at» ≤ length s
+  pub apps-start : g .«applications_at» + countWidth ≤ g .«bids_at»
+  pub within : g .«bids_at» ≤ length s
   pub looked : (recs : List ℕ) (n : ℕ)
-      → Looked (tablesOf (part s countWidth (g .second)) (part s (g .third + countWidth) (g .fourth)) (part s (g .fourth + countWidth) (g .fifth)) recs (withBids g n))
+      → Looked (tablesOf (part s countWidth (g .«pots_at»)) (part s (g .«technologies_at» + countWidth) (g .«applications_at»)) (part s (g .«applications_at» + countWidth) (g .«bids_at»)) recs (withBids g n))
 
 module _ (s : List ℕ) where
   techs-long : Right s (techs (roundOf s))
@@ -276,33 +276,33 @@ module _ (s : List ℕ) {g : Sections} (h : readApps s ≡ Accepted g) where
 
   -- the bids are held to the parts that were handed on
   pub looks : {years techs apps : List ℕ} (recs : List ℕ) (n : ℕ)
-      → years ≡ part s countWidth (g .second) → techs ≡ part s (g .third + countWidth) (g .fourth) → apps ≡ part s (g .fourth + countWidth) (g .fifth)
+      → years ≡ part s countWidth (g .«pots_at») → techs ≡ part s (g .«technologies_at» + countWidth) (g .«applications_at») → apps ≡ part s (g .«applications_at» + countWidth) (g .«bids_at»)
       → Looked (tablesOf years techs apps recs (withBids g n))
   looks recs n y t m = rw (y, t, m) (facts4 .looked recs n)
 
-  module _ {f : ℕ} (e : f ≡ countFault s (g .fifth) 0 mostBids) where
-    pub bids-refused : (f ≡ 0 → ⊥) → Refused f (g .fifth) ≡ readBids s
+  module _ {f : ℕ} (e : f ≡ countFault s (g .«bids_at») 0 mostBids) where
+    pub bids-refused : (f ≡ 0 → ⊥) → Refused f (g .«bids_at») ≡ readBids s
     unfolding readApps readBids
     bids-refused z =
         let a = goes s (toApps (roundOf s)) (afterApps s) h in
-        next-refused s (a .0) (bids (roundOf s)) (Accepted (sectionsOf (roundOf s))) (λ x. x .fifth) (λ x. bidWidth) (a .1) refl e z
+        next-refused s (a .0) (bids (roundOf s)) (Accepted (sectionsOf (roundOf s))) (λ x. x .«bids_at») (λ x. bidWidth) (a .1) refl e z
 
-    pub bids-read : f ≡ 0 → {n : ℕ} {years techs apps l : List ℕ} {r : Reading} → n ≡ le countWidth s (g .fifth)
-        → years ≡ part s countWidth (g .second) → techs ≡ part s (g .third + countWidth) (g .fourth) → apps ≡ part s (g .fourth + countWidth) (g .fifth)
-        → l ≡ part s (g .fifth + countWidth) (g .fifth + countWidth + n * bidWidth)
-        → r ≡ bidsOf years techs apps l (g .fifth + countWidth) (withBids g n) → r ≡ readBids s
+    pub bids-read : f ≡ 0 → {n : ℕ} {years techs apps l : List ℕ} {r : Reading} → n ≡ le countWidth s (g .«bids_at»)
+        → years ≡ part s countWidth (g .«pots_at») → techs ≡ part s (g .«technologies_at» + countWidth) (g .«applications_at») → apps ≡ part s (g .«applications_at» + countWidth) (g .«bids_at»)
+        → l ≡ part s (g .«bids_at» + countWidth) (g .«bids_at» + countWidth + n * bidWidth)
+        → r ≡ bidsOf years techs apps l (g .«bids_at» + countWidth) (withBids g n) → r ≡ readBids s
     unfolding readApps readBids bidsOf bidFault sevenOf eightOf nineOf sectionsOf roundOf sections
     bids-read z {n} {l = l} p y t m q r =
         let a = goes s (toApps (roundOf s)) (afterApps s) h in
-        next-read s (a .0) (bids (roundOf s)) (Accepted (sectionsOf (roundOf s))) (λ x. x .fifth) (λ x. bidWidth) (a .1) refl e
-        (λ x n l. bidsOf (part s countWidth (x .second)) (part s (x .third + countWidth) (x .fourth)) (part s (x .fourth + countWidth) (x .fifth)) l (x .fifth + countWidth) (withBids x n)) refl z p q
-        (r ∙ (λ j. bidsOf (y j) (t j) (m j) l (g .fifth + countWidth) (withBids g n)))
+        next-read s (a .0) (bids (roundOf s)) (Accepted (sectionsOf (roundOf s))) (λ x. x .«bids_at») (λ x. bidWidth) (a .1) refl e
+        (λ x n l. bidsOf (part s countWidth (x .«pots_at»)) (part s (x .«technologies_at» + countWidth) (x .«applications_at»)) (part s (x .«applications_at» + countWidth) (x .«bids_at»)) l (x .«bids_at» + countWidth) (withBids x n)) refl z p q
+        (r ∙ (λ j. bidsOf (y j) (t j) (m j) l (g .«bids_at» + countWidth) (withBids g n)))
 
 -- ---- after the last section
 
 pub record Facts5 (s : List ℕ) (g : Sections) : Type 0 where
   pub few : g .bids ≤ mostBids
-  pub within : g .fifth + countWidth + g .bids * bidWidth ≤ length s
+  pub within : g .«bids_at» + countWidth + g .bids * bidWidth ≤ length s
 
 module _ (s : List ℕ) {g : Sections} (h : readBids s ≡ Accepted g) where
   pub facts5 : Facts5 s g
@@ -313,24 +313,24 @@ module _ (s : List ℕ) {g : Sections} (h : readBids s ≡ Accepted g) where
       known-of (also y (also p (also t (also n (also b none))))) = let k = bids-known s b in record { few = k .0; within = k .1 }
 
   -- 10: there are bytes after the last record
-  pub bytes-after : g .fifth + countWidth + g .bids * bidWidth < length s → Refused bytesAfter (g .fifth + countWidth + g .bids * bidWidth) ≡ reading s
+  pub bytes-after : g .«bids_at» + countWidth + g .bids * bidWidth < length s → Refused bytesAfter (g .«bids_at» + countWidth + g .bids * bidWidth) ≡ reading s
   unfolding readBids sectionsOf
   bytes-after l =
       let a = goes s (tables (roundOf s)) (sectionsOf (roundOf s)) h in
-      let e = ap (λ (x : Sections). x .fifth + countWidth + x .bids * bidWidth) (a .1) in
+      let e = ap (λ (x : Sections). x .«bids_at» + countWidth + x .bids * bidWidth) (a .1) in
       sym (faulty s (after (a .0) (omega arith) refl e))
 
   -- 11: there are none, and the lowest bids are asked
-  pub lowest-read : {l : List ℕ} {r : Reading} → length s ≤ g .fifth + countWidth + g .bids * bidWidth → l ≡ part s (g .fifth + countWidth) (g .fifth + countWidth + g .bids * bidWidth)
-      → r ≡ lowestOf l (g .fifth + countWidth) g → r ≡ reading s
+  pub lowest-read : {l : List ℕ} {r : Reading} → length s ≤ g .«bids_at» + countWidth + g .bids * bidWidth → l ≡ part s (g .«bids_at» + countWidth) (g .«bids_at» + countWidth + g .bids * bidWidth)
+      → r ≡ lowestOf l (g .«bids_at» + countWidth) g → r ≡ reading s
   unfolding readBids reading judged lowestOf elevenOf roundOf sections sectionsOf
   lowest-read l q r =
       let a = goes s (tables (roundOf s)) (sectionsOf (roundOf s)) h in
       let i = a .1 in
-      let e = ap (λ (x : Sections). x .fifth + countWidth + x .bids * bidWidth) i in
+      let e = ap (λ (x : Sections). x .«bids_at» + countWidth + x .bids * bidWidth) i in
       r
-      ∙ ap (λ (x : List ℕ). lowestOf x (g .fifth + countWidth) g) q
-      ∙ (λ j. lowestOf (part s (i j .fifth + countWidth) (i j .fifth + countWidth + i j .bids * bidWidth)) (i j .fifth + countWidth) (i j))
+      ∙ ap (λ (x : List ℕ). lowestOf x (g .«bids_at» + countWidth) g) q
+      ∙ (λ j. lowestOf (part s (i j .«bids_at» + countWidth) (i j .«bids_at» + countWidth + i j .bids * bidWidth)) (i j .«bids_at» + countWidth) (i j))
       ∙ sym (or-passes _ _ _ (given-yes _ _ _ (omega arith)))
       ∙ sym (sections-pass s _ (a .0))
 

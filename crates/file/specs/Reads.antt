@@ -6,7 +6,7 @@ use Rattle.rules.specs.File.{Round, roundOf, sectionsOf}
 use Rattle.rules.specs.declared.Sections.{Sections}
 use Rattle.rules.specs.declared.Reading.{Reading}
 use Rattle.rules.specs.declared.Reading.the-variants.{Accepted}
-use Rattle.laws.specs.Fault.{Table, judgesAll, years, pots, techs, apps, tables}
+use Rattle.reading_laws.specs.Fault.{Table, judgesAll, years, pots, techs, apps, tables}
 use Rattle.records.specs.Records.{withYears}
 
 -- ---- the sections so far, each with its own count and the place of the next one's
@@ -19,10 +19,10 @@ withPots g n = record {
   technologies = 0;
   applications = 0;
   bids = 0;
-  second = g .second;
-  third = g .second + countWidth + n * potWidth (g .years);
-  fourth = 0;
-  fifth = 0;
+  «pots_at» = g .«pots_at»;
+  «technologies_at» = g .«pots_at» + countWidth + n * potWidth (g .years);
+  «applications_at» = 0;
+  «bids_at» = 0;
 }
 
 abbrev pub withTechs : Sections → ℕ → Sections
@@ -33,10 +33,10 @@ withTechs g n = record {
   technologies = n;
   applications = 0;
   bids = 0;
-  second = g .second;
-  third = g .third;
-  fourth = g .third + countWidth + n * techWidth (g .years);
-  fifth = 0;
+  «pots_at» = g .«pots_at»;
+  «technologies_at» = g .«technologies_at»;
+  «applications_at» = g .«technologies_at» + countWidth + n * techWidth (g .years);
+  «bids_at» = 0;
 }
 
 abbrev pub withApps : Sections → ℕ → Sections
@@ -47,10 +47,10 @@ withApps g n = record {
   technologies = g .technologies;
   applications = n;
   bids = 0;
-  second = g .second;
-  third = g .third;
-  fourth = g .fourth;
-  fifth = g .fourth + countWidth + n * appWidth;
+  «pots_at» = g .«pots_at»;
+  «technologies_at» = g .«technologies_at»;
+  «applications_at» = g .«applications_at»;
+  «bids_at» = g .«applications_at» + countWidth + n * appWidth;
 }
 
 abbrev pub withBids : Sections → ℕ → Sections
@@ -61,10 +61,10 @@ withBids g n = record {
   technologies = g .technologies;
   applications = g .applications;
   bids = n;
-  second = g .second;
-  third = g .third;
-  fourth = g .fourth;
-  fifth = g .fifth;
+  «pots_at» = g .«pots_at»;
+  «technologies_at» = g .«technologies_at»;
+  «applications_at» = g .«applications_at»;
+  «bids_at» = g .«bids_at»;
 }
 
 -- ---- the reading of the first sections: the first fault in them, or the sections so far

@@ -15,7 +15,7 @@ fn ending(file: &[u8], done: Sections) -> Reading
     requires { ⌜ readBids (now file) ≡ Accepted done ⌝ }
     ensures { λ r. ⌜ r ≡ reading (now (file .entry)) ⌝ }
 {
-    let at = done.fifth;
+    let at = done.bids_at;
     let start = at + names::COUNT_WIDTH;
     let end = start + done.bids * names::BID_WIDTH;
     if reader::left_at(file, end) > 0 {
@@ -31,25 +31,25 @@ fn ending(file: &[u8], done: Sections) -> Reading
 pub fn read(file: &[u8]) -> Reading
     ensures { λ r. ⌜ r ≡ reading (now (file .entry)) ⌝ }
 {
-    let first = section::read_years(file);
-    let Reading::Accepted { sections } = first else {
-        return first;
+    let years = section::read_years(file);
+    let Reading::Accepted { sections } = years else {
+        return years;
     };
-    let second = section::read_pots(file, sections);
-    let Reading::Accepted { sections } = second else {
-        return second;
+    let pots = section::read_pots(file, sections);
+    let Reading::Accepted { sections } = pots else {
+        return pots;
     };
-    let third = section::read_technologies(file, sections);
-    let Reading::Accepted { sections } = third else {
-        return third;
+    let technologies = section::read_technologies(file, sections);
+    let Reading::Accepted { sections } = technologies else {
+        return technologies;
     };
-    let fourth = section::read_applications(file, sections);
-    let Reading::Accepted { sections } = fourth else {
-        return fourth;
+    let applications = section::read_applications(file, sections);
+    let Reading::Accepted { sections } = applications else {
+        return applications;
     };
-    let fifth = section::read_bids(file, sections);
-    let Reading::Accepted { sections } = fifth else {
-        return fifth;
+    let bids = section::read_bids(file, sections);
+    let Reading::Accepted { sections } = bids else {
+        return bids;
     };
     ending(file, sections)
 }

@@ -30,7 +30,7 @@ pub fn read_pots(file: &[u8], past: Sections) -> Reading
     requires { ⌜ readYears (now file) ≡ Accepted past ⌝ }
     ensures { λ r. ⌜ r ≡ readPots (now (file .entry)) ⌝ }
 {
-    let at = past.second;
+    let at = past.pots_at;
     let f = count_fault(file, at, 1, names::MOST_POTS);
     if f != 0 {
         return Reading::Refused { number: f, at };
@@ -46,10 +46,10 @@ pub fn read_pots(file: &[u8], past: Sections) -> Reading
         technologies: 0,
         applications: 0,
         bids: 0,
-        second: at,
-        third: next,
-        fourth: 0,
-        fifth: 0,
+        pots_at: at,
+        technologies_at: next,
+        applications_at: 0,
+        bids_at: 0,
     };
     pots(records_after(file, at, next), start, done)
 }
@@ -59,7 +59,7 @@ pub fn read_technologies(file: &[u8], past: Sections) -> Reading
     requires { ⌜ readPots (now file) ≡ Accepted past ⌝ }
     ensures { λ r. ⌜ r ≡ readTechs (now (file .entry)) ⌝ }
 {
-    let at = past.third;
+    let at = past.technologies_at;
     let f = count_fault(file, at, 1, names::MOST_TECHS);
     if f != 0 {
         return Reading::Refused { number: f, at };
@@ -75,10 +75,10 @@ pub fn read_technologies(file: &[u8], past: Sections) -> Reading
         technologies: n,
         applications: 0,
         bids: 0,
-        second: past.second,
-        third: at,
-        fourth: next,
-        fifth: 0,
+        pots_at: past.pots_at,
+        technologies_at: at,
+        applications_at: next,
+        bids_at: 0,
     };
     technologies(records_after(file, at, next), start, done)
 }
@@ -88,7 +88,7 @@ pub fn read_applications(file: &[u8], past: Sections) -> Reading
     requires { ⌜ readTechs (now file) ≡ Accepted past ⌝ }
     ensures { λ r. ⌜ r ≡ readApps (now (file .entry)) ⌝ }
 {
-    let at = past.fourth;
+    let at = past.applications_at;
     let f = count_fault(file, at, 0, names::MOST_APPS);
     if f != 0 {
         return Reading::Refused { number: f, at };
@@ -96,7 +96,7 @@ pub fn read_applications(file: &[u8], past: Sections) -> Reading
     let n = count_at(file, at) as usize;
     let start = at + names::COUNT_WIDTH;
     let next = start + n * names::APP_WIDTH;
-    let second = past.second;
+    let pots_at = past.pots_at;
     let done = Sections {
         years: past.years,
         deliveries: past.deliveries,
@@ -104,13 +104,13 @@ pub fn read_applications(file: &[u8], past: Sections) -> Reading
         technologies: past.technologies,
         applications: n,
         bids: 0,
-        second,
-        third: past.third,
-        fourth: at,
-        fifth: next,
+        pots_at,
+        technologies_at: past.technologies_at,
+        applications_at: at,
+        bids_at: next,
     };
     applications(
-        records_after(file, 0, second),
+        records_after(file, 0, pots_at),
         records_after(file, at, next),
         start,
         done,
@@ -122,7 +122,7 @@ pub fn read_bids(file: &[u8], past: Sections) -> Reading
     requires { ⌜ readApps (now file) ≡ Accepted past ⌝ }
     ensures { λ r. ⌜ r ≡ readBids (now (file .entry)) ⌝ }
 {
-    let at = past.fifth;
+    let at = past.bids_at;
     let f = count_fault(file, at, 0, names::MOST_BIDS);
     if f != 0 {
         return Reading::Refused { number: f, at };
@@ -130,9 +130,9 @@ pub fn read_bids(file: &[u8], past: Sections) -> Reading
     let n = count_at(file, at) as usize;
     let start = at + names::COUNT_WIDTH;
     let next = start + n * names::BID_WIDTH;
-    let second = past.second;
-    let third = past.third;
-    let fourth = past.fourth;
+    let pots_at = past.pots_at;
+    let technologies_at = past.technologies_at;
+    let applications_at = past.applications_at;
     let done = Sections {
         years: past.years,
         deliveries: past.deliveries,
@@ -140,15 +140,15 @@ pub fn read_bids(file: &[u8], past: Sections) -> Reading
         technologies: past.technologies,
         applications: past.applications,
         bids: n,
-        second,
-        third,
-        fourth,
-        fifth: at,
+        pots_at,
+        technologies_at,
+        applications_at,
+        bids_at: at,
     };
     bids::bids(
-        records_after(file, 0, second),
-        records_after(file, third, fourth),
-        records_after(file, fourth, at),
+        records_after(file, 0, pots_at),
+        records_after(file, technologies_at, applications_at),
+        records_after(file, applications_at, at),
         records_after(file, at, next),
         start,
         done,

@@ -10,17 +10,17 @@ use lib.ListN.{length, getD, set, take, drop, length-set, getD-replicate}
 use lib.Seq.{getD-drop, getD-set-same, getD-set-other}
 use lib.Dec.{eqb}
 use borrow.Author.Tests.{eqb-true, eqb-false, eq-eqb, ne-eqb}
-use Rattle.rules.specs.Names.{mostYears, mostPots, potWidth}
+use Rattle.rules.specs.Names.{mostYears, mostPots, potWidth, mostNumbers}
 use Rattle.rules.specs.Lists.{pick, sift, below}
 use Rattle.rules.specs.Bytes.{le, part}
 use Rattle.rules.specs.File.{Round, Bid, appAt, budgetAt}
 use Rattle.rules.specs.Round.{mine, enters}
-use Rattle.laws.specs.Lists.{case}
-use Rattle.laws.specs.Reading.{Sound}
-use Rattle.sheet.specs.Sheet.{absent, entered, spare, rowStanding, entrantAt, entrants, inAuction}
+use Rattle.pot_laws.specs.Lists.{case}
+use Rattle.reading_laws.specs.Reading.{Sound}
+use Rattle.sheet.specs.Sheet.{absent, entered, spare, rowStanding, entrantAt, entrants, inAuction, rowPlace, figurePlace, figuresPlace, sheetLength, figuresAt}
 use Rattle.rows.specs.Rows.{numbered, standingOf, rowNumbers, figureNumbers, figuresIn}
 use Rattle.rows.proofs.Laws.{read-at, figure-blank, figure-own}
-use Rattle.fill.specs.Fill.{mostNumbers, BlankFigures, Stands, Kept, Rest, Put, Figured, RowsRight, FiguresRight, AllFigures, LimitsRight, FiguresOf, FiguresWritten, Entered}
+use Rattle.fill.specs.Fill.{BlankFigures, Stands, Kept, Rest, Put, Figured, RowsRight, FiguresRight, AllFigures, LimitsRight, FiguresOf, FiguresWritten, Entered}
 
 -- ---- the record of a pot
 
@@ -79,25 +79,25 @@ put-stands : {v w : List ℕ} (at : ℕ) {s t : List ℕ} → v ≡ w → Put v 
 put-stands at {t = t} e p = subst (λ (w : List ℕ). Stands w t at) e (p .inside)
 
 module _ (R : Round) (p k : ℕ) {v : List ℕ} where
-  pub rows-more : {s t : List ℕ} → RowsRight R p k s → v ≡ rowNumbers R p k → Put v (length v) (8008 + k * 6) s t → RowsRight R p (k + 1) t
+  pub rows-more : {s t : List ℕ} → RowsRight R p k s → v ≡ rowNumbers R p k → Put v (length v) (rowPlace k) s t → RowsRight R p (k + 1) t
   unfolding rowNumbers
   rows-more {s} {t} f e q =
-      and-next (λ k. Stands (rowNumbers R p k) t (8008 + k * 6)) k
-      (λ j l. stays s t (rowNumbers R p j) (8008 + k * 6) (8008 + j * 6) (f j l) (q .kept) (omega arith))
-      (put-stands (8008 + k * 6) e q)
+      and-next (λ k. Stands (rowNumbers R p k) t (rowPlace k)) k
+      (λ j l. stays s t (rowNumbers R p j) (rowPlace k) (rowPlace j) (f j l) (q .kept) (omega arith))
+      (put-stands (rowPlace k) e q)
 
 pub figures-more : (years techs : List ℕ) (y t : ℕ) (x : Bid) (k i : ℕ) {v s u : List ℕ} → Figured years techs y t x k i s → v ≡ figuresIn years techs y t x i
-    → Put v (length v) (328 + k * 24 + i * 3) s u → Figured years techs y t x k (i + 1) u
+    → Put v (length v) (figurePlace k i) s u → Figured years techs y t x k (i + 1) u
 unfolding figuresIn
 figures-more years techs y t x k i {v} {s} {u} f e q =
-    and-next (λ i. Stands (figuresIn years techs y t x i) u (328 + k * 24 + i * 3)) i
-    (λ j l. stays s u (figuresIn years techs y t x j) (328 + k * 24 + i * 3) (328 + k * 24 + j * 3) (f j l) (q .kept) (omega arith))
-    (put-stands (328 + k * 24 + i * 3) e q)
+    and-next (λ i. Stands (figuresIn years techs y t x i) u (figurePlace k i)) i
+    (λ j l. stays s u (figuresIn years techs y t x j) (figurePlace k i) (figurePlace k j) (f j l) (q .kept) (omega arith))
+    (put-stands (figurePlace k i) e q)
 
 -- those of a bid of the pot are right
 pub figures-own : (R : Round) (p k : ℕ) {x : Bid} {t : ℕ} (s : List ℕ) → mine R p k ≡ true → x ≡ numbered (R .techs) (R .apps) (R .bids) (R .y) (R .b) k
     → t ≡ appAt (R .apps) (x .app) .tech → Figured (R .years) (R .techs) (R .y) t x k (R .y) s → FiguresRight R p k (R .y) s
-figures-own R p k s m en et f i l = subst (λ (v : List ℕ). Stands v s (328 + k * 24 + i * 3)) (figure-own R p k (sym m) refl en et i l refl) (f i l)
+figures-own R p k s m en et f i l = subst (λ (v : List ℕ). Stands v s (figurePlace k i)) (figure-own R p k (sym m) refl en et i l refl) (f i l)
 
 pub limits-more : (y : ℕ) (pots : List ℕ) (p i : ℕ) (s : List ℕ) {x : ℕ} → i < length s → LimitsRight y pots p i s → x ≡ budgetAt y pots p i → LimitsRight y pots p (i + 1) (set s i x)
 limits-more y pots p i s {x} h f e =
@@ -128,10 +128,10 @@ missing true false e = absurd (omega arith)
 missing false enter e = refl
 
 -- whether bid k is of the pot, by its standing in a sheet t that has the rows of s
-module _ (R : Round) (p k : ℕ) (s t : List ℕ) {q : ℕ} (h : k < mostNumbers) (f : RowsRight R p mostNumbers s) (same : Rest (8008 + k * 6) s t) (e : q ≡ rowStanding t k) where
+module _ (R : Round) (p k : ℕ) (s t : List ℕ) {q : ℕ} (h : k < mostNumbers) (f : RowsRight R p mostNumbers s) (same : Rest (rowPlace k) s t) (e : q ≡ rowStanding t k) where
   standing-at : q ≡ standingOf R p k
   unfolding rowStanding rowNumbers
-  standing-at = e ∙ same (8008 + k * 6) (omega arith) ∙ ap (λ (i : ℕ). getD s i 0) (sym (add-zero (8008 + k * 6))) ∙ f k h 0 (omega arith)
+  standing-at = e ∙ same (rowPlace k) (omega arith) ∙ ap (λ (i : ℕ). getD s i 0) (sym (add-zero (rowPlace k))) ∙ f k h 0 (omega arith)
 
   pub of-pot : (q ≡ 0 → ⊥) → mine R p k ≡ true
   unfolding standingOf
@@ -146,7 +146,7 @@ module _ (R : Round) (p k : ℕ) (s t : List ℕ) {q : ℕ} (h : k < mostNumbers
 -- in t the figures of the first k bids are right, and what comes after them is as in s
 pub record Done (R : Round) (p k : ℕ) (s t : List ℕ) : Type 0 where
   pub right : AllFigures R p k t
-  pub rest : Rest (328 + k * 24) s t
+  pub rest : Rest (figuresPlace k) s t
 
 -- none yet
 pub done-none : (R : Round) (p : ℕ) (s : List ℕ) → Done R p 0 s s
@@ -158,7 +158,7 @@ module _ (R : Round) (p k : ℕ) {s t : List ℕ} (d : Done R p k s t) where
   unfolding figureNumbers
   done-own {u} e h f = subst (Done R p (k + 1) s) (sym e) record {
     right = and-next (λ k. FiguresRight R p k (R .y) u) k
-        (λ j q i m. stays t u (figureNumbers R p j i) (328 + k * 24) (328 + j * 24 + i * 3) (d .right j q i m) (f .kept) (omega arith)) (f .right);
+        (λ j q i m. stays t u (figureNumbers R p j i) (figuresPlace k) (figurePlace j i) (d .right j q i m) (f .kept) (omega arith)) (f .right);
     rest = λ j q. f .rest j (omega arith) ∙ d .rest j (omega arith);
   }
 
@@ -167,7 +167,7 @@ module _ (R : Round) (p k : ℕ) {s t : List ℕ} (d : Done R p k s t) where
   unfolding figureNumbers
   done-other e n y b m = subst (Done R p (k + 1) s) (sym e) record {
     right = and-next (λ k. FiguresRight R p k (R .y) t) k (d .right)
-        (λ i l j h. d .rest (328 + k * 24 + i * 3 + j) (omega arith) ∙ b (328 + k * 24 + i * 3 + j) (omega arith) ∙ sym (getD-replicate 3 j 0 0 h)
+        (λ i l j h. d .rest (figurePlace k i + j) (omega arith) ∙ b (figurePlace k i + j) (omega arith) ∙ sym (getD-replicate 3 j 0 0 h)
         ∙ ap (λ (v : List ℕ). getD v j 0) (figure-blank R p k (sym m) i refl));
     rest = λ j q. d .rest j (omega arith);
   }
@@ -186,19 +186,19 @@ entrants-set s zero i x h = refl
 entrants-set s (suc n) i x h = rw (getD-set-other s i (8 + n) x 0 (λ e. let z : ⊥ = omega arith in z), entrants-set s n i x (omega arith))
 
 -- a row of t is that of s
-row-same : (s t : List ℕ) (k : ℕ) → Rest 328 s t → rowStanding t k ≡ rowStanding s k
+row-same : (s t : List ℕ) (k : ℕ) → Rest figuresAt s t → rowStanding t k ≡ rowStanding s k
 unfolding rowStanding
-row-same s t k f = f (8008 + k * 6) (omega arith)
+row-same s t k f = f (rowPlace k) (omega arith)
 
 -- so far: the first k bids were looked at, and n of them enter
 pub record Entering (s : List ℕ) (k n : ℕ) (t : List ℕ) : Type 0 where
   pub few : n ≤ k
   pub right : entrants t n ≡ sift (inAuction s) (below k)
   pub kept : Kept 8 s t
-  pub rest : Rest 328 s t
-  pub same : length t ≡ 9928
+  pub rest : Rest figuresAt s t
+  pub same : length t ≡ sheetLength
 
-pub entering-none : (s : List ℕ) → length s ≡ 9928 → Entering s 0 0 s
+pub entering-none : (s : List ℕ) → length s ≡ sheetLength → Entering s 0 0 s
 unfolding entrants
 entering-none s h = record { few = omega arith; right = refl; kept = λ j l. refl; rest = λ j l. refl; same = h }
 
@@ -208,7 +208,7 @@ module _ (s : List ℕ) (k n : ℕ) {t : List ℕ} (E : Entering s k n t) {q : �
     few = omega (arith, E .few);
     right = rw (add-one n, add-one k, eq-eqb (rowStanding s k) 1 (sym (row-same s t k (E .rest)) ∙ sym e ∙ z)) listed;
     kept = kept-set 8 (8 + n) s t k (omega arith) (E .kept);
-    rest = rest-set 328 (8 + n) s t k (omega (arith, E .few)) (E .rest);
+    rest = rest-set figuresAt (8 + n) s t k (omega (arith, E .few)) (E .rest);
     same = length-set t (8 + n) k ∙ E .same;
   })
     where

@@ -8,21 +8,21 @@ use native.Mathlib.Nat.{add-zero, zero-mul, mul-zero}
 use lib.ListN.{length, getD, List·getD-eq-default, getD-replicate}
 use lib.Dec.{eqb, ltb}
 use borrow.Author.Tests.{lt-ltb, ltb-true, ltb-false}
-use Rattle.rules.specs.Names.{mostYears, mostApps, mostDeliveries, highestPrice, highestBudget, whole, longYear, largestCapacity}
+use Rattle.rules.specs.Names.{mostYears, mostApps, mostDeliveries, highestPrice, highestBudget, whole, longYear, largestCapacity, mostNumbers}
 use Rattle.rules.specs.Lists.{pick, sift, below}
 use Rattle.rules.specs.Bytes.{le}
-use Rattle.rules.specs.Value.{exactParts, hoursOf, pound}
+use Rattle.rules.specs.Value.{exactParts, hoursOf, pound, mostEnergy}
 use Rattle.rules.specs.File.{Round, yearAt, budgetAt}
 use Rattle.rules.specs.Round.{Row, blank, energyOf, costOf, assemble, bidOf, mine, enters, rowFor, potOf}
-use Rattle.laws.specs.Lists.{case, in-sift, in-below, sift-same}
-use Rattle.laws.specs.Reading.{Sound}
-use Rattle.laws.specs.Reading as r
-use Rattle.laws.specs.Mono.{Lawful}
-use Rattle.laws.specs.Bids.{mine-out, lawful}
-use Rattle.sheet.specs.Sheet.{sheetLength, limitAt, entrants, absent, entered, spare, rowStanding, rowApp, rowYear, rowPrice, rowDraw, rowCap, figReference, figEnergy, figShare, sheetCost, inAuction, inTest, potIn, mostEnergy, Ready}
+use Rattle.pot_laws.specs.Lists.{case, in-sift, in-below, sift-same}
+use Rattle.reading_laws.specs.Reading.{Sound}
+use Rattle.reading_laws.specs.Reading as r
+use Rattle.pot_laws.specs.Mono.{Lawful}
+use Rattle.round_laws.specs.Bids.{mine-out, lawful}
+use Rattle.sheet.specs.Sheet.{sheetLength, limitAt, entrants, absent, entered, spare, rowStanding, rowApp, rowYear, rowPrice, rowDraw, rowAdmin, figReference, figEnergy, figShare, sheetCost, inAuction, inTest, potIn, Ready, rowPlace, figurePlace}
 use Rattle.rows.specs.Rows.{rowOf, standingOf, rowNumbers, figureNumbers}
 use Rattle.rows.proofs.Laws.{good, mine-in, row-blank, energy-most, share-most}
-use Rattle.fill.specs.Fill.{mostNumbers, RowsRight, AllFigures, LimitsRight, RowsWritten, FiguresWritten, LimitsWritten, Entered, sizeOf}
+use Rattle.fill.specs.Fill.{RowsRight, AllFigures, LimitsRight, RowsWritten, FiguresWritten, LimitsWritten, Entered, sizeOf}
 
 -- what has been written
 pub record Written (R : Round) (p : ℕ) (sheet : List ℕ) (n : ℕ) : Type 0 where
@@ -38,14 +38,14 @@ pub written : {R : Round} {p m n : ℕ} {s t u v w : List ℕ} → m ≡ R .b + 
 unfolding rowNumbers figureNumbers
 written {R} {p} {m} {n} {s} {t} {u} {v} {w} em hy A B C D l = record {
   length-is = l;
-  rows-right = λ k h j g. D .rest (8008 + k * 6 + j) (omega arith) ∙ C .rest (8008 + k * 6 + j) (omega arith) ∙ B .rest (8008 + k * 6 + j) (omega arith) ∙ A .right k h j g;
-  figures-right = λ k h i f j g. D .rest (328 + k * 24 + i * 3 + j) (omega arith) ∙ C .rest (328 + k * 24 + i * 3 + j) (omega arith) ∙ B .right k h i f j g;
+  rows-right = λ k h j g. D .rest (rowPlace k + j) (omega arith) ∙ C .rest (rowPlace k + j) (omega arith) ∙ B .rest (rowPlace k + j) (omega arith) ∙ A .right k h j g;
+  figures-right = λ k h i f j g. D .rest (figurePlace k i + j) (omega arith) ∙ C .rest (figurePlace k i + j) (omega arith) ∙ B .right k h i f j g;
   limits-right = λ i h. D .kept i (omega arith) ∙ C .right i h;
   entered = D .right ∙ sift-same (inAuction v) (inAuction w) (below m) (λ k i. sym (ap (λ (x : ℕ). eqb x entered) (same k))) ∙ ap (λ (i : ℕ). sift (inAuction w) (below i)) em;
 }
   where
     same : (k : ℕ) → rowStanding w k ≡ rowStanding v k
-    same k = unfold rowStanding in D .rest (8008 + k * 6) (omega arith)
+    same k = unfold rowStanding in D .rest (rowPlace k) (omega arith)
 
 -- ---- tests of a standing
 
@@ -78,20 +78,20 @@ module _ (R : Round) (S : Sound R) (p : ℕ) {sheet : List ℕ} {n : ℕ} (W : W
   numbers-few = omega (arith, S .bids-few, S .apps-few)
 
   -- also after the last bid, where all is zero
-  cell : (k j : ℕ) → j < 6 → getD sheet (8008 + k * 6 + j) 0 ≡ getD (rowNumbers R p k) j 0
+  cell : (k j : ℕ) → j < 6 → getD sheet (rowPlace k + j) 0 ≡ getD (rowNumbers R p k) j 0
   unfolding rowNumbers
   cell k j h = case (ltb k mostNumbers)
       (λ t. W .rows-right k (ltb-true k mostNumbers t) j h)
       (λ t.
       let l = ltb-false k mostNumbers t in
-      let z : length sheet ≤ 8008 + k * 6 + j = omega (arith, W .length-is) in
+      let z : length sheet ≤ rowPlace k + j = omega (arith, W .length-is) in
       let b = row-blank R p k {s = mine R p k} refl (mine-out R k p (let m : R .b + R .n ≤ k = omega (arith, numbers-few) in m)) in
       List·getD-eq-default sheet 0 z ∙ sym (getD-replicate 6 j 0 0 h) ∙ ap (λ (v : List ℕ). getD v j 0) b)
 
   module _ (k : ℕ) where
     standing-is : rowStanding sheet k ≡ standingOf R p k
     unfolding rowStanding rowNumbers
-    standing-is = ap (λ (i : ℕ). getD sheet i 0) (sym (add-zero (8008 + k * 6))) ∙ cell k 0 (omega arith)
+    standing-is = ap (λ (i : ℕ). getD sheet i 0) (sym (add-zero (rowPlace k))) ∙ cell k 0 (omega arith)
 
     app-is : rowApp sheet k ≡ rowOf R p k .bid .app
     unfolding rowApp rowNumbers
@@ -109,14 +109,14 @@ module _ (R : Round) (S : Sound R) (p : ℕ) {sheet : List ℕ} {n : ℕ} (W : W
     unfolding rowDraw rowNumbers
     draw-is = cell k 4 (omega arith)
 
-    cap-is : rowCap sheet k ≡ rowOf R p k .cap
-    unfolding rowCap rowNumbers
-    cap-is = cell k 5 (omega arith)
+    admin-is : rowAdmin sheet k ≡ rowOf R p k .admin
+    unfolding rowAdmin rowNumbers
+    admin-is = cell k 5 (omega arith)
 
     module _ (z : ℕ) (h : k < R .b + R .n) (l : z < R .y) where
       reference-is : figReference sheet k z ≡ rowOf R p k .reference z
       unfolding figReference figureNumbers
-      reference-is = ap (λ (i : ℕ). getD sheet i 0) (sym (add-zero (328 + k * 24 + z * 3))) ∙ W .figures-right k h z l 0 (omega arith)
+      reference-is = ap (λ (i : ℕ). getD sheet i 0) (sym (add-zero (figurePlace k z))) ∙ W .figures-right k h z l 0 (omega arith)
 
       energy-is : figEnergy sheet k z ≡ rowOf R p k .load z * energyOf (R .years) (rowOf R p k .bid) z
       unfolding figEnergy figureNumbers
@@ -145,13 +145,13 @@ module _ (R : Round) (S : Sound R) (p : ℕ) {sheet : List ℕ} {n : ℕ} (W : W
   cost-in : (k price z : ℕ) → k < R .b + R .n → z < R .y → sheetCost sheet k price z ≡ costOf (R .years) (rowOf R p k) price z
   unfolding sheetCost costOf exactParts
   cost-in k price z h l =
-      rw (cap-is k, reference-is k z h l, energy-is k z h l, share-is k z h l)
-      (same-parts (min price (rowOf R p k .cap) - rowOf R p k .reference z) (rowOf R p k .load z) (energyOf (R .years) (rowOf R p k .bid) z) (whole - yearAt (R .years) z .tlm) (rowOf R p k .rqm))
+      rw (admin-is k, reference-is k z h l, energy-is k z h l, share-is k z h l)
+      (same-parts (min price (rowOf R p k .admin) - rowOf R p k .reference z) (rowOf R p k .load z) (energyOf (R .years) (rowOf R p k .bid) z) (whole - yearAt (R .years) z .tlm) (rowOf R p k .rqm))
 
   cost-beyond : (k price z : ℕ) → R .b + R .n ≤ k → sheetCost sheet k price z ≡ costOf (R .years) (rowOf R p k) price z
   unfolding sheetCost costOf rowOf
   cost-beyond k price z h =
-      rw (cap-is k, mine-out R k p h)
+      rw (admin-is k, mine-out R k p h)
       (let e : min price 0 - figReference sheet k z ≡ 0 = omega arith in
       rw (e, no-load (min price 0) 0 (energyOf (R .years) (blank .bid) z) (yearAt (R .years) z .tlm) 0) (simp zero-mul))
 
@@ -178,7 +178,7 @@ module _ (R : Round) (S : Sound R) (p : ℕ) {sheet : List ℕ} {n : ℕ} (W : W
     cost = λ k price z. cost-is k price z i;
     budget = λ z. budget-is z i;
     draw = λ k. draw-is k i;
-    cap = λ k. cap-is k i;
+    admin = λ k. admin-is k i;
   }
 
 -- ---- the ranges of a row's numbers
@@ -190,7 +190,7 @@ record Bounded (y : ℕ) (r : Row) : Type 0 where
   capacity : r .bid .capacity ≤ largestCapacity
   price : r .bid .price ≤ highestPrice
   draw : r .draw < 65536
-  cap : r .cap ≤ highestPrice
+  admin : r .admin ≤ highestPrice
   rqm : r .rqm ≤ whole
   reference : (z : ℕ) → z < y → r .reference z ≤ highestPrice
   load : (z : ℕ) → z < y → r .load z ≤ whole
@@ -203,7 +203,7 @@ bounded-blank y = record {
   capacity = omega arith;
   price = omega arith;
   draw = omega arith;
-  cap = omega arith;
+  admin = omega arith;
   rqm = omega arith;
   reference = λ z h. omega arith;
   load = λ z h. omega arith;
@@ -231,7 +231,7 @@ module _ (R : Round) (S : Sound R) (p : ℕ) (bytes : (i : ℕ) → getD (R .app
         capacity = g .capacity;
         price = g .price;
         draw = two-bytes (R .apps) _ bytes;
-        cap = r.admin-most R S _ (bidOf R k .year) t (g .year);
+        admin = r.admin-most R S _ (bidOf R k .year) t (g .year);
         rqm = S .tech _ t .rqm;
         reference = λ z l. rw (lt-ltb z (R .y) l) (S .tech _ t .reference z l);
         load = λ z l. rw (lt-ltb z (R .y) l) (S .tech _ t .load z l);
@@ -263,7 +263,7 @@ module _ (R : Round) (S : Sound R) (p : ℕ) (bytes : (i : ℕ) → getD (R .app
       app = λ k l. rw (app-is R S p W k) (bounded k .app);
       year = λ k l. rw (year-is R S p W k) (bounded k .year);
       price = λ k l. rw (price-is R S p W k) (bounded k .price);
-      cap = λ k l. rw (cap-is R S p W k) (bounded k .cap);
+      admin = λ k l. rw (admin-is R S p W k) (bounded k .admin);
       draw = λ k l. rw (draw-is R S p W k) (bounded k .draw);
       reference = λ k z l m. rw (reference-is R S p W k z l m) (bounded k .reference z m);
       energy = λ k z l m. rw (energy-is R S p W k z l m) (energy-in k z m);

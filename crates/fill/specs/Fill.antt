@@ -3,16 +3,12 @@ use Prim.Native.Nat.{ℕ, _+_, _*_, _≤_, _<_}
 use mathlib.Core.Path.{_≡_}
 use mathlib.Core.List.{List}
 use lib.ListN.{length, getD}
-use Rattle.rules.specs.Names.{mostApps, mostBids}
+use Rattle.rules.specs.Names.{mostNumbers}
 use Rattle.rules.specs.Lists.{sift, below}
 use Rattle.rules.specs.File.{Round, Bid, budgetAt}
 use Rattle.sheet.specs.declared.Size.{Size}
-use Rattle.sheet.specs.Sheet.{figuresAt, rowsAt, entrants, inAuction}
+use Rattle.sheet.specs.Sheet.{figuresAt, rowsAt, entrants, inAuction, entrantsAt}
 use Rattle.rows.specs.Rows.{rowNumbers, figureNumbers, figuresIn}
-
--- the most bids by number
-abbrev pub mostNumbers : ℕ
-mostNumbers = mostBids + mostApps
 
 -- the numbers v stand at a place of s
 abbrev pub Stands : (v s : List ℕ) (at : ℕ) → Type 0
@@ -73,7 +69,7 @@ pub record FiguresWritten (R : Round) (p : ℕ) (s t : List ℕ) : Type 0 where
 
 pub record LimitsWritten (y : ℕ) (pots : List ℕ) (p : ℕ) (s t : List ℕ) : Type 0 where
   pub right : LimitsRight y pots p y t
-  pub rest : Rest 8 s t
+  pub rest : Rest entrantsAt s t
 
 pub record Entered (m : ℕ) (s t : List ℕ) (n : ℕ) : Type 0 where
   pub few : n ≤ m

@@ -6,14 +6,11 @@ ghost use mathlib.Core.Path.{_≡_};
 ghost use mathlib.Core.Bool.{true};
 ghost use Prim.Native.Nat.{_+_, _*_, _≤_, _<_};
 ghost use lib.ListN.{length};
-ghost use Rattle.rules.specs.Names.{mostYears, mostPots, potWidth};
+ghost use Rattle.rules.specs.Names.{mostYears, mostPots, potWidth, mostNumbers};
 ghost use Rattle.rules.specs.Round.{mine, potOf};
 ghost use Rattle.sheet.specs.Sheet.{sheetLength, potIn, Ready};
 ghost use Rattle.rows.specs.Rows.{roundIn, Held};
-ghost use Rattle.fill.specs.Fill.{mostNumbers, Blank, BlankFigures, Put, RowsRight, RowsWritten, FiguresOf, FiguresWritten, LimitsWritten, Entered, sizeOf};
-
-// The most numbers of bids: the sealed ones, and an automatic one for each application.
-const BIDS: usize = 320;
+ghost use Rattle.fill.specs.Fill.{Blank, BlankFigures, Put, RowsRight, RowsWritten, FiguresOf, FiguresWritten, LimitsWritten, Entered, sizeOf};
 
 // Where the record of a pot starts, in a file of y years.
 fn pot_place(y: usize, pot: usize) -> usize
@@ -41,7 +38,7 @@ fn fill_rows(file: &[u8], z: Sections, pot: usize, sheet: &mut Sheet)
     ensures { λ _. ⌜ RowsWritten (roundIn (now (file .entry)) z) pot (now (sheet .entry)) (now (sheet .exit)) × (length (now (sheet .exit)) ≡ sheetLength) ⌝ }
 {
     let mut k: usize = 0;
-    while k < BIDS {
+    while k < sheet::BIDS {
         let v = rows::row(file, z, pot, k);
         put(sheet, sheet::ROWS_AT + k * sheet::ROW, &v);
         k += 1;
@@ -54,14 +51,14 @@ fn fill_years(file: &[u8], z: Sections, pot: usize, k: usize, sheet: &mut Sheet)
     requires { ⌜ mine (roundIn (now file) z) pot k ≡ true ⌝ }
     ensures { λ _. ⌜ FiguresOf (roundIn (now (file .entry)) z) pot k (now (sheet .entry)) (now (sheet .exit)) × (length (now (sheet .exit)) ≡ sheetLength) ⌝ }
 {
-    let second = z.second;
-    let years = &file[names::COUNT_WIDTH..second];
-    let third = z.third;
-    let fourth = z.fourth;
-    let techs = &file[third + names::COUNT_WIDTH..fourth];
-    let fifth = z.fifth;
-    let apps = &file[fourth + names::COUNT_WIDTH..fifth];
-    let bids = &file[fifth + names::COUNT_WIDTH..];
+    let pots_at = z.pots_at;
+    let years = &file[names::COUNT_WIDTH..pots_at];
+    let technologies_at = z.technologies_at;
+    let applications_at = z.applications_at;
+    let techs = &file[technologies_at + names::COUNT_WIDTH..applications_at];
+    let bids_at = z.bids_at;
+    let apps = &file[applications_at + names::COUNT_WIDTH..bids_at];
+    let bids = &file[bids_at + names::COUNT_WIDTH..];
     let y = z.years;
     let x = rows::bid_of(techs, apps, bids, y, z.bids, k);
     let t = rows::tech_of(apps, x.app);
@@ -132,10 +129,10 @@ pub fn fill(file: &[u8], z: Sections, pot: usize, sheet: &mut Sheet) -> Size
 {
     fill_rows(file, z, pot, sheet);
     fill_figures(file, z, pot, sheet);
-    let second = z.second;
-    let third = z.third;
+    let pots_at = z.pots_at;
+    let technologies_at = z.technologies_at;
     fill_limits(
-        &file[second + names::COUNT_WIDTH..third],
+        &file[pots_at + names::COUNT_WIDTH..technologies_at],
         z.years,
         pot,
         sheet,

@@ -9,7 +9,7 @@ use lib.ListN.{getD, length, set, replicate}
 use lib.Dec.{eqb}
 use borrow.Author.Tests.{eq-eqb, ne-eqb, lt-ltb, le-ltb}
 use Rattle.rules.specs.Names.{noPrice, widestTie, downTied}
-use Rattle.sets.specs.Sets.{fill, built, members, without}
+use Rattle.arrays.specs.Sets.{fill, built, members, without}
 use Rattle.sheet.specs.declared.Size.{Size}
 use Rattle.sheet.specs.Sheet.{Ready, rowStanding, rowApp, rowYear, rowPrice}
 use Rattle.ties.specs.Ties.{basesOf, keepsOf, choiceOf}

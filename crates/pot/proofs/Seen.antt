@@ -11,9 +11,9 @@ use lib.Dec.{eqb, ltb}
 use borrow.Author.Tests.{eqb-true, eq-eqb, ne-eqb, lt-ltb, le-ltb, ltb-true, ltb-false}
 use Rattle.rules.specs.Names.{noReason, becauseWon}
 use Rattle.rules.specs.Lists.{sift, below}
-use Rattle.laws.specs.Lists.{case, and-true, In, here, there, sift-in, sift-same, sift-both, sift-le, below-in}
-use Rattle.sets.specs.Sets.{members, headOr}
-use Rattle.sets.proofs.Arrays.{members-built}
+use Rattle.pot_laws.specs.Lists.{case, and-true, In, here, there, sift-in, sift-same, sift-both, sift-le, below-in}
+use Rattle.arrays.specs.Sets.{members, headOr}
+use Rattle.arrays.proofs.Arrays.{members-built}
 use Rattle.sheet.specs.declared.Size.{Size}
 use Rattle.sheet.specs.Sheet.{Ready, entrantAt, entrants, rowStanding, rowApp, rowYear, rowPrice, inAuction}
 use Rattle.sheet.proofs.Entrants.{entrants-length}

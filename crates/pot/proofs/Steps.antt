@@ -8,8 +8,8 @@ use lib.ListN.{length, getD}
 use lib.Dec.{eqb}
 use Rattle.rules.specs.Names.{becauseWon}
 use Rattle.rules.specs.Pot.{Pot, Trace, winners, wideEnd, taken, fits, down, follows, alone, tied, lost, look}
-use Rattle.laws.specs.Lists.{case, In, here, in-none}
-use Rattle.sets.specs.Sets.{built, members, headOr}
+use Rattle.pot_laws.specs.Lists.{case, In, here, in-none}
+use Rattle.arrays.specs.Sets.{built, members, headOr}
 use Rattle.sheet.specs.declared.Size.{Size}
 use Rattle.sheet.specs.Sheet.{potIn, Ready, inAuction}
 use Rattle.totals.specs.Totals.{totalOf, rowFits}

@@ -9,15 +9,16 @@ use lib.ListN.{length, getD, set, length-set, replicate}
 use lib.Seq.{getD-set-other}
 use lib.Dec.{eqb, ltb}
 use borrow.Author.Tests.{eqb-true, eqb-false, eq-eqb, ne-eqb}
+use Rattle.rules.specs.Value.{dearest}
 use Rattle.rules.specs.Names.{becauseWon, widestTie}
 use Rattle.rules.specs.Lists.{pick, sift, below}
 use Rattle.rules.specs.Pot.{Pot, Trace}
-use Rattle.laws.specs.Lists.{case, In, here, there, sift-in, below-in}
-use Rattle.sets.specs.Sets.{fill, members}
-use Rattle.sets.proofs.Arrays.{put-is, zeros, fill-at}
+use Rattle.pot_laws.specs.Lists.{case, In, here, there, sift-in, below-in}
+use Rattle.arrays.specs.Sets.{fill, members}
+use Rattle.arrays.proofs.Arrays.{put-is, zeros, fill-at}
 use Rattle.sheet.specs.declared.Size.{Size}
 use Rattle.sheet.specs.Sheet.{Ready, inAuction, rowStanding, rowYear}
-use Rattle.totals.specs.Totals.{dearest, worthOf, totalOf, partOn, partOf, noRow, filled, fitsTo, rowFits}
+use Rattle.totals.specs.Totals.{worthOf, totalOf, partOn, partOf, noRow, filled, fitsTo, rowFits}
 use Rattle.totals.proofs.Laws.{fits-same, row-none}
 use Rattle.ties.specs.Ties.{laidTo}
 use Rattle.totals.proofs.Parts.{part-most, total-parts}

@@ -6,12 +6,13 @@ use mathlib.Core.Bool.{Bool, true, false, not, _&&_}
 use mathlib.Core.List.{List, [], _∷_}
 use lib.ListN.{getD, set, replicate, length}
 use lib.Dec.{eqb, ltb}
-use Rattle.rules.specs.Names.{mostBids, mostApps, noPrice, noReason, becauseWon, downAlone, downTied, widestTie}
+use Rattle.rules.specs.Value.{dearest}
+use Rattle.rules.specs.Names.{mostNumbers, noPrice, noReason, becauseWon, downAlone, downTied, widestTie}
 use Rattle.rules.specs.Lists.{pick, sift, below}
-use Rattle.sets.specs.Sets.{fill, built, members, headOr, without}
+use Rattle.arrays.specs.Sets.{fill, built, members, headOr, without}
 use Rattle.sheet.specs.declared.Size.{Size}
 use Rattle.sheet.specs.Sheet.{rowStanding, rowApp, rowYear, rowPrice, inAuction, entered}
-use Rattle.totals.specs.Totals.{dearest, partOf, filled}
+use Rattle.totals.specs.Totals.{partOf, filled}
 use Rattle.ties.specs.Ties.{laidTo, basesOf, keepsOf, choiceOf}
 use Rattle.pot.specs.declared.PotState.{PotState}
 use Rattle.pot.specs.declared.Look.{Look}
@@ -116,7 +117,7 @@ unfoldable pub yearSum : List ℕ → ℕ → ℕ
 yearSum l z = getD l z 0 + (getD l (8 + z) 0 + (getD l (16 + z) 0 + getD l (24 + z) 0))
 
 abbrev pub mostSum : ℕ
-mostSum = 4 * (dearest * (mostBids + mostApps))
+mostSum = 4 * (dearest * mostNumbers)
 
 -- other sums and totals, and all else as it was
 unfoldable pub withSums : (sums totals : List ℕ) → PotState → PotState

@@ -6,13 +6,15 @@ ghost use mathlib.Core.List.{[]};
 ghost use Prim.Native.Nat.{ℕ, _≤_, _<_};
 ghost use lib.Dec.{eqb};
 ghost use lib.ListN.{length};
+ghost use Rattle.rules.specs.Names.{mostNumbers};
 ghost use Rattle.rules.specs.Pot.{auction};
-ghost use Rattle.sets.specs.Sets.{built, members};
+ghost use Rattle.arrays.specs.Sets.{built, members};
 ghost use Rattle.sheet.specs.Sheet.{potIn, Ready};
 ghost use Rattle.totals.specs.Totals.{filled};
 ghost use Rattle.ties.specs.Ties.{laidTo};
 ghost use Rattle.pot.specs.Marks.{joinedOf, Others, Looked, atOf, firstMark, winOf, turnOf, winAll, turnAll, turnedOf, hungOf, shutOf, settledOf, widened, followsOf, aloneOf, sharedOf, tieOf, startedOf, yearSum, mostSum, renewedOf, renewedTo, totalledOf, revaluedOf, triedOf, trialOf, Summed};
 ghost use Rattle.pot.specs.Rep.{Stands, Seen, Onward};
+use names::NUMBERS;
 use names::YEARS;
 use sheet::COLUMNS;
 use sheet::Sheet;
@@ -33,7 +35,7 @@ const NO_YEAR: usize = 4;
 
 // The marks of every bid, the applications that have won, the years that are open, and the clearing price of each year.
 pub struct PotState {
-    pub reasons: [u16; 320],
+    pub reasons: [u16; NUMBERS],
     pub won: [bool; 64],
     pub opened: [bool; 4],
     pub prices: [u64; 4],
@@ -76,7 +78,7 @@ fn at(alive: bool, price: u64, p: u64) -> bool
 
 // A look that sees one more live bid, i at a price.
 fn joined(l: Look, price: u64, i: usize) -> Look
-    requires { ⌜ l .count < 320 ⌝ }
+    requires { ⌜ l .count < mostNumbers ⌝ }
     ensures { λ r. ⌜ r ≡ joinedOf l price i ⌝ }
 {
     if l.price < price {
@@ -153,11 +155,11 @@ impl PotState {
     }
 
     // The live bids at price p.
-    fn taken(self, sheet: &Sheet, of: Size, p: u64) -> [bool; 320]
+    fn taken(self, sheet: &Sheet, of: Size, p: u64) -> [bool; NUMBERS]
         requires { ⌜ Ready (now sheet) of ⌝ }
         ensures { λ r. ⌜ r ≡ built (atOf (now (sheet .entry)) self p) (of .bids) ⌝ }
     {
-        let mut set = [false; 320];
+        let mut set = [false; NUMBERS];
         let m = of.bids;
         let mut i: usize = 0;
         while i < m {
@@ -198,7 +200,7 @@ impl PotState {
     }
 
     // The bids of a set are added to the winners, and the clearing price of their years is p.
-    fn win_all(self, sheet: &Sheet, of: Size, set: [bool; 320], p: u64) -> PotState
+    fn win_all(self, sheet: &Sheet, of: Size, set: [bool; NUMBERS], p: u64) -> PotState
         requires { ⌜ Ready (now sheet) of ⌝ }
         ensures { λ r. ⌜ r ≡ winAll (now (sheet .entry)) p self (members set (of .bids)) ⌝ }
     {
@@ -274,7 +276,7 @@ impl PotState {
     }
 
     // A trial of a set of bids.
-    fn trial(self, sheet: &Sheet, of: Size, set: [bool; 320], p: u64) -> PotState
+    fn trial(self, sheet: &Sheet, of: Size, set: [bool; NUMBERS], p: u64) -> PotState
         requires { ⌜ Ready (now sheet) of × Summed (now sheet) of self ⌝ }
         ensures { λ r. ⌜ r ≡ trialOf (now (sheet .entry)) of p set self ⌝ }
     {
@@ -283,7 +285,7 @@ impl PotState {
     }
 
     // The bids of a set are turned down for a reason, and their years close.
-    fn turn_all(self, sheet: &Sheet, of: Size, set: [bool; 320], v: u16) -> PotState
+    fn turn_all(self, sheet: &Sheet, of: Size, set: [bool; NUMBERS], v: u16) -> PotState
         requires { ⌜ Ready (now sheet) of ⌝ }
         ensures { λ r. ⌜ r ≡ turnAll (now (sheet .entry)) v self (members set (of .bids)) ⌝ }
     {
@@ -300,7 +302,7 @@ impl PotState {
     }
 
     fn turned(mut self, i: usize) -> PotState
-        requires { ⌜ i < 320 ⌝ }
+        requires { ⌜ i < mostNumbers ⌝ }
         ensures { λ r. ⌜ r ≡ turnedOf i self ⌝ }
     {
         self.reasons[i] = ALONE;
@@ -379,21 +381,21 @@ impl PotState {
         self,
         sheet: &Sheet,
         of: Size,
-        set: [bool; 320],
-        wins: [bool; 320],
+        set: [bool; NUMBERS],
+        wins: [bool; NUMBERS],
         p: u64,
     ) -> PotState
         requires { ⌜ Ready (now sheet) of ⌝ }
         ensures { λ r. ⌜ r ≡ sharedOf (now (sheet .entry)) of set wins p self ⌝ }
     {
         let t = self.win_all(sheet, of, wins, p);
-        let outs = sets::others(set, wins, of.bids);
+        let outs = arrays::others(set, wins, of.bids);
         let u = t.turn_all(sheet, of, outs, TIED);
         u.hung(NO_YEAR)
     }
 
     // Several were taken and do not fit together: 3.
-    fn tie(self, sheet: &Sheet, of: Size, set: [bool; 320], p: u64) -> PotState
+    fn tie(self, sheet: &Sheet, of: Size, set: [bool; NUMBERS], p: u64) -> PotState
         requires { ⌜ Ready (now sheet) of × Summed (now sheet) of self ⌝ }
         ensures { λ r. ⌜ r ≡ tieOf (now (sheet .entry)) of set p self ⌝ }
     {
@@ -401,7 +403,7 @@ impl PotState {
         let prices = self.prices;
         let base = ties::bases(sheet, of, marks, prices, p);
         let rest = ties::rest(sheet, of, &base, set, p);
-        let k = sets::count(rest, of.bids);
+        let k = arrays::count(rest, of.bids);
         if k > names::WIDEST_TIE {
             return self.too_wide();
         }
@@ -485,7 +487,7 @@ pub fn started(sheet: &Sheet, of: Size) -> PotState
     requires { ⌜ Ready (now sheet) of ⌝ }
     ensures { λ r. ⌜ r ≡ startedOf (now (sheet .entry)) (of .bids) ⌝ }
 {
-    let mut reasons = [OTHER; 320];
+    let mut reasons = [OTHER; NUMBERS];
     let m = of.bids;
     let mut i: usize = 0;
     while i < m {

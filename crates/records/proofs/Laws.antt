@@ -6,8 +6,8 @@ use native.Mathlib.Omega.{arith}
 use Rattle.rules.specs.Names.{whole, highestPrice, priceStep}
 use Rattle.rules.specs.File.{appAt}
 use Rattle.rules.specs.Refusals.{appFault}
-use Rattle.laws.specs.Walk.{given-yes, same-rule, part-broken}
-use Rattle.laws.specs.Reading.{holds}
+use Rattle.reading_laws.specs.Walk.{given-yes, same-rule, part-broken}
+use Rattle.reading_laws.specs.Reading.{holds}
 use Rattle.records.specs.Numbers.{pricesOf, numbersOf, drawOf}
 
 -- ---- the technologies

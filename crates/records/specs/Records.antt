@@ -17,10 +17,10 @@ withYears n d base = record {
   technologies = 0;
   applications = 0;
   bids = 0;
-  second = base + n * yearWidth;
-  third = 0;
-  fourth = 0;
-  fifth = 0;
+  «pots_at» = base + n * yearWidth;
+  «technologies_at» = 0;
+  «applications_at» = 0;
+  «bids_at» = 0;
 }
 
 -- ---- the records `recs`, which start at `base` of the file, in file order; `g` is the answer where nothing is wrong

@@ -73,10 +73,10 @@ pub fn years(recs: &[u8], n: usize, base: usize) -> Reading
             technologies: 0,
             applications: 0,
             bids: 0,
-            second: base + n * names::YEAR_WIDTH,
-            third: 0,
-            fourth: 0,
-            fifth: 0,
+            pots_at: base + n * names::YEAR_WIDTH,
+            technologies_at: 0,
+            applications_at: 0,
+            bids_at: 0,
         },
     }
 }

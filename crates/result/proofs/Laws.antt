@@ -98,19 +98,3 @@ told-is {R} {t} C T = rw (C .years, C .deliveries, C .pots, C .apps, C .bids) (t
 pub needed-is : {R : Round} {y d p n b : ℕ} → Counted R y d p n b → size y d p n b ≡ needed R
 unfolding needed
 needed-is C = rw (C .years, C .deliveries, C .pots, C .apps, C .bids)
-
--- "The result needs 6 + P(2 + 4D + 8Y) + 10N + 2B bytes"
-length-potBytes : (d y : ℕ) (P : Pot) → length (potBytes d y P) ≡ 2 + 4 * d + 8 * y
-unfolding potBytes
-length-potBytes d y P =
-    let prices = length-each (λ k. bytes 4 (priceIn P k)) 4 d (λ k. length-bytes 4 _) in
-    let totals = length-each (λ k. bytes 8 (totalIn P k)) 8 y (λ k. length-bytes 8 _) in
-    rw (length-append, length-append, length-bytes, prices, totals) (omega arith)
-
-pub length-result : (R : Round) → length (resultBytes R) ≡ needed R
-unfolding resultBytes potsPart appsPart bidsPart bidBytes needed
-length-result R =
-    let pots = length-each (λ p. potBytes (R .d) (R .y) (potOf R p)) (2 + 4 * R .d + 8 * R .y) (R .p) (λ p. length-potBytes _ _ _) in
-    let apps = length-each (λ a. appBytes (appTold R a)) 10 (R .n) (λ a. length-app _) in
-    let bids = length-each (λ k. bytes 2 (reason (potAt R k) k)) 2 (R .b) (λ k. length-bytes 2 _) in
-    simp (length-append, length-bytes, pots, apps, bids) (omega arith)

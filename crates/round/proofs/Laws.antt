@@ -13,9 +13,9 @@ use Rattle.rules.specs.Result.{needed, resultBytes, refusedAs, refusedAt, answe
 use Rattle.rules.specs.declared.Sections.{Sections}
 use Rattle.rules.specs.declared.Reading.the-variants as r
 use Rattle.rules.specs.declared.Answer.the-variants.{Cleared, Refused}
-use Rattle.laws.specs.Reading.{Sound}
-use Rattle.laws.specs.Fault.{handed-on, ends-there}
-use Rattle.laws.specs.Small.{reading-small}
+use Rattle.reading_laws.specs.Reading.{Sound}
+use Rattle.reading_laws.specs.Fault.{handed-on, ends-there}
+use Rattle.reading_laws.specs.Small.{reading-small}
 use Rattle.rows.specs.Rows.{roundIn, Held}
 use Rattle.result.specs.declared.Tellings.{Tellings}
 use Rattle.result.specs.Tells.{Small, Counted, Tells}
@@ -30,11 +30,11 @@ pub record Handed (s : List ℕ) (z : Sections) : Type 0 where
   pub sound : Sound (roundOf s)
   pub small : Small (z .years) (z .deliveries) (z .pots) (z .applications) (z .bids)
   pub counted : Counted (roundOf s) (z .years) (z .deliveries) (z .pots) (z .applications) (z .bids)
-  pub one : countWidth ≤ z .second
-  pub two : z .second + countWidth ≤ z .third
-  pub three : z .third + countWidth ≤ z .fourth
-  pub four : z .fourth + countWidth ≤ z .fifth
-  pub five : z .fifth + countWidth ≤ length s
+  pub one : countWidth ≤ z .«pots_at»
+  pub two : z .«pots_at» + countWidth ≤ z .«technologies_at»
+  pub three : z .«technologies_at» + countWidth ≤ z .«applications_at»
+  pub four : z .«applications_at» + countWidth ≤ z .«bids_at»
+  pub five : z .«bids_at» + countWidth ≤ length s
 
 -- the sections of a file that ends where they do
 parts-whole : (s : List ℕ) → length s ≡ endAt (roundOf s .y) (roundOf s .p) (roundOf s .t) (roundOf s .n) (roundOf s .b) → roundIn s (sectionsOf (roundOf s)) ≡ roundOf s

@@ -10,11 +10,11 @@ use Rattle.rules.specs.Refusals.{reading}
 use Rattle.rules.specs.Result.{needed, refusedAs, lengthOf}
 use Rattle.rules.specs.declared.Reading.{Reading}
 use Rattle.rules.specs.declared.Answer.{Answer}
-use Rattle.laws.specs.Apart.{DifferElsewhere}
-use Rattle.laws.specs.Told.{Third}
-use Rattle.laws.specs.Read.{outcomeAt, totalAt, toldAt}
-use Rattle.laws.specs.Demanded.{whyAt, SameRecords}
-use Rattle.laws.specs.Theorems as laws
+use Rattle.round_laws.specs.Apart.{DifferElsewhere}
+use Rattle.round_laws.specs.Third.{Third}
+use Rattle.round_laws.specs.Read.{outcomeAt, totalAt, toldAt}
+use Rattle.round_laws.specs.Demanded.{whyAt, SameRecords}
+use Rattle.round_laws.specs.Theorems as laws
 use Rattle.round.specs.Round.{Clears, Lists}
 
 -- Demand 3, of each pot that an auction cleared, as the bytes that were written tell it: the five sentences are the fields of `Third`

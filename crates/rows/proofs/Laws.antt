@@ -12,14 +12,14 @@ use borrow.Author.Tests.{lt-ltb, le-ltb, eq-eqb, ne-eqb, ltb-true}
 use Rattle.rules.specs.Names.{mostYears, mostTechs, techWidth, appWidth, bidWidth, whole, longYear, largestCapacity, highestPrice}
 use Rattle.rules.specs.Lists.{memb, below}
 use Rattle.rules.specs.Bytes.{le}
-use Rattle.rules.specs.Value.{hoursOf}
+use Rattle.rules.specs.Value.{hoursOf, mostEnergy, mostShare}
 use Rattle.rules.specs.File.{Round, Bid, yearAt, techAt, appAt, bidAt}
 use Rattle.rules.specs.Round.{energyOf, rowFor, automatic, bidOf, mine}
-use Rattle.laws.specs.Lists.{and-true, In, in-memb, in-map, in-below}
-use Rattle.laws.specs.Reading.{Sound}
-use Rattle.laws.specs.Reading as r
-use Rattle.laws.specs.Bids.{bid-own, bid-auto, Kind, own, auto, out, kind}
-use Rattle.sheet.specs.Sheet.{entered, spare, mostEnergy, mostShare}
+use Rattle.pot_laws.specs.Lists.{and-true, In, in-memb, in-map, in-below}
+use Rattle.reading_laws.specs.Reading.{Sound}
+use Rattle.reading_laws.specs.Reading as r
+use Rattle.round_laws.specs.Bids.{bid-own, bid-auto, Kind, own, auto, out, kind}
+use Rattle.sheet.specs.Sheet.{entered, spare}
 use Rattle.rows.specs.Rows.{TechIn, YearIn, AppIn, BidIn, ownBid, numbered, numbered-is, silentIn, standingIn, standing-is, rowOf, standingOf, rowNumbers, figureNumbers, figuresIn}
 
 -- ---- records of the file
@@ -242,8 +242,8 @@ module _ (R : Round) (p k : ℕ) {s : Bool} (e : s ≡ mine R p k) where
     abbrev tech-is : t ≡ appAt (R .apps) (bidOf R k .app) .tech
     tech-is = et ∙ ap (λ (x : Bid). appAt (R .apps) (x .app) .tech) ex
 
-    pub row-own : {standing draw cap : ℕ} → standing ≡ standingIn (R .bids) (R .b) k → draw ≡ appAt (R .apps) (x .app) .draw → cap ≡ techAt (R .y) (R .techs) t .admin (x .year)
-        → standing ∷ x .app ∷ x .year ∷ x .price ∷ draw ∷ cap ∷ [] ≡ rowNumbers R p k
+    pub row-own : {standing draw admin : ℕ} → standing ≡ standingIn (R .bids) (R .b) k → draw ≡ appAt (R .apps) (x .app) .draw → admin ≡ techAt (R .y) (R .techs) t .admin (x .year)
+        → standing ∷ x .app ∷ x .year ∷ x .price ∷ draw ∷ admin ∷ [] ≡ rowNumbers R p k
     unfolding rowNumbers rowOf standingOf rowFor
     row-own es ed ec =
         let d = ed ∙ ap (λ (x : Bid). appAt (R .apps) (x .app) .draw) ex in

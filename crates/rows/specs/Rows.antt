@@ -11,18 +11,18 @@ use Rattle.rules.specs.Bytes.{part}
 use Rattle.rules.specs.File.{Round, Bid, yearAt, techAt, appAt, bidAt}
 use Rattle.rules.specs.Round.{Row, blank, energyOf, automatic, bidOf, mine, silent, enters, rowFor}
 use Rattle.rules.specs.declared.Sections.{Sections}
-use Rattle.laws.specs.Reading.{Sound}
+use Rattle.reading_laws.specs.Reading.{Sound}
 use Rattle.sheet.specs.Sheet.{absent, entered, spare}
 use Rattle.rows.specs.declared.Terms.{Terms}
 
 -- the round that a file shows whose sections these are: each is the part of the file that it occupies
 abbrev pub roundIn : List ℕ → Sections → Round
 roundIn s z = record {
-  years = part s countWidth (z .second);
-  pots = part s (z .second + countWidth) (z .third);
-  techs = part s (z .third + countWidth) (z .fourth);
-  apps = part s (z .fourth + countWidth) (z .fifth);
-  bids = part s (z .fifth + countWidth) (length s);
+  years = part s countWidth (z .«pots_at»);
+  pots = part s (z .«pots_at» + countWidth) (z .«technologies_at»);
+  techs = part s (z .«technologies_at» + countWidth) (z .«applications_at»);
+  apps = part s (z .«applications_at» + countWidth) (z .«bids_at»);
+  bids = part s (z .«bids_at» + countWidth) (length s);
   y = z .years;
   d = z .deliveries;
   p = z .pots;
@@ -34,11 +34,11 @@ roundIn s z = record {
 -- the sections stand one after the other in the file, and its round is sound
 pub record Held (s : List ℕ) (z : Sections) : Type 0 where
   pub sound : Sound (roundIn s z)
-  pub one : countWidth ≤ z .second
-  pub two : z .second + countWidth ≤ z .third
-  pub three : z .third + countWidth ≤ z .fourth
-  pub four : z .fourth + countWidth ≤ z .fifth
-  pub five : z .fifth + countWidth ≤ length s
+  pub one : countWidth ≤ z .«pots_at»
+  pub two : z .«pots_at» + countWidth ≤ z .«technologies_at»
+  pub three : z .«technologies_at» + countWidth ≤ z .«applications_at»
+  pub four : z .«applications_at» + countWidth ≤ z .«bids_at»
+  pub five : z .«bids_at» + countWidth ≤ length s
 
 -- the bid that its terms show
 abbrev pub shown : Terms → Bid
@@ -119,7 +119,7 @@ standingOf R p k = pick (mine R p k) (pick (enters R k) entered spare) absent
 unfoldable pub rowNumbers : Round → (p k : ℕ) → List ℕ
 rowNumbers R p k =
     let r = rowOf R p k in
-    standingOf R p k ∷ r .bid .app ∷ r .bid .year ∷ r .bid .price ∷ r .draw ∷ r .cap ∷ []
+    standingOf R p k ∷ r .bid .app ∷ r .bid .year ∷ r .bid .price ∷ r .draw ∷ r .admin ∷ []
 
 unfoldable pub figureNumbers : Round → (p k i : ℕ) → List ℕ
 figureNumbers R p k i =

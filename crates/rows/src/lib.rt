@@ -168,12 +168,12 @@ fn mine(file: &[u8], z: Sections, pot: usize, k: usize) -> bool
     if m <= k {
         return false;
     }
-    let third = z.third;
-    let fourth = z.fourth;
-    let techs = &file[third + names::COUNT_WIDTH..fourth];
-    let fifth = z.fifth;
-    let apps = &file[fourth + names::COUNT_WIDTH..fifth];
-    let bids = &file[fifth + names::COUNT_WIDTH..];
+    let technologies_at = z.technologies_at;
+    let applications_at = z.applications_at;
+    let techs = &file[technologies_at + names::COUNT_WIDTH..applications_at];
+    let bids_at = z.bids_at;
+    let apps = &file[applications_at + names::COUNT_WIDTH..bids_at];
+    let bids = &file[bids_at + names::COUNT_WIDTH..];
     let x = bid_of(techs, apps, bids, z.years, z.bids, k);
     pot_of(techs, z.years, tech_of(apps, x.app)) == pot
 }
@@ -186,17 +186,17 @@ pub fn row(file: &[u8], z: Sections, pot: usize, k: usize) -> [u64; 6]
     ensures { λ r. ⌜ r ≡ rowNumbers (roundIn (now (file .entry)) z) pot k ⌝ }
 {
     if mine(file, z, pot, k) {
-        let third = z.third;
-        let fourth = z.fourth;
-        let techs = &file[third + names::COUNT_WIDTH..fourth];
-        let fifth = z.fifth;
-        let apps = &file[fourth + names::COUNT_WIDTH..fifth];
-        let bids = &file[fifth + names::COUNT_WIDTH..];
+        let technologies_at = z.technologies_at;
+        let applications_at = z.applications_at;
+        let techs = &file[technologies_at + names::COUNT_WIDTH..applications_at];
+        let bids_at = z.bids_at;
+        let apps = &file[applications_at + names::COUNT_WIDTH..bids_at];
+        let bids = &file[bids_at + names::COUNT_WIDTH..];
         let x = bid_of(techs, apps, bids, z.years, z.bids, k);
         let standing = standing(bids, z.bids, k);
         let draw = draw_of(apps, x.app);
-        let cap = admin_of(techs, z.years, tech_of(apps, x.app), x.year);
-        return [standing, x.app as u64, x.year as u64, x.price, draw, cap];
+        let admin = admin_of(techs, z.years, tech_of(apps, x.app), x.year);
+        return [standing, x.app as u64, x.year as u64, x.price, draw, admin];
     }
     [sheet::ABSENT, 0, 0, 0, 0, 0]
 }

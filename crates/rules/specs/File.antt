@@ -140,8 +140,8 @@ sectionsOf R = record {
   technologies = R .t;
   applications = R .n;
   bids = R .b;
-  second = potsAt (R .y);
-  third = techsAt (R .y) (R .p);
-  fourth = appsAt (R .y) (R .p) (R .t);
-  fifth = bidsAt (R .y) (R .p) (R .t) (R .n);
+  «pots_at» = potsAt (R .y);
+  «technologies_at» = techsAt (R .y) (R .p);
+  «applications_at» = appsAt (R .y) (R .p) (R .t);
+  «bids_at» = bidsAt (R .y) (R .p) (R .t) (R .n);
 }

@@ -64,6 +64,10 @@ mostApps = 64
 abbrev pub mostBids : ℕ
 mostBids = 256
 
+-- the numbers of bids: the file's own, and after them the automatic bid of each application
+abbrev pub mostNumbers : ℕ
+mostNumbers = mostBids + mostApps
+
 -- "each after its 2-byte count"
 abbrev pub countWidth : ℕ
 countWidth = 2
@@ -102,6 +106,10 @@ shortYear = 365
 
 abbrev pub longYear : ℕ
 longYear = 366
+
+-- "24 × first-year days"
+abbrev pub dayHours : ℕ
+dayHours = 24
 
 -- "factors ten-thousandths": a factor of one
 abbrev pub whole : ℕ

@@ -12,7 +12,7 @@ use Rattle.rules.specs.Lists.{pick, memb, sift, sum}
 
 -- "Pots are cleared apart": what the clearing of one pot reads. `bids` are the numbers of the bids of its auction, `autos` those of the automatic bids of all
 -- its applications; years are numbered below `years`; `cost b p y` is the exact cost in parts of bid b in year y where the clearing price of its start
--- year is p, with `scale` parts to the pound; `cap` is the administrative price of its technology in its start year.
+-- year is p, with `scale` parts to the pound; `admin` is the administrative price of its technology in its start year.
 pub record Pot : Type 0 where
   pub bids : List ℕ
   pub autos : List ℕ
@@ -24,7 +24,7 @@ pub record Pot : Type 0 where
   pub cost : ℕ → ℕ → ℕ → ℕ
   pub budget : ℕ → ℕ
   pub draw : ℕ → ℕ
-  pub cap : ℕ → ℕ
+  pub admin : ℕ → ℕ
 
 -- What a step did: the bids that it let win, those that it turned down and the reason that they are given, the years that it closed, and the year that it
 -- left open though it turned a bid down there, since the next look is at the same application's next bid (2); whether more bids remained than are searched (3)
@@ -248,7 +248,7 @@ module _ (P : Pot) where
 
   -- "A winner is paid its year's clearing price capped at its administrative price"
   unfoldable pub paid : ℕ → ℕ
-  paid w = min (clearing (winners auction) (P .yr w)) (P .cap w)
+  paid w = min (clearing (winners auction) (P .yr w)) (P .admin w)
 
   -- "4 not looked at, its application won; 5 not looked at, otherwise"
   unfoldable pub unlookedReason : Trace → ℕ → ℕ

@@ -12,14 +12,14 @@ use Rattle.rules.specs.Pot.{Pot}
 pub record Row : Type 0 where
   pub bid : Bid
   pub draw : ℕ
-  pub cap : ℕ
+  pub admin : ℕ
   pub rqm : ℕ
   pub reference : ℕ → ℕ
   pub load : ℕ → ℕ
 
 -- another pot's bid is blank
 abbrev pub blank : Row
-blank = record { bid = record { app = 0; year = 0; days = 0; capacity = 0; price = 0 }; draw = 0; cap = 0; rqm = 0; reference = λ y. 0; load = λ y. 0 }
+blank = record { bid = record { app = 0; year = 0; days = 0; capacity = 0; price = 0 }; draw = 0; admin = 0; rqm = 0; reference = λ y. 0; load = λ y. 0 }
 
 -- "hours × capacity" of a bid in year y, the years' records being these
 unfoldable pub energyOf : (years : List ℕ) → Bid → (y : ℕ) → ℕ
@@ -27,7 +27,7 @@ energyOf years b y = hoursOf y (b .year) (b .days) (yearAt years y .days) * b .c
 
 -- "The price is the clearing price of d, capped at the technology's administrative price of d, and the same in every year": the exact cost in year y
 unfoldable pub costOf : (years : List ℕ) → Row → (price y : ℕ) → ℕ
-costOf years r price y = exactParts (min price (r .cap)) (r .reference y) (r .load y) (energyOf years (r .bid) y) (yearAt years y .tlm) (r .rqm)
+costOf years r price y = exactParts (min price (r .admin)) (r .reference y) (r .load y) (energyOf years (r .bid) y) (yearAt years y .tlm) (r .rqm)
 
 -- a pot of y years from the numbers of its bids, their rows and its budgets
 unfoldable pub assemble : (years : List ℕ) (y : ℕ) (bids autos : List ℕ) → (ℕ → Row) → (ℕ → ℕ) → Pot
@@ -42,7 +42,7 @@ assemble years y bids autos row budget = record {
   cost = λ k price y. costOf years (row k) price y;
   budget = budget;
   draw = λ k. row k .draw;
-  cap = λ k. row k .cap;
+  admin = λ k. row k .admin;
 }
 
 module _ (R : Round) where
@@ -77,7 +77,7 @@ module _ (R : Round) where
       record {
         bid = x;
         draw = a .draw;
-        cap = techOf a .admin (x .year);
+        admin = techOf a .admin (x .year);
         rqm = techOf a .rqm;
         reference = λ y. pick (ltb y (R .y)) (techOf a .reference y) 0;
         load = λ y. pick (ltb y (R .y)) (techOf a .load y) 0;

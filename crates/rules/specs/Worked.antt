@@ -107,9 +107,9 @@ closes = round 1 2 2 year (bytes 8 60000) figures (app 0 0 200 ++ app 0 1 100) (
 unfoldable pub behind : List ℕ
 behind = round 1 2 3 year (bytes 8 60000) figures (app 0 0 200 ++ app 0 1 200) (bid 0 0 200 6000 ++ (bid 0 0 100 6200 ++ bid 1 0 200 6100))
 
--- an administrative price that is lower in the later year: the cap is that of the start year
-unfoldable pub caps : List ℕ
-caps = round 2 1 1 (year ++ year) (nums 8 (100000 ∷ 100000 ∷ [])) (figures ++ (nums 4 (5000 ∷ 0 ∷ []) ++ bytes 2 10000)) (app 0 0 100) (bid 0 0 100 6000)
+-- an administrative price that is lower in the later year: pay is capped by that of the start year
+unfoldable pub lowerLater : List ℕ
+lowerLater = round 2 1 1 (year ++ year) (nums 8 (100000 ∷ 100000 ∷ [])) (figures ++ (nums 4 (5000 ∷ 0 ∷ []) ++ bytes 2 10000)) (app 0 0 100) (bid 0 0 100 6000)
 
 -- two applications without a bid: the automatic bids tie, and the lower draw wins
 unfoldable pub silence : List ℕ
@@ -118,8 +118,8 @@ silence = round 1 2 0 year (bytes 8 200000) figures (app 0 1 100 ++ app 0 0 100)
 pub slips :
     Gives closes 44 (result 1 2 2 (noPrice ∷ []) (0 ∷ []) (line 0 65535 0 ++ line 0 65535 0) (2 ∷ 5 ∷ []))
     × Gives behind 46 (result 1 2 3 (noPrice ∷ []) (0 ∷ []) (line 0 65535 0 ++ line 0 65535 0) (2 ∷ 5 ∷ 5 ∷ []))
-    × Gives caps 44 (result 1 1 1 (6000 ∷ noPrice ∷ []) (52560 ∷ 52560 ∷ []) (line 1 0 6000) (1 ∷ []))
+    × Gives lowerLater 44 (result 1 1 1 (6000 ∷ noPrice ∷ []) (52560 ∷ 52560 ∷ []) (line 1 0 6000) (1 ∷ []))
     × Gives silence 40
     (result 1 2 0 (20000 ∷ []) (175200 ∷ []) ((nums 2 (0 ∷ 65535 ∷ 3 ∷ []) ++ bytes 4 0) ++ (nums 2 (1 ∷ 65534 ∷ 1 ∷ []) ++ bytes 4 20000)) [])
-unfolding nums closes behind caps silence result given both when never one-more every howMany sum le bytes each onto exactParts valueOf hoursOf deliveries sections roundOf sectionsOf orElse orFault scan countFault recordFault section yearFault potFault techFault appFault sevenOf eightOf nineOf bidFault elevenOf judged reading winners downs seen closed hanging wideEnd mark best value priceFrom tally within live least lowest taken follows remaining rank combination chosen choose tied alone lost look run auction adminTotal adminFits outcome priceIn totalIn paid unlookedReason auctionReason reason winnersOf energyOf costOf assemble automatic bidOf mine silent enters rowFor potOf told toldIn appTold appBytes potBytes bidBytes potsPart appsPart bidsPart resultBytes needed answerTo answerOf after clearOf decLe decLt ℕ-discrete
+unfolding nums closes behind lowerLater silence result given both when never one-more every howMany sum le bytes each onto exactParts valueOf hoursOf deliveries sections roundOf sectionsOf orElse orFault scan countFault recordFault section yearFault potFault techFault appFault sevenOf eightOf nineOf bidFault elevenOf judged reading winners downs seen closed hanging wideEnd mark best value priceFrom tally within live least lowest taken follows remaining rank combination chosen choose tied alone lost look run auction adminTotal adminFits outcome priceIn totalIn paid unlookedReason auctionReason reason winnersOf energyOf costOf assemble automatic bidOf mine silent enters rowFor potOf told toldIn appTold appBytes potBytes bidBytes potsPart appsPart bidsPart resultBytes needed answerTo answerOf after clearOf decLe decLt ℕ-discrete
 slips = (refl, refl, refl, refl)

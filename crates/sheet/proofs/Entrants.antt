@@ -7,7 +7,7 @@ use lib.ListN.{length}
 use lib.Dec.{eqb}
 use borrow.Author.Tests.{eqb-true, eqb-false}
 use Rattle.rules.specs.Lists.{below}
-use Rattle.laws.specs.Lists.{case, In, here, there, in-none, sift-in, sift-le, below-in, length-below}
+use Rattle.pot_laws.specs.Lists.{case, In, here, there, in-none, sift-in, sift-le, below-in, length-below}
 use Rattle.sheet.specs.declared.Size.{Size}
 use Rattle.sheet.specs.Sheet.{entrantAt, entrants, inAuction, Ready}
 

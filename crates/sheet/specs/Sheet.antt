@@ -6,25 +6,50 @@ use mathlib.Core.Path.{_≡_}
 use mathlib.Core.List.{List, [], _∷_}
 use lib.Dec.{eqb, ltb}
 use lib.ListN.{length, getD}
-use Rattle.rules.specs.Names.{mostBids, mostApps, mostYears, mostDeliveries, highestPrice, highestBudget, whole, longYear, largestCapacity}
+use Rattle.rules.specs.Names.{mostNumbers, mostApps, mostYears, mostDeliveries, highestPrice, highestBudget}
 use Rattle.rules.specs.Lists.{pick, sift, below}
-use Rattle.rules.specs.Value.{pound}
+use Rattle.rules.specs.Value.{pound, mostEnergy, mostShare}
 use Rattle.rules.specs.Pot.{Pot}
 use Rattle.sheet.specs.declared.Size.{Size}
 
--- ---- what stands where: 8 limits, 320 bids that enter, the figures of 320 bids in 8 years, 3 to a year, and last 320 rows of 6: there is no number after
--- them, so that a bid past the last has a row of zeros
+-- ---- what stands where: a limit for each column, the bids that enter, the figures of the bids, and last their rows: there is no number after them, so that
+-- a bid past the last has a row of zeros
+
+-- the columns of a row of totals: the years' money
+abbrev pub columns : ℕ
+columns = mostYears
+
+-- the numbers of a bid's row; of its figures in a year, and of those in all years
+abbrev pub rowWidth : ℕ
+rowWidth = 6
+
+abbrev pub figureWidth : ℕ
+figureWidth = 3
+
+abbrev pub figuresWidth : ℕ
+figuresWidth = columns * figureWidth
+
 abbrev pub entrantsAt : ℕ
-entrantsAt = 8
+entrantsAt = columns
 
 abbrev pub figuresAt : ℕ
-figuresAt = 328
+figuresAt = entrantsAt + mostNumbers
 
 abbrev pub rowsAt : ℕ
-rowsAt = 8008
+rowsAt = figuresAt + mostNumbers * figuresWidth
 
 abbrev pub sheetLength : ℕ
-sheetLength = 9928
+sheetLength = rowsAt + mostNumbers * rowWidth
+
+-- where the row of bid k starts, its figures, and those of year y
+abbrev pub rowPlace : (k : ℕ) → ℕ
+rowPlace k = rowsAt + k * rowWidth
+
+abbrev pub figuresPlace : (k : ℕ) → ℕ
+figuresPlace k = figuresAt + k * figuresWidth
+
+abbrev pub figurePlace : (k y : ℕ) → ℕ
+figurePlace k y = figuresPlace k + y * figureWidth
 
 -- the limit of column c: the budget of a year
 unfoldable pub limitAt : List ℕ → ℕ → ℕ
@@ -32,13 +57,13 @@ limitAt sheet c = getD sheet c 0
 
 -- the bids that enter the auction, in the order of the file; the first k of them, the last first
 unfoldable pub entrantAt : List ℕ → ℕ → ℕ
-entrantAt sheet j = getD sheet (8 + j) 0
+entrantAt sheet j = getD sheet (entrantsAt + j) 0
 
 unfoldable pub entrants : List ℕ → ℕ → List ℕ
 entrants sheet zero = []
 entrants sheet (suc k) = entrantAt sheet k ∷ entrants sheet k
 
--- ---- the row of a bid by number, 6 numbers to a row: standing, application, start year, price, draw of the application, administrative price. The numbers
+-- ---- the row of a bid by number: standing, application, start year, price, draw of the application, administrative price. The numbers
 -- below b are the file's bids; after them comes the automatic bid of each application
 
 -- a bid of another pot has a row of zeros; one that enters the auction; an automatic bid of an application that has sealed ones
@@ -52,36 +77,36 @@ abbrev pub spare : ℕ
 spare = 2
 
 unfoldable pub rowStanding : List ℕ → ℕ → ℕ
-rowStanding sheet k = getD sheet (8008 + k * 6) 0
+rowStanding sheet k = getD sheet (rowPlace k) 0
 
 unfoldable pub rowApp : List ℕ → ℕ → ℕ
-rowApp sheet k = getD sheet (8008 + k * 6 + 1) 0
+rowApp sheet k = getD sheet (rowPlace k + 1) 0
 
 unfoldable pub rowYear : List ℕ → ℕ → ℕ
-rowYear sheet k = getD sheet (8008 + k * 6 + 2) 0
+rowYear sheet k = getD sheet (rowPlace k + 2) 0
 
 unfoldable pub rowPrice : List ℕ → ℕ → ℕ
-rowPrice sheet k = getD sheet (8008 + k * 6 + 3) 0
+rowPrice sheet k = getD sheet (rowPlace k + 3) 0
 
 unfoldable pub rowDraw : List ℕ → ℕ → ℕ
-rowDraw sheet k = getD sheet (8008 + k * 6 + 4) 0
+rowDraw sheet k = getD sheet (rowPlace k + 4) 0
 
-unfoldable pub rowCap : List ℕ → ℕ → ℕ
-rowCap sheet k = getD sheet (8008 + k * 6 + 5) 0
+unfoldable pub rowAdmin : List ℕ → ℕ → ℕ
+rowAdmin sheet k = getD sheet (rowPlace k + 5) 0
 
--- ---- the figures of a bid in a year, 3 numbers to a year and 8 years to a bid: reference price, load factor × hours × capacity, (1 − TLM) × RQM
+-- ---- the figures of a bid in a year: reference price, load factor × hours × capacity, (1 − TLM) × RQM
 unfoldable pub figReference : List ℕ → (k y : ℕ) → ℕ
-figReference sheet k y = getD sheet (328 + k * 24 + y * 3) 0
+figReference sheet k y = getD sheet (figurePlace k y) 0
 
 unfoldable pub figEnergy : List ℕ → (k y : ℕ) → ℕ
-figEnergy sheet k y = getD sheet (328 + k * 24 + y * 3 + 1) 0
+figEnergy sheet k y = getD sheet (figurePlace k y + 1) 0
 
 unfoldable pub figShare : List ℕ → (k y : ℕ) → ℕ
-figShare sheet k y = getD sheet (328 + k * 24 + y * 3 + 2) 0
+figShare sheet k y = getD sheet (figurePlace k y + 2) 0
 
 -- the exact cost in parts of bid k in year y at a clearing price
 unfoldable pub sheetCost : List ℕ → (k price y : ℕ) → ℕ
-sheetCost sheet k price y = (min price (rowCap sheet k) - figReference sheet k y) * figEnergy sheet k y * figShare sheet k y
+sheetCost sheet k price y = (min price (rowAdmin sheet k) - figReference sheet k y) * figEnergy sheet k y * figShare sheet k y
 
 -- ---- the pot that a sheet shows, of a size: so many years, sealed bids, and bids with the automatic ones
 abbrev pub inAuction : List ℕ → ℕ → Bool
@@ -102,26 +127,19 @@ potIn sheet of = record {
   cost = λ k price z. pick (ltb z (of .years)) (sheetCost sheet k price z) 0;
   budget = λ z. pick (ltb z (of .years)) (limitAt sheet z) 0;
   draw = rowDraw sheet;
-  cap = rowCap sheet;
+  admin = rowAdmin sheet;
 }
-
--- load factor × hours × capacity, and (1 − TLM) × RQM, at their greatest
-abbrev pub mostEnergy : ℕ
-mostEnergy = whole * (24 * longYear * largestCapacity)
-
-abbrev pub mostShare : ℕ
-mostShare = whole * whole
 
 -- what has been seen to before a pot is cleared
 pub record Ready (sheet : List ℕ) (of : Size) : Type 0 where
-  pub few : of .bids ≤ mostBids + mostApps
+  pub few : of .bids ≤ mostNumbers
   pub sealed : of .sealed ≤ of .bids
   pub some : 0 < of .years
   pub years : of .years ≤ mostYears
   pub app : (k : ℕ) → k < of .bids → rowApp sheet k < mostApps
   pub year : (k : ℕ) → k < of .bids → rowYear sheet k < mostDeliveries
   pub price : (k : ℕ) → k < of .bids → rowPrice sheet k ≤ highestPrice
-  pub cap : (k : ℕ) → k < of .bids → rowCap sheet k ≤ highestPrice
+  pub admin : (k : ℕ) → k < of .bids → rowAdmin sheet k ≤ highestPrice
   pub draw : (k : ℕ) → k < of .bids → rowDraw sheet k < 65536
   pub reference : (k z : ℕ) → k < of .bids → z < of .years → figReference sheet k z ≤ highestPrice
   pub energy : (k z : ℕ) → k < of .bids → z < of .years → figEnergy sheet k z ≤ mostEnergy

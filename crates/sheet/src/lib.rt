@@ -2,7 +2,8 @@
 // auction reads; and its size. specs/Sheet.antt says what stands where.
 ghost use mathlib.Core.Path.{_≡_};
 ghost use Prim.Native.Nat.{_<_};
-ghost use Rattle.sheet.specs.Sheet.{limitAt, entrantAt, rowStanding, rowApp, rowYear, rowPrice, rowDraw, rowCap, figReference, figEnergy, figShare};
+ghost use Rattle.rules.specs.Names.{mostNumbers};
+ghost use Rattle.sheet.specs.Sheet.{limitAt, entrantAt, rowStanding, rowApp, rowYear, rowPrice, rowDraw, rowAdmin, figReference, figEnergy, figShare};
 
 // How much of a sheet is used: the years of the file; its sealed bids; these and the automatic bid of each application; and the bids that enter the auction.
 pub struct Size {
@@ -15,8 +16,8 @@ pub struct Size {
 // The columns of a row of totals, and of the limits that it is held to: the years' money.
 pub const COLUMNS: usize = 8;
 
-// The most numbers of bids.
-pub const BIDS: usize = 320;
+// Places for the bids, by number.
+pub const BIDS: usize = names::NUMBERS;
 
 // Numbers to a row of a bid; to a year of its figures, and to all years of them.
 pub const ROW: usize = 6;
@@ -53,7 +54,7 @@ pub fn limit(sheet: &Sheet, c: usize) -> u64
 
 // The bid that enters the auction at place j of their list.
 pub fn entrant(sheet: &Sheet, j: usize) -> usize
-    requires { ⌜ j < 320 ⌝ }
+    requires { ⌜ j < mostNumbers ⌝ }
     ensures { λ r. ⌜ r ≡ entrantAt (now (sheet .entry)) j ⌝ }
 {
     sheet[ENTRANTS_AT + j] as usize
@@ -61,63 +62,63 @@ pub fn entrant(sheet: &Sheet, j: usize) -> usize
 
 // Does bid k enter the auction, is it spare, or of another pot?
 pub fn standing(sheet: &Sheet, k: usize) -> u64
-    requires { ⌜ k < 320 ⌝ }
+    requires { ⌜ k < mostNumbers ⌝ }
     ensures { λ r. ⌜ r ≡ rowStanding (now (sheet .entry)) k ⌝ }
 {
     sheet[ROWS_AT + k * ROW]
 }
 
 pub fn app(sheet: &Sheet, k: usize) -> usize
-    requires { ⌜ k < 320 ⌝ }
+    requires { ⌜ k < mostNumbers ⌝ }
     ensures { λ r. ⌜ r ≡ rowApp (now (sheet .entry)) k ⌝ }
 {
     sheet[ROWS_AT + k * ROW + 1] as usize
 }
 
 pub fn year(sheet: &Sheet, k: usize) -> usize
-    requires { ⌜ k < 320 ⌝ }
+    requires { ⌜ k < mostNumbers ⌝ }
     ensures { λ r. ⌜ r ≡ rowYear (now (sheet .entry)) k ⌝ }
 {
     sheet[ROWS_AT + k * ROW + 2] as usize
 }
 
 pub fn price(sheet: &Sheet, k: usize) -> u64
-    requires { ⌜ k < 320 ⌝ }
+    requires { ⌜ k < mostNumbers ⌝ }
     ensures { λ r. ⌜ r ≡ rowPrice (now (sheet .entry)) k ⌝ }
 {
     sheet[ROWS_AT + k * ROW + 3]
 }
 
 pub fn draw(sheet: &Sheet, k: usize) -> u64
-    requires { ⌜ k < 320 ⌝ }
+    requires { ⌜ k < mostNumbers ⌝ }
     ensures { λ r. ⌜ r ≡ rowDraw (now (sheet .entry)) k ⌝ }
 {
     sheet[ROWS_AT + k * ROW + 4]
 }
 
-pub fn cap(sheet: &Sheet, k: usize) -> u64
-    requires { ⌜ k < 320 ⌝ }
-    ensures { λ r. ⌜ r ≡ rowCap (now (sheet .entry)) k ⌝ }
+pub fn admin(sheet: &Sheet, k: usize) -> u64
+    requires { ⌜ k < mostNumbers ⌝ }
+    ensures { λ r. ⌜ r ≡ rowAdmin (now (sheet .entry)) k ⌝ }
 {
     sheet[ROWS_AT + k * ROW + 5]
 }
 
 pub fn reference(sheet: &Sheet, k: usize, y: usize) -> u64
-    requires { ⌜ (k < 320) × (y < 8) ⌝ }
+    requires { ⌜ (k < mostNumbers) × (y < 8) ⌝ }
     ensures { λ r. ⌜ r ≡ figReference (now (sheet .entry)) k y ⌝ }
 {
     sheet[FIGURES_AT + k * FIGURES + y * FIGURE]
 }
 
 pub fn energy(sheet: &Sheet, k: usize, y: usize) -> u64
-    requires { ⌜ (k < 320) × (y < 8) ⌝ }
+    requires { ⌜ (k < mostNumbers) × (y < 8) ⌝ }
     ensures { λ r. ⌜ r ≡ figEnergy (now (sheet .entry)) k y ⌝ }
 {
     sheet[FIGURES_AT + k * FIGURES + y * FIGURE + 1]
 }
 
 pub fn share(sheet: &Sheet, k: usize, y: usize) -> u64
-    requires { ⌜ (k < 320) × (y < 8) ⌝ }
+    requires { ⌜ (k < mostNumbers) × (y < 8) ⌝ }
     ensures { λ r. ⌜ r ≡ figShare (now (sheet .entry)) k y ⌝ }
 {
     sheet[FIGURES_AT + k * FIGURES + y * FIGURE + 2]

@@ -151,8 +151,8 @@ fn bids(file: &[u8], n: u64, count: usize) {
 pub fn sections(file: &[u8], z: Sections) {
     let y = z.years as u64;
     years(file, y, 0);
-    pots(file, y, z.pots as u64, z.second);
-    technologies(file, y, z.technologies as u64, z.third);
-    applications(file, z.applications as u64, z.fourth);
-    bids(file, z.bids as u64, z.fifth);
+    pots(file, y, z.pots as u64, z.pots_at);
+    technologies(file, y, z.technologies as u64, z.technologies_at);
+    applications(file, z.applications as u64, z.applications_at);
+    bids(file, z.bids as u64, z.bids_at);
 }

@@ -14,13 +14,13 @@ use Rattle.rules.specs.File.{Round}
 use Rattle.rules.specs.Pot.{Pot, auction, wideEnd, adminFits, winners, outcome, priceIn, totalIn, paid, reason, winnersOf}
 use Rattle.rules.specs.Round.{mine, enters, silent, assemble, potOf}
 use Rattle.rules.specs.Result.{Told, told, toldIn, appTold, potAt}
-use Rattle.laws.specs.Lists.{case, In, here, sift-in, in-sift, in-below, below-in}
-use Rattle.laws.specs.Reading.{Sound, tech-pot, app-tech, bid-app}
-use Rattle.laws.specs.Bids.{appPot, bidPot, mine-own, mine-auto, bid-own}
+use Rattle.pot_laws.specs.Lists.{case, In, here, sift-in, in-sift, in-below, below-in}
+use Rattle.reading_laws.specs.Reading.{Sound, tech-pot, app-tech, bid-app}
+use Rattle.round_laws.specs.Bids.{appPot, bidPot, mine-own, mine-auto, bid-own}
 use Rattle.sheet.specs.declared.Size.{Size}
 use Rattle.sheet.specs.Sheet.{rowStanding, rowPrice, absent, inAuction, inTest, potIn}
-use Rattle.sets.specs.Sets.{fill}
-use Rattle.sets.proofs.Arrays.{put-is, memb-sift, fill-length, fill-at}
+use Rattle.arrays.specs.Sets.{fill}
+use Rattle.arrays.proofs.Arrays.{put-is, memb-sift, fill-length, fill-at}
 use Rattle.fill.specs.Fill.{sizeOf}
 use Rattle.auction.specs.declared.Cleared.{Cleared}
 use Rattle.auction.specs.Cleared.{bidOr, paidOr, ClearedAs}

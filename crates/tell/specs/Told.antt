@@ -8,9 +8,9 @@ use Rattle.rules.specs.File.{Round}
 use Rattle.rules.specs.Pot.{outcome, priceIn, totalIn, reason}
 use Rattle.rules.specs.Round.{potOf}
 use Rattle.rules.specs.Result.{appTold, potAt}
-use Rattle.laws.specs.Bids.{appPot, bidPot}
+use Rattle.round_laws.specs.Bids.{appPot, bidPot}
 use Rattle.sheet.specs.Sheet.{rowStanding, rowPrice, inAuction}
-use Rattle.sets.specs.Sets.{fill}
+use Rattle.arrays.specs.Sets.{fill}
 use Rattle.auction.specs.declared.Cleared.{Cleared}
 use Rattle.result.specs.declared.Tellings.{Tellings}
 use Rattle.tell.specs.Tell.{wonIn, bidIn, paidIn, autoIn, stands, anewOf, placed}

@@ -2,10 +2,12 @@
 ghost use mathlib.Core.Path.{_≡_};
 ghost use Prim.Native.Nat.{_+_, _-_, _*_, _<_};
 ghost use lib.ListN.{length, getD};
-ghost use Rattle.sheet.specs.Sheet.{rowStanding, rowPrice, inAuction};
-ghost use Rattle.sets.specs.Sets.{fill};
+ghost use Rattle.rules.specs.Names.{mostNumbers};
+ghost use Rattle.sheet.specs.Sheet.{rowStanding, rowPrice, inAuction, sheetLength};
+ghost use Rattle.arrays.specs.Sets.{fill};
 ghost use Rattle.tell.specs.Told.{ToldTo, toldWith};
 use auction::Cleared;
+use names::NUMBERS;
 use result::Tellings;
 use rules::Sections;
 use sheet::Sheet;
@@ -63,7 +65,7 @@ fn auto(standing: u64, reason: u64) -> u64
 
 // Is bid k of the pot that the sheet shows?
 fn stands(sheet: &Sheet, k: usize) -> bool
-    requires { ⌜ k < 320 ⌝ }
+    requires { ⌜ k < mostNumbers ⌝ }
     ensures { λ r. ⌜ r ≡ stands (now (sheet .entry)) k ⌝ }
 {
     sheet::standing(sheet, k) != sheet::ABSENT
@@ -71,7 +73,7 @@ fn stands(sheet: &Sheet, k: usize) -> bool
 
 // Does bid k enter the auction of that pot?
 fn enters(sheet: &Sheet, k: usize) -> bool
-    requires { ⌜ k < 320 ⌝ }
+    requires { ⌜ k < mostNumbers ⌝ }
     ensures { λ r. ⌜ r ≡ inAuction (now (sheet .entry)) k ⌝ }
 {
     sheet::standing(sheet, k) == sheet::ENTERED
@@ -141,7 +143,7 @@ fn all_paid(told: [u64; 64], sheet: &Sheet, of: Size, outcome: u64, prices: [u64
 }
 
 // The reasons of their automatic bids.
-fn all_autos(told: [u64; 64], sheet: &Sheet, of: Size, reasons: [u64; 320]) -> [u64; 64]
+fn all_autos(told: [u64; 64], sheet: &Sheet, of: Size, reasons: [u64; NUMBERS]) -> [u64; 64]
     requires { ⌜ Numbered of ⌝ }
     ensures { λ r. ⌜ r ≡ fill told (λ a. anewOf (stands (now (sheet .entry)) (of .sealed + a)) (autoIn (rowStanding (now (sheet .entry)) (of .sealed + a)) (getD reasons (of .sealed + a) 0)) (getD told a 0)) (of .bids - of .sealed) ⌝ }
 {
@@ -161,7 +163,7 @@ fn all_autos(told: [u64; 64], sheet: &Sheet, of: Size, reasons: [u64; 320]) -> [
 }
 
 // The reasons of the sealed bids.
-fn all_reasons(told: [u64; 256], sheet: &Sheet, of: Size, reasons: [u64; 320]) -> [u64; 256]
+fn all_reasons(told: [u64; 256], sheet: &Sheet, of: Size, reasons: [u64; NUMBERS]) -> [u64; 256]
     requires { ⌜ Numbered of ⌝ }
     ensures { λ r. ⌜ r ≡ fill told (λ k. anewOf (inAuction (now (sheet .entry)) k) (getD reasons k 0) (getD told k 0)) (of .sealed) ⌝ }
 {
@@ -259,7 +261,7 @@ fn nothing() -> Tellings
 
 // A sheet to be filled.
 fn blank_sheet() -> Sheet
-    ensures { λ r. ⌜ (length r ≡ 9928) × Blank r ⌝ }
+    ensures { λ r. ⌜ (length r ≡ sheetLength) × Blank r ⌝ }
 {
     [0; sheet::LENGTH]
 }

@@ -11,12 +11,12 @@ use lib.Pow.{pow-pos, pow-add, pow-mono}
 use lib.ListN.{length, getD, set, replicate}
 use lib.Dec.{eqb, leb}
 use borrow.Author.Tests.{eqb-true, eqb-false, ne-eqb}
+use Rattle.rules.specs.Value.{dearest}
 use Rattle.rules.specs.Pot.{has, best}
-use Rattle.laws.specs.Lists.{case, clash}
-use Rattle.laws.specs.Bits.{has-suc, has-none, add-lt}
-use Rattle.sets.specs.Sets.{fill}
-use Rattle.sets.proofs.Arrays.{zeros, fill-at, fill-length, fill-le}
-use Rattle.totals.specs.Totals.{dearest}
+use Rattle.pot_laws.specs.Lists.{case, clash}
+use Rattle.pot_laws.specs.Bits.{has-suc, has-none, add-lt}
+use Rattle.arrays.specs.Sets.{fill}
+use Rattle.arrays.proofs.Arrays.{zeros, fill-at, fill-length, fill-le}
 use Rattle.totals.proofs.Laws.{fits-same}
 use Rattle.sheet.specs.declared.Size.{Size}
 use Rattle.ties.specs.Ties.{touchOf, touchedOf, addedOf, oneAt, noOnes, onesOf, costAt, noCosts, costsOf, oneYearAt, noOneYears, oneYearsOf, yearAt, noYears, yearsOf, maskTotal, figure, okMask, lastMask, bestMask, jointOf, unionOf, okBy, lastBy, bestBy, Base, Summed, Placed, Tabled, Dated}

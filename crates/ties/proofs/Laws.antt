@@ -12,10 +12,10 @@ use lib.Dec.{eqb, leb, ltb}
 use borrow.Author.Tests.{eqb-true, eqb-false, ne-eqb, ltb-true, ltb-false, lt-ltb, le-ltb, lt-leb, le-leb}
 use Rattle.rules.specs.Lists.{pick}
 use Rattle.rules.specs.Pot.{has, best}
-use Rattle.laws.specs.Lists.{case}
-use Rattle.laws.specs.Bits.{add-lt}
-use Rattle.sets.specs.Sets.{fill, members}
-use Rattle.sets.proofs.Arrays.{put-is, fill-length, fill-at, zeros}
+use Rattle.pot_laws.specs.Lists.{case}
+use Rattle.pot_laws.specs.Bits.{add-lt}
+use Rattle.arrays.specs.Sets.{fill, members}
+use Rattle.arrays.proofs.Arrays.{put-is, fill-length, fill-at, zeros}
 use Rattle.sheet.specs.declared.Size.{Size}
 use Rattle.sheet.specs.Sheet.{limitAt, rowYear, rowDraw}
 use Rattle.totals.specs.Totals.{worthOf, totalOf, noRow, filled, fitsTo}

@@ -7,13 +7,13 @@ use native.Mathlib.Omega.{arith}
 use lib.ListN.{length, getD, set, length-set}
 use lib.Dec.{eqb, ltb}
 use borrow.Author.Tests.{eqb-true, eqb-false, eq-eqb, ne-eqb, ltb-true}
+use Rattle.rules.specs.Value.{dearest}
 use Rattle.rules.specs.Lists.{sift, below}
-use Rattle.laws.specs.Lists.{case, In, here, there, sift-in, sift-le, below-in}
-use Rattle.sets.specs.Sets.{members}
-use Rattle.sets.proofs.Arrays.{fill-length, fill-at, fill-le, zeros, members-less, put-is}
+use Rattle.pot_laws.specs.Lists.{case, In, here, there, sift-in, sift-le, below-in}
+use Rattle.arrays.specs.Sets.{members}
+use Rattle.arrays.proofs.Arrays.{fill-length, fill-at, fill-le, zeros, members-less, put-is}
 use Rattle.sheet.specs.declared.Size.{Size}
 use Rattle.sheet.specs.Sheet.{rowDraw, Ready}
-use Rattle.totals.specs.Totals.{dearest}
 use Rattle.totals.proofs.Laws.{worth-le, total-le}
 use Rattle.ties.specs.Ties.{raisedTo, baseAt, noBase, basesOf, Base, listed, noList, compactOf, aboveOf, rankOf, ranksOf, startOf, startsOf, ownAt, noOwn, ownsOf, Numbers, Summed, Placed}
 

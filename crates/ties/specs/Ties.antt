@@ -5,12 +5,13 @@ use mathlib.Core.List.{List, [], _∷_}
 use lib.Bits.{bitOr}
 use lib.ListN.{length, getD, set, replicate}
 use lib.Dec.{leb, ltb}
+use Rattle.rules.specs.Value.{dearest}
 use Rattle.rules.specs.Lists.{pick, sift}
 use Rattle.rules.specs.Pot.{has, best}
-use Rattle.sets.specs.Sets.{fill, none, members}
+use Rattle.arrays.specs.Sets.{fill, none, members}
 use Rattle.sheet.specs.declared.Size.{Size}
 use Rattle.sheet.specs.Sheet.{rowYear, rowDraw}
-use Rattle.totals.specs.Totals.{dearest, worthOf, totalOf, fitsTo}
+use Rattle.totals.specs.Totals.{worthOf, totalOf, fitsTo}
 use Rattle.ties.specs.declared.Best.{Best}
 
 -- ---- the present winners, for each set t of delivery years, a number with one binary place for each

@@ -5,11 +5,13 @@ ghost use mathlib.Core.Path.{_≡_};
 ghost use mathlib.Core.Bool.{_&&_};
 ghost use Prim.Native.Nat.{ℕ, _+_, _-_, _*_, _/_, _^_, _≤_, _<_};
 ghost use lib.ListN.{length, getD};
+ghost use Rattle.rules.specs.Names.{mostNumbers};
 ghost use Rattle.rules.specs.Pot.{has};
-ghost use Rattle.sets.specs.Sets.{built, members};
+ghost use Rattle.arrays.specs.Sets.{built, members};
 ghost use Rattle.sheet.specs.Sheet.{Ready};
 ghost use Rattle.totals.specs.Totals.{fitsTo};
 ghost use Rattle.ties.specs.Ties.{raisedTo, laidTo, basesOf, Base, aloneTotal, aloneFits, keepsOf, compactOf, aboveOf, ranksOf, startsOf, ownAt, ownsOf, Numbers, touchOf, touchedOf, bestMask, combinationOf, Summed, Placed, addedOf, onesOf, costsOf, oneYearsOf, yearsOf, jointOf, lookedAt, bestBy, Tabled, Dated, choiceOf};
+use names::NUMBERS;
 use names::YEARS;
 use sheet::Sheet;
 use sheet::Size;
@@ -74,7 +76,7 @@ fn laid(table: [u64; 128], row: [u64; 8], t: usize) -> [u64; 128]
 }
 
 // What the present winners cost, a row of years for each set of delivery years that has the price p.
-pub fn bases(sheet: &Sheet, of: Size, marks: [u16; 320], prices: [u64; 4], p: u64) -> [u64; 128]
+pub fn bases(sheet: &Sheet, of: Size, marks: [u16; NUMBERS], prices: [u64; 4], p: u64) -> [u64; 128]
     requires { ⌜ Ready (now sheet) of ⌝ }
     ensures { λ r. ⌜ r ≡ basesOf (now (sheet .entry)) of marks prices p ⌝ }
 {
@@ -129,11 +131,11 @@ fn keeps(sheet: &Sheet, of: Size, base: &[u64], p: u64, taken: bool, k: usize) -
 }
 
 // Those of a set that fit alone.
-pub fn rest(sheet: &Sheet, of: Size, base: &[u64], set: [bool; 320], p: u64) -> [bool; 320]
+pub fn rest(sheet: &Sheet, of: Size, base: &[u64], set: [bool; NUMBERS], p: u64) -> [bool; NUMBERS]
     requires { ⌜ Ready (now sheet) of × Base (now base) ⌝ }
     ensures { λ r. ⌜ r ≡ built (keepsOf (now (sheet .entry)) of (now (base .entry)) p set) (of .bids) ⌝ }
 {
-    let mut out = [false; 320];
+    let mut out = [false; NUMBERS];
     let m = of.bids;
     let mut i: usize = 0;
     while i < m {
@@ -144,8 +146,8 @@ pub fn rest(sheet: &Sheet, of: Size, base: &[u64], set: [bool; 320], p: u64) -> 
 }
 
 // The numbers of the bids of a small set, in the order of the file.
-fn compact(set: [bool; 320], m: usize) -> [usize; 10]
-    requires { ⌜ (m ≤ 320) × (length (members set m) ≤ 10) ⌝ }
+fn compact(set: [bool; NUMBERS], m: usize) -> [usize; 10]
+    requires { ⌜ (m ≤ mostNumbers) × (length (members set m) ≤ 10) ⌝ }
     ensures { λ r. ⌜ r ≡ compactOf set m ⌝ }
 {
     let mut list = [0usize; 10];
@@ -463,11 +465,11 @@ fn best_mask(
 }
 
 // The bids of a combination, as a set.
-fn combination(list: &[usize], ranks: &[u32], k: usize, mask: u32) -> [bool; 320]
-    requires { ⌜ Numbers (now list) k 320 × (k ≤ length (now ranks)) × ((j : ℕ) → j < k → getD (now ranks) j 0 < 32) ⌝ }
+fn combination(list: &[usize], ranks: &[u32], k: usize, mask: u32) -> [bool; NUMBERS]
+    requires { ⌜ Numbers (now list) k mostNumbers × (k ≤ length (now ranks)) × ((j : ℕ) → j < k → getD (now ranks) j 0 < 32) ⌝ }
     ensures { λ r. ⌜ r ≡ combinationOf (now (list .entry)) (now (ranks .entry)) mask k ⌝ }
 {
-    let mut out = [false; 320];
+    let mut out = [false; NUMBERS];
     let mut j: usize = 0;
     while j < k {
         if member(mask, ranks[j]) {
@@ -483,10 +485,10 @@ pub fn choose(
     sheet: &Sheet,
     of: Size,
     base: &[u64],
-    set: [bool; 320],
+    set: [bool; NUMBERS],
     k: usize,
     p: u64,
-) -> [bool; 320]
+) -> [bool; NUMBERS]
     requires { ⌜ Ready (now sheet) of × Base (now base) × (k ≡ length (members set (of .bids))) × (k ≤ 10) ⌝ }
     ensures { λ r. ⌜ r ≡ choiceOf (now (sheet .entry)) of (now (base .entry)) set k p ⌝ }
 {

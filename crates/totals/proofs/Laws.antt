@@ -11,18 +11,18 @@ use lib.Dec.{eqb, ltb}
 use borrow.Author.Tests.{eq-eqb, ne-eqb, le-ltb, lt-ltb, lt-leb, le-leb, ltb-true, ltb-false}
 use Rattle.rules.specs.Names.{becauseWon}
 use Rattle.rules.specs.Lists.{pick, keep, sift, below, sum}
-use Rattle.rules.specs.Value.{ceilDiv, pound}
-use Rattle.laws.specs.Lists.{case, In, here, there, below-in}
-use Rattle.sets.specs.Sets.{fill}
-use Rattle.sets.proofs.Laws.{done, fill-next}
-use Rattle.sets.proofs.Arrays.{fill-at, fill-length, zeros}
+use Rattle.rules.specs.Value.{ceilDiv, pound, dearest}
+use Rattle.pot_laws.specs.Lists.{case, In, here, there, below-in}
+use Rattle.arrays.specs.Sets.{fill}
+use Rattle.arrays.proofs.Laws.{done, fill-next}
+use Rattle.arrays.proofs.Arrays.{fill-at, fill-length, zeros}
 use Rattle.sheet.specs.declared.Size.{Size}
-use Rattle.sheet.specs.Sheet.{Ready, limitAt, rowStanding, rowYear, rowPrice, rowCap, figReference, figEnergy, figShare, sheetCost, inTest, absent}
+use Rattle.sheet.specs.Sheet.{Ready, limitAt, rowStanding, rowYear, rowPrice, rowAdmin, figReference, figEnergy, figShare, sheetCost, inTest, absent}
 use Rattle.value.specs.Laws.{at-most}
-use Rattle.totals.specs.Totals.{Adding, dearest, worthOf, costOf, totalOf, noRow, filled, raised, fitsTo, autoTotal}
+use Rattle.totals.specs.Totals.{Adding, worthOf, costOf, totalOf, noRow, filled, raised, fitsTo, autoTotal}
 
 module _ (sheet : List ℕ) where
-  pub worth-is : (k price z : ℕ) {c s f e h r : ℕ} → c ≡ rowCap sheet k → s ≡ min price c → f ≡ figReference sheet k z → e ≡ figEnergy sheet k z → h ≡ figShare sheet k z
+  pub worth-is : (k price z : ℕ) {c s f e h r : ℕ} → c ≡ rowAdmin sheet k → s ≡ min price c → f ≡ figReference sheet k z → e ≡ figEnergy sheet k z → h ≡ figShare sheet k z
       → r ≡ ceilDiv ((s - f) * e * h) pound → r ≡ worthOf sheet k price z
   unfolding worthOf sheetCost
   worth-is k price z ec es ef ee eh er = rw (er, es, ec, ef, ee, eh)
@@ -125,8 +125,8 @@ added-is f g n h =
 pub worth-le : (sheet : List ℕ) (of : Size) (k p z : ℕ) → Ready sheet of → k < of .bids → z < of .years → worthOf sheet k p z ≤ dearest
 unfolding worthOf sheetCost
 worth-le sheet of k p z ok h g =
-    at-most (min p (rowCap sheet k)) (figReference sheet k z) (figEnergy sheet k z) (figShare sheet k z)
-    (record { price-ok = omega (arith, ok .cap k h); reference-ok = ok .reference k z h g; energy-ok = ok .energy k z h g; share-ok = ok .share k z h g })
+    at-most (min p (rowAdmin sheet k)) (figReference sheet k z) (figEnergy sheet k z) (figShare sheet k z)
+    (record { price-ok = omega (arith, ok .admin k h); reference-ok = ok .reference k z h g; energy-ok = ok .energy k z h g; share-ok = ok .share k z h g })
 
 pub pick-le : (t : Bool) {x q : ℕ} → x ≤ q → pick t x 0 ≤ q
 pick-le true h = h

@@ -10,8 +10,8 @@ use borrow.Author.Tests.{lt-ltb}
 use Rattle.rules.specs.Names.{becauseWon}
 use Rattle.rules.specs.Lists.{pick, memb, sift, below, sum}
 use Rattle.rules.specs.Pot.{Pot, value, tally, within, adminTotal, adminFits}
-use Rattle.laws.specs.Lists.{case, clash, In, memb-in, in-sift, sift-in, in-below, below-in}
-use Rattle.sets.proofs.Arrays.{fill-at}
+use Rattle.pot_laws.specs.Lists.{case, clash, In, memb-in, in-sift, sift-in, in-below, below-in}
+use Rattle.arrays.proofs.Arrays.{fill-at}
 use Rattle.sheet.specs.declared.Size.{Size}
 use Rattle.sheet.specs.Sheet.{potIn, Ready, inAuction, inTest, rowYear, rowPrice}
 use Rattle.totals.specs.Totals.{worthOf, costOf, totalOf, noRow, filled, fitsTo, rowFits, autoTotal}
@@ -94,9 +94,9 @@ module _ (sheet : List ℕ) (of : Size) (ok : Ready sheet of) where
       size g = unfold noRow in g
 
   -- ---- the first test
-  pub admin-is : (z : ℕ) → z < of .years → autoTotal sheet (of .sealed) z (of .bids) ≡ adminTotal P z
+  pub admin-total-is : (z : ℕ) → z < of .years → autoTotal sheet (of .sealed) z (of .bids) ≡ adminTotal P z
   unfolding autoTotal adminTotal
-  admin-is z h =
+  admin-total-is z h =
       sum-same (λ k. worthOf sheet k (rowPrice sheet k) z) (λ k. value P k (rowPrice sheet k) z) (λ k. sym (value-is k (rowPrice sheet k) z h)) (sift (inTest sheet (of .sealed)) (below (of .bids))) ∙ opened
     where
       opened : sum (λ k. value P k (rowPrice sheet k) z) (sift (inTest sheet (of .sealed)) (below (of .bids))) ≡ sum (λ k. value P k (P .price k) z) (P .autos)
@@ -106,7 +106,7 @@ module _ (sheet : List ℕ) (of : Size) (ok : Ready sheet of) where
   unfolding adminFits
   admin-fits {row} er et =
       et ∙ ap (λ (r : List ℕ). rowFits sheet r (of .years)) er
-      ∙ fits-is (λ z. getD (filled (λ z. autoTotal sheet (of .sealed) z (of .bids)) (of .years)) z 0) (adminTotal P) (of .years) (omega arith) (λ z h. row-at (λ x. autoTotal sheet (of .sealed) x (of .bids)) z h ∙ admin-is z h)
+      ∙ fits-is (λ z. getD (filled (λ z. autoTotal sheet (of .sealed) z (of .bids)) (of .years)) z 0) (adminTotal P) (of .years) (omega arith) (λ z h. row-at (λ x. autoTotal sheet (of .sealed) x (of .bids)) z h ∙ admin-total-is z h)
       ∙ opened
     where
       opened : within P (adminTotal P) (of .years) ≡ within P (adminTotal P) (P .years)

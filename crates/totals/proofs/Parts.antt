@@ -9,13 +9,14 @@ use native.Mathlib.Omega.{arith}
 use lib.ListN.{length, getD}
 use lib.Dec.{eqb}
 use borrow.Author.Tests.{eq-eqb, ne-eqb}
+use Rattle.rules.specs.Value.{dearest}
 use Rattle.rules.specs.Names.{becauseWon}
 use Rattle.rules.specs.Lists.{pick, sift, below}
-use Rattle.laws.specs.Lists.{case, In, here, there, sift-in, sift-le, below-in, length-below}
+use Rattle.pot_laws.specs.Lists.{case, In, here, there, sift-in, sift-le, below-in, length-below}
 use Rattle.sheet.specs.declared.Size.{Size}
 use Rattle.sheet.specs.Sheet.{Ready, entrantAt, entrants, inAuction, rowYear}
 use Rattle.sheet.proofs.Entrants.{entrants-length, passed-small}
-use Rattle.totals.specs.Totals.{dearest, worthOf, costOf, totalOf, partOn, partOf, filled, raised}
+use Rattle.totals.specs.Totals.{worthOf, costOf, totalOf, partOn, partOf, filled, raised}
 use Rattle.totals.proofs.Laws.{worth-le, pick-le, added-is}
 
 module _ (sheet marks : List ℕ) (price d : ℕ) where

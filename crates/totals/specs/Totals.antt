@@ -5,18 +5,14 @@ use mathlib.Core.List.{List, [], _∷_}
 use mathlib.Core.Path.{_≡_}
 use lib.ListN.{getD, replicate}
 use lib.Dec.{eqb, leb}
-use Rattle.rules.specs.Names.{mostBids, mostApps, becauseWon}
+use Rattle.rules.specs.Names.{mostNumbers, becauseWon}
 use Rattle.rules.specs.Lists.{pick, sift, below, sum}
-use Rattle.rules.specs.Value.{ceilDiv, pound}
-use Rattle.sets.specs.Sets.{fill}
+use Rattle.rules.specs.Value.{ceilDiv, pound, dearest}
+use Rattle.arrays.specs.Sets.{fill}
 use Rattle.sheet.specs.declared.Size.{Size}
 use Rattle.sheet.specs.Sheet.{limitAt, rowYear, rowPrice, sheetCost, inAuction, inTest, Ready}
 
 -- ---- values and totals
-
--- the greatest value of a bid
-abbrev pub dearest : ℕ
-dearest = 13176000000
 
 -- the value of bid k in year z at a clearing price
 unfoldable pub worthOf : (sheet : List ℕ) (k price z : ℕ) → ℕ
@@ -54,7 +50,7 @@ raised f row n = fill row (λ z. getD row z 0 + f z) n
 pub record Adding (sheet : List ℕ) (of : Size) (row : List ℕ) (k : ℕ) : Type 0 where
   pub ready : Ready sheet of
   pub known : k < of .bids
-  pub low : (z : ℕ) → z < of .years → getD row z 0 ≤ dearest * (mostBids + mostApps)
+  pub low : (z : ℕ) → z < of .years → getD row z 0 ≤ dearest * mostNumbers
 
 -- no figure of the first n columns is above its limit; and of a row
 unfoldable pub fitsTo : (ℕ → ℕ) → (sheet : List ℕ) → ℕ → Bool

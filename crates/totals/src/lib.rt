@@ -2,8 +2,10 @@
 // totals of the first test. specs/Totals.antt says what each function computes.
 ghost use mathlib.Core.Path.{_≡_};
 ghost use Prim.Native.Nat.{_≤_, _<_};
+ghost use Rattle.rules.specs.Value.{dearest};
 ghost use Rattle.sheet.specs.Sheet.{Ready};
-ghost use Rattle.totals.specs.Totals.{Adding, dearest, worthOf, totalOf, partOf, filled, raised, rowFits, autoTotal};
+ghost use Rattle.totals.specs.Totals.{Adding, worthOf, totalOf, partOf, filled, raised, rowFits, autoTotal};
+use names::NUMBERS;
 use sheet::COLUMNS;
 use sheet::Sheet;
 use sheet::Size;
@@ -16,7 +18,7 @@ pub fn worth(sheet: &Sheet, of: Size, k: usize, price: u64, z: usize) -> u64
     requires { ⌜ Ready (now sheet) of × (k < of .bids) × (z < of .years) ⌝ }
     ensures { λ r. ⌜ (r ≡ worthOf (now (sheet .entry)) k price z) × (r ≤ dearest) ⌝ }
 {
-    let strike = value::capped(price, sheet::cap(sheet, k));
+    let strike = value::capped(price, sheet::admin(sheet, k));
     let reference = sheet::reference(sheet, k, z);
     let energy = sheet::energy(sheet, k, z);
     value::value(strike, reference, energy, sheet::share(sheet, k, z))
@@ -38,7 +40,7 @@ fn added(sheet: &Sheet, of: Size, k: usize, price: u64, before: [u64; COLUMNS]) 
 }
 
 // Every winner revalued: the row of year totals.
-pub fn revalued(sheet: &Sheet, of: Size, marks: [u16; 320], prices: [u64; 4]) -> [u64; COLUMNS]
+pub fn revalued(sheet: &Sheet, of: Size, marks: [u16; NUMBERS], prices: [u64; 4]) -> [u64; COLUMNS]
     requires { ⌜ Ready (now sheet) of ⌝ }
     ensures { λ r. ⌜ r ≡ filled (λ z. totalOf (now (sheet .entry)) marks prices z (of .bids)) (of .years) ⌝ }
 {
@@ -57,7 +59,7 @@ pub fn revalued(sheet: &Sheet, of: Size, marks: [u16; 320], prices: [u64; 4]) ->
 }
 
 // Of the bids that entered the auction the winners that start in year d, all at one price: their row of year totals.
-pub fn part(sheet: &Sheet, of: Size, marks: [u16; 320], price: u64, d: usize) -> [u64; COLUMNS]
+pub fn part(sheet: &Sheet, of: Size, marks: [u16; NUMBERS], price: u64, d: usize) -> [u64; COLUMNS]
     requires { ⌜ Ready (now sheet) of ⌝ }
     ensures { λ r. ⌜ r ≡ filled (λ z. partOf (now (sheet .entry)) marks price d z (of .bids)) (of .years) ⌝ }
 {

@@ -4,7 +4,7 @@ use Prim.Native.Nat.{ℕ, _+_, _-_, _*_, _≤_, _<_}
 use native.Mathlib.Omega.{arith}
 use native.Mathlib.Nat.{mul-le-mul, mul-le-mul-right}
 use Rattle.rules.specs.Names.{highestPrice, whole}
-use Rattle.rules.specs.Value.{ceilDiv, pound, exactParts, valueOf}
+use Rattle.rules.specs.Value.{ceilDiv, pound, exactParts, valueOf, dearest}
 use Rattle.value.specs.Ranges.{InRange}
 
 module _ (price reference energy share : ℕ) where
@@ -30,8 +30,8 @@ module _ (price reference energy share : ℕ) where
   pub none-below : price ≤ reference → value ≡ 0
   none-below h = let z : price - reference ≡ 0 = omega arith in rw z (omega arith)
 
-  -- within the ranges it is at most 13,176,000,000
-  pub at-most : InRange price reference energy share → value ≤ 13176000000
+  -- within the ranges it is at most the dearest
+  pub at-most : InRange price reference energy share → value ≤ dearest
   at-most r =
       let d : price - reference ≤ highestPrice = omega (arith, r .price-ok) in
       omega (arith, mul-le-mul (mul-le-mul d (r .energy-ok)) (r .share-ok))

@@ -2,8 +2,8 @@
 ghost use mathlib.Core.Path.{_≡_};
 ghost use Prim.Native.Nat.{_-_, _*_, _≤_, min};
 ghost use Rattle.rules.specs.Names.{highestPrice};
-ghost use Rattle.rules.specs.Value.{ceilDiv, pound};
-ghost use Rattle.value.specs.Ranges.{mostShare, InRange};
+ghost use Rattle.rules.specs.Value.{ceilDiv, pound, mostShare, dearest};
+ghost use Rattle.value.specs.Ranges.{InRange};
 
 // The columns in which a product of up to 28 digits is taken: 10^9 units to the upper one, of which 10^8 make a pound.
 const COLUMN: u64 = 1000000000;
@@ -30,16 +30,16 @@ pub fn pounds(parts: u64, share: u64) -> u64
 }
 
 // The clearing price, capped at the administrative price.
-pub fn capped(price: u64, cap: u64) -> u64
-    ensures { λ r. ⌜ r ≡ min price cap ⌝ }
+pub fn capped(price: u64, admin: u64) -> u64
+    ensures { λ r. ⌜ r ≡ min price admin ⌝ }
 {
-    if price < cap { price } else { cap }
+    if price < admin { price } else { admin }
 }
 
 // The value of a bid in a year, where energy is load factor × hours × capacity and share is (1 − TLM) × RQM.
 pub fn value(price: u64, reference: u64, energy: u64, share: u64) -> u64
     requires { ⌜ InRange price reference energy share ⌝ }
-    ensures { λ r. ⌜ (r ≡ ceilDiv ((price - reference) * energy * share) pound) × (r ≤ 13176000000) ⌝ }
+    ensures { λ r. ⌜ (r ≡ ceilDiv ((price - reference) * energy * share) pound) × (r ≤ dearest) ⌝ }
 {
     let over = margin(price, reference);
     let parts = over * energy;

@@ -3,8 +3,8 @@ use mathlib.Core.Path.{_≡_}
 use native.Mathlib.Omega.{arith}
 use lib.ListN.{getD}
 use borrow.Author.Needs.{needs}
-use Rattle.sets.specs.Sets.{fill}
-use Rattle.sets.proofs.Laws.{done, fill-next}
+use Rattle.arrays.specs.Sets.{fill}
+use Rattle.arrays.proofs.Laws.{done, fill-next}
 use Rattle.auction.specs.Numbers.{payOf, noPay}
 use Rattle.auction.proofs.paid.Statement.{statement}
 use Rattle.auction.proofs.paid.Tie as tie

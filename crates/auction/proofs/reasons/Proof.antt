@@ -2,8 +2,8 @@ use Prim.Native.Nat.{_-_, _≤_}
 use mathlib.Core.Path.{_≡_}
 use native.Mathlib.Omega.{arith}
 use borrow.Author.Needs.{needs}
-use Rattle.sets.specs.Sets.{fill}
-use Rattle.sets.proofs.Laws.{done, fill-next}
+use Rattle.arrays.specs.Sets.{fill}
+use Rattle.arrays.proofs.Laws.{done, fill-next}
 use Rattle.auction.specs.Numbers.{reasonsOf, noReasons}
 use Rattle.auction.proofs.Laws.{reason-is, app-below, row-there}
 use Rattle.auction.proofs.reasons.Statement.{statement}

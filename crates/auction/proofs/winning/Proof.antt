@@ -3,7 +3,7 @@ use mathlib.Core.Path.{_≡_, _∙_}
 use mathlib.Core.Logic.{⊎-elim}
 use native.Mathlib.Omega.{arith}
 use borrow.Author.Needs.{needs}
-use Rattle.sets.proofs.Laws.{done}
+use Rattle.arrays.proofs.Laws.{done}
 use Rattle.auction.specs.Numbers.{winningOf}
 use Rattle.auction.proofs.Laws.{winning-hit, winning-miss, app-below, row-there}
 use Rattle.auction.proofs.winning.Statement.{statement}

@@ -9,31 +9,31 @@ returns : tie.Need-returns
 returns c = years-stop _ (c .enum-told .given .1) (c .before .before .read-years .ensures)
 
 read-pots-requires : tie.Need-read-pots-requires
-read-pots-requires c κs = sym (c .before .before .before .read-years .ensures) ∙ c .before .first .given .1
+read-pots-requires c κs = sym (c .before .before .before .read-years .ensures) ∙ c .before .years .given .1
 
 returns-2 : tie.Need-returns-2
 returns-2 c = pots-stop _ (c .enum-told2 .given .1) (c .before .before .read-pots .ensures)
 
 read-technologies-requires : tie.Need-read-technologies-requires
-read-technologies-requires c κs = sym (c .before .before .before .read-pots .ensures) ∙ c .before .second .given .1
+read-technologies-requires c κs = sym (c .before .before .before .read-pots .ensures) ∙ c .before .pots .given .1
 
 returns-3 : tie.Need-returns-3
 returns-3 c = techs-stop _ (c .enum-told3 .given .1) (c .before .before .read-technologies .ensures)
 
 read-applications-requires : tie.Need-read-applications-requires
-read-applications-requires c κs = sym (c .before .before .before .read-technologies .ensures) ∙ c .before .third .given .1
+read-applications-requires c κs = sym (c .before .before .before .read-technologies .ensures) ∙ c .before .technologies .given .1
 
 returns-4 : tie.Need-returns-4
 returns-4 c = apps-stop _ (c .enum-told4 .given .1) (c .before .before .read-applications .ensures)
 
 read-bids-requires : tie.Need-read-bids-requires
-read-bids-requires c κs = sym (c .before .before .before .read-applications .ensures) ∙ c .before .fourth .given .1
+read-bids-requires c κs = sym (c .before .before .before .read-applications .ensures) ∙ c .before .applications .given .1
 
 returns-5 : tie.Need-returns-5
 returns-5 c = bids-stop _ (c .enum-told5 .given .1) (c .before .before .read-bids .ensures)
 
 ending-requires : tie.Need-ending-requires
-ending-requires c κs = sym (c .before .before .before .read-bids .ensures) ∙ c .before .fifth .given .1
+ending-requires c κs = sym (c .before .before .before .read-bids .ensures) ∙ c .before .bids .given .1
 
 pub read-spec : {M : Type 1} → statement M
 read-spec =

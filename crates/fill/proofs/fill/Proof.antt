@@ -36,7 +36,7 @@ returns c =
     let R = roundIn (now (a .file)) (a .z) in
     let w = written refl (S .years-most) (c .before .before .before .before .before .before .before .before .fill-rows .ensures .0) (c .before .before .before .before .before .before .fill-figures .ensures .0) (c .before .before .before .fill-limits .ensures .0) (c .fill-entrants .ensures .0) (c .fill-entrants .ensures .1) in
     let bytes = c .before .before .before .before .before .before .before .before .before .before .shared-slice-known .given in
-    ((shows R S (a .pot) w, ready R S (a .pot) (part-byte (now (a .file)) (a .z .fourth + 2) (a .z .fifth) (λ i. omega (arith, bytes i))) (pre .0 .1) w), refl)
+    ((shows R S (a .pot) w, ready R S (a .pot) (part-byte (now (a .file)) (a .z .«applications_at» + 2) (a .z .«bids_at») (λ i. omega (arith, bytes i))) (pre .0 .1) w), refl)
 
 pub fill-spec : {M : Type 1} → statement M
 fill-spec =

@@ -5,13 +5,14 @@ use lib.ListN.{length}
 use native.Mathlib.Omega.{arith}
 use mathlib.Core.Logic.{⊎-elim}
 use denote.Ref.{now}
+use Rattle.sheet.specs.Sheet.{sheetLength}
 use Rattle.rows.specs.Rows.{roundIn}
 use Rattle.fill.proofs.Laws.{Done, done-none, done-own, done-other, done-all, of-pot, of-another}
 use Rattle.fill.proofs.fill_figures.Statement.{statement}
 use Rattle.fill.proofs.fill_figures.Tie as tie
 
 abbrev Inv-loop : tie.InvT-loop
-Inv-loop file z pot sheet₀ m k₀ sheet k = (k ≤ m) × (length sheet ≡ 9928) × Done (roundIn file z) pot k sheet₀ sheet
+Inv-loop file z pot sheet₀ m k₀ sheet k = (k ≤ m) × (length sheet ≡ sheetLength) × Done (roundIn file z) pot k sheet₀ sheet
 
 abbrev μ-loop : tie.MeasureT-loop
 μ-loop file z pot sheet₀ m k₀ sheet k = m - k

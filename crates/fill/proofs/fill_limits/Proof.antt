@@ -5,13 +5,14 @@ use mathlib.Core.Path.{_≡_, refl}
 use lib.ListN.{length, length-set}
 use borrow.Author.Needs.{needs}
 use denote.Ref.{now}
+use Rattle.sheet.specs.Sheet.{sheetLength, entrantsAt}
 use Rattle.fill.specs.Fill.{LimitsRight, Rest}
 use Rattle.fill.proofs.Laws.{budget-read, limits-more, rest-set, all-of}
 use Rattle.fill.proofs.fill_limits.Statement.{statement}
 use Rattle.fill.proofs.fill_limits.Tie as tie
 
 abbrev Inv-loop : tie.InvT-loop
-Inv-loop pots y pot sheet₀ at i₀ sheet i = (i ≤ y) × (length sheet ≡ 9928) × LimitsRight y pots pot i sheet × Rest 8 sheet₀ sheet
+Inv-loop pots y pot sheet₀ at i₀ sheet i = (i ≤ y) × (length sheet ≡ sheetLength) × LimitsRight y pots pot i sheet × Rest entrantsAt sheet₀ sheet
 
 abbrev μ-loop : tie.MeasureT-loop
 μ-loop pots y pot sheet₀ at i₀ sheet i = y - i

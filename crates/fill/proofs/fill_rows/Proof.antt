@@ -4,15 +4,17 @@ use native.Mathlib.Omega.{arith}
 use mathlib.Core.Path.{_≡_, refl, _∙_}
 use lib.ListN.{length}
 use denote.Ref.{now}
+use Rattle.rules.specs.Names.{mostNumbers}
+use Rattle.sheet.specs.Sheet.{rowsAt, sheetLength}
 use Rattle.rows.proofs.Laws.{row-length}
 use Rattle.rows.specs.Rows.{roundIn}
-use Rattle.fill.specs.Fill.{mostNumbers, RowsRight, Kept}
+use Rattle.fill.specs.Fill.{RowsRight, Kept}
 use Rattle.fill.proofs.Laws.{rows-more, all-of}
 use Rattle.fill.proofs.fill_rows.Statement.{statement}
 use Rattle.fill.proofs.fill_rows.Tie as tie
 
 abbrev Inv-loop : tie.InvT-loop
-Inv-loop file z pot sheet₀ k₀ sheet k = (k ≤ mostNumbers) × (length sheet ≡ 9928) × RowsRight (roundIn file z) pot k sheet × Kept 8008 sheet₀ sheet
+Inv-loop file z pot sheet₀ k₀ sheet k = (k ≤ mostNumbers) × (length sheet ≡ sheetLength) × RowsRight (roundIn file z) pot k sheet × Kept rowsAt sheet₀ sheet
 
 abbrev μ-loop : tie.MeasureT-loop
 μ-loop file z pot sheet₀ k₀ sheet k = mostNumbers - k

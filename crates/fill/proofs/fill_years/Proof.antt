@@ -5,6 +5,7 @@ use mathlib.Core.Path.{_≡_, refl, sym, _∙_}
 use lib.ListN.{length}
 use denote.Ref.{now}
 use borrow.Author.Needs.{needs}
+use Rattle.sheet.specs.Sheet.{figurePlace, figuresPlace, sheetLength}
 use Rattle.rows.proofs.Laws.{mine-in, bid-in, its-app, its-year, figure-length}
 use Rattle.rows.specs.Rows.{roundIn, shown}
 use Rattle.fill.specs.Fill.{Figured, Kept, Rest}
@@ -13,11 +14,11 @@ use Rattle.fill.proofs.fill_years.Statement.{statement}
 use Rattle.fill.proofs.fill_years.Tie as tie
 
 abbrev Inv-loop : tie.InvT-loop
-Inv-loop file pot k sheet₀ second years third fourth techs fifth y x t i₀ sheet i =
-    (i ≤ y) × (length sheet ≡ 9928) × Figured years techs y t (shown x) k i sheet × Kept (328 + k * 24) sheet₀ sheet × Rest (328 + k * 24 + i * 3) sheet₀ sheet
+Inv-loop file pot k sheet₀ pots-at years technologies-at applications-at techs bids-at y x t i₀ sheet i =
+    (i ≤ y) × (length sheet ≡ sheetLength) × Figured years techs y t (shown x) k i sheet × Kept (figuresPlace k) sheet₀ sheet × Rest (figurePlace k i) sheet₀ sheet
 
 abbrev μ-loop : tie.MeasureT-loop
-μ-loop file pot k sheet₀ second years third fourth techs fifth y x t i₀ sheet i = y - i
+μ-loop file pot k sheet₀ pots-at years technologies-at applications-at techs bids-at y x t i₀ sheet i = y - i
 
 bid-of-requires : tie.Need-bid-of-requires Inv-loop μ-loop
 bid-of-requires c κs = let p = c .before .before .before .before .before .pre in bid-in _ (p .0 .0 .sound) _ (mine-in _ _ _ (sym (p .1)) refl)

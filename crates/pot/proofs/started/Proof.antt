@@ -3,8 +3,8 @@ use borrow.Author.Needs.{needs}
 use native.Mathlib.Omega.{arith}
 use Prim.Native.Nat.{_≤_, _-_}
 use mathlib.Core.Path.{_≡_, _∙_, ap}
-use Rattle.sets.specs.Sets.{fill}
-use Rattle.sets.proofs.Laws.{fill-next}
+use Rattle.arrays.specs.Sets.{fill}
+use Rattle.arrays.proofs.Laws.{fill-next}
 use Rattle.sheet.specs.Sheet.{rowStanding}
 use Rattle.pot.specs.Marks.{firstMark, noMarks}
 use Rattle.pot.proofs.Laws.{started-done}

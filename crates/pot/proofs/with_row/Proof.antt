@@ -3,7 +3,7 @@ use borrow.Author.Needs.{needs}
 use native.Mathlib.Omega.{arith}
 use Prim.Native.Nat.{_≤_, _-_}
 use mathlib.Core.Path.{_≡_}
-use Rattle.sets.proofs.Laws.{done}
+use Rattle.arrays.proofs.Laws.{done}
 use Rattle.ties.specs.Ties.{laidTo}
 use Rattle.ties.proofs.Laws.{laid-next}
 use Rattle.pot.proofs.with_row.Statement.{statement}

@@ -6,8 +6,8 @@ use borrow.Author.Needs.{needs}
 use Rattle.sheet.specs.Sheet.{rowStanding}
 use Rattle.tell.specs.Tell.{autoIn, stands, anewOf}
 use Rattle.tell.proofs.Laws.{told-anew, auto-by}
-use Rattle.sets.proofs.Laws.{done, fill-next}
-use Rattle.sets.specs.Sets.{fill}
+use Rattle.arrays.proofs.Laws.{done, fill-next}
+use Rattle.arrays.specs.Sets.{fill}
 use Rattle.tell.proofs.all_autos.Statement.{statement}
 use Rattle.tell.proofs.all_autos.Tie as tie
 

@@ -5,7 +5,7 @@ use lib.ListN.{getD}
 use borrow.Author.Needs.{needs}
 use Rattle.tell.specs.Tell.{placed}
 use Rattle.tell.proofs.Laws.{place-next}
-use Rattle.sets.proofs.Laws.{done}
+use Rattle.arrays.proofs.Laws.{done}
 use Rattle.tell.proofs.all_prices.Statement.{statement}
 use Rattle.tell.proofs.all_prices.Tie as tie
 

@@ -6,8 +6,8 @@ use borrow.Author.Needs.{needs}
 use Rattle.tell.specs.Tell.{anewOf}
 use Rattle.sheet.specs.Sheet.{inAuction}
 use Rattle.tell.proofs.Laws.{told-anew}
-use Rattle.sets.proofs.Laws.{done, fill-next}
-use Rattle.sets.specs.Sets.{fill}
+use Rattle.arrays.proofs.Laws.{done, fill-next}
+use Rattle.arrays.specs.Sets.{fill}
 use Rattle.tell.proofs.all_reasons.Statement.{statement}
 use Rattle.tell.proofs.all_reasons.Tie as tie
 

@@ -4,7 +4,7 @@ use native.Mathlib.Omega.{arith}
 use Prim.Native.Nat.{_≤_, _-_}
 use mathlib.Core.Path.{_≡_, _∙_}
 use mathlib.Core.Logic.{⊎-elim}
-use Rattle.sets.proofs.Laws.{done}
+use Rattle.arrays.proofs.Laws.{done}
 use Rattle.ties.specs.Ties.{listed}
 use Rattle.ties.specs.Ties.{aboveOf}
 use Rattle.ties.proofs.Laws.{above-hit, above-miss}

@@ -4,8 +4,8 @@ use native.Mathlib.Omega.{arith}
 use Prim.Native.Nat.{_≤_, _-_, _+_, _*_}
 use mathlib.Core.Path.{_≡_, refl, _∙_}
 use mathlib.Core.Logic.{⊎-elim}
-use Rattle.sets.proofs.Laws.{done}
-use Rattle.totals.specs.Totals.{dearest}
+use Rattle.rules.specs.Value.{dearest}
+use Rattle.arrays.proofs.Laws.{done}
 use Rattle.ties.specs.Ties.{addedOf}
 use Rattle.ties.proofs.Laws.{added-hit, added-miss}
 use Rattle.ties.proofs.added.Statement.{statement}

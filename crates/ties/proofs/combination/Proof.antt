@@ -4,8 +4,8 @@ use native.Mathlib.Omega.{arith}
 use Prim.Native.Nat.{_≤_, _-_}
 use mathlib.Core.Path.{_≡_, _∙_}
 use mathlib.Core.Logic.{⊎-elim}
-use Rattle.sets.proofs.Laws.{done}
-use Rattle.sets.specs.Sets.{none}
+use Rattle.arrays.proofs.Laws.{done}
+use Rattle.arrays.specs.Sets.{none}
 use Rattle.ties.specs.Ties.{combinationOf}
 use Rattle.ties.proofs.Laws.{combination-hit, combination-miss}
 use Rattle.ties.proofs.combination.Statement.{statement}

@@ -5,8 +5,8 @@ use Prim.Native.Nat.{_≤_, _-_, _+_}
 use mathlib.Core.Path.{_≡_, ap, _∙_}
 use mathlib.Core.Logic.{⊎-elim}
 use lib.ListN.{length}
-use Rattle.sets.proofs.Laws.{done, count-hit, count-miss}
-use Rattle.sets.specs.Sets.{members}
+use Rattle.arrays.proofs.Laws.{done, count-hit, count-miss}
+use Rattle.arrays.specs.Sets.{members}
 use Rattle.ties.specs.Ties.{noList, compactOf}
 use Rattle.ties.proofs.Laws.{compact-hit, compact-miss}
 use Rattle.ties.proofs.Lists.{compact-room}

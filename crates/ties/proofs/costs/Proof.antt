@@ -3,8 +3,8 @@ use borrow.Author.Needs.{needs}
 use native.Mathlib.Omega.{arith}
 use Prim.Native.Nat.{_≤_, _-_}
 use mathlib.Core.Path.{_≡_}
-use Rattle.sets.proofs.Laws.{done, fill-next}
-use Rattle.sets.specs.Sets.{fill}
+use Rattle.arrays.proofs.Laws.{done, fill-next}
+use Rattle.arrays.specs.Sets.{fill}
 use Rattle.ties.specs.Ties.{costAt, noCosts}
 use Rattle.ties.proofs.Halves.{costs-start, cost-next, cost-le}
 use Rattle.ties.proofs.costs.Statement.{statement}

@@ -4,7 +4,7 @@ use native.Mathlib.Omega.{arith}
 use Prim.Native.Nat.{_≤_, _-_}
 use mathlib.Core.Bool.{true}
 use mathlib.Core.Path.{_≡_}
-use Rattle.sets.proofs.Laws.{done}
+use Rattle.arrays.proofs.Laws.{done}
 use Rattle.totals.specs.Totals.{fitsTo}
 use Rattle.totals.proofs.Laws.{fits-more}
 use Rattle.ties.specs.Ties.{jointOf}

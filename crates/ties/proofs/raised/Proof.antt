@@ -4,7 +4,7 @@ use native.Mathlib.Omega.{arith}
 use Prim.Native.Nat.{_≤_, _-_}
 use mathlib.Core.Path.{_≡_, _∙_}
 use mathlib.Core.Logic.{⊎-elim}
-use Rattle.sets.proofs.Laws.{done}
+use Rattle.arrays.proofs.Laws.{done}
 use Rattle.ties.specs.Ties.{raisedTo}
 use Rattle.ties.proofs.Laws.{raised-hit, raised-miss}
 use Rattle.ties.proofs.raised.Statement.{statement}

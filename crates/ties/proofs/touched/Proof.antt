@@ -4,7 +4,7 @@ use native.Mathlib.Omega.{arith}
 use Prim.Native.Nat.{_≤_, _<_, _-_}
 use mathlib.Core.Path.{_≡_, _∙_}
 use mathlib.Core.Logic.{⊎-elim}
-use Rattle.sets.proofs.Laws.{done}
+use Rattle.arrays.proofs.Laws.{done}
 use Rattle.ties.specs.Ties.{touchedOf}
 use Rattle.ties.proofs.Laws.{touched-hit, touched-miss}
 use Rattle.ties.proofs.touched.Statement.{statement}

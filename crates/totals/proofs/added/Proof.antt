@@ -2,8 +2,8 @@
 use native.Mathlib.Omega.{arith}
 use Prim.Native.Nat.{_≤_, _-_}
 use mathlib.Core.Path.{_≡_, refl}
-use Rattle.sets.specs.Sets.{fill}
-use Rattle.sets.proofs.Laws.{done}
+use Rattle.arrays.specs.Sets.{fill}
+use Rattle.arrays.proofs.Laws.{done}
 use Rattle.totals.specs.Totals.{worthOf, raised}
 use Rattle.totals.proofs.Laws.{raised-next, raised-low}
 use Rattle.totals.proofs.added.Statement.{statement}

@@ -3,8 +3,9 @@ use native.Mathlib.Omega.{arith}
 use Prim.Native.Nat.{_≤_, _-_, _*_}
 use mathlib.Core.Path.{_≡_, _∙_}
 use mathlib.Core.Logic.{⊎-elim}
-use Rattle.sets.proofs.Laws.{done}
-use Rattle.totals.specs.Totals.{dearest, autoTotal}
+use Rattle.rules.specs.Value.{dearest}
+use Rattle.arrays.proofs.Laws.{done}
+use Rattle.totals.specs.Totals.{autoTotal}
 use Rattle.totals.proofs.Laws.{auto-hit, auto-miss, auto-none}
 use Rattle.totals.proofs.admin_total.Statement.{statement}
 use Rattle.totals.proofs.admin_total.Tie as tie

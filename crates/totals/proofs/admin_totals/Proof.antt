@@ -3,8 +3,8 @@ use borrow.Author.Needs.{needs}
 use native.Mathlib.Omega.{arith}
 use Prim.Native.Nat.{_≤_, _-_}
 use mathlib.Core.Path.{_≡_}
-use Rattle.sets.proofs.Laws.{done, fill-next}
-use Rattle.sets.specs.Sets.{fill}
+use Rattle.arrays.proofs.Laws.{done, fill-next}
+use Rattle.arrays.specs.Sets.{fill}
 use Rattle.totals.specs.Totals.{noRow, filled, autoTotal}
 use Rattle.totals.proofs.admin_totals.Statement.{statement}
 use Rattle.totals.proofs.admin_totals.Tie as tie

@@ -12,15 +12,15 @@ admin-price-requires c κs = let s = c .before .before .before .before .before .
     (record-whole (c .before .before .before .le163 .result) (s .args .done .technologies) (techWidth (s .args .done .years)) (omega (arith, t, c .before .before .before .le163 .ensures)) (s .pre .0 .techs-whole), omega (arith, s .pre))
 
 returns : tie.Need-returns
-returns c = let cap = c .before .before in
-    let sd = cap .before in
+returns c = let admin = c .before .before in
+    let sd = admin .before in
     let st = sd .before in
     let te = st .before in
     let md = te .before in
     let pr = md .before in
     let ca = pr .before in
     let da = ca .before in
-    held-is _ _ _ _ (c .judge .ensures) (da .le16 .ensures .0) (ca .le32 .ensures .0) (pr .le322 .ensures .0) (md .le162 .ensures .0) (cap .le323 .ensures .0) (st .le164 .ensures .0) (sd .le165 .ensures .0) (c .before .admin-price .ensures) (te .le163 .ensures .0)
+    held-is _ _ _ _ (c .judge .ensures) (da .le16 .ensures .0) (ca .le32 .ensures .0) (pr .le322 .ensures .0) (md .le162 .ensures .0) (admin .le323 .ensures .0) (st .le164 .ensures .0) (sd .le165 .ensures .0) (c .before .admin-price .ensures) (te .le163 .ensures .0)
 
 pub held-spec : {M : Type 1} → statement M
 held-spec =

@@ -2,7 +2,7 @@
 use native.Mathlib.Omega.{arith}
 use mathlib.Core.Path.{sym}
 use Rattle.rules.specs.Refusals.{sevenOf}
-use Rattle.laws.specs.Walk.{given-no}
+use Rattle.reading_laws.specs.Walk.{given-no}
 use Rattle.bids.proofs.Laws.{rest-asked}
 use borrow.Author.Needs.{needs}
 use Rattle.bids.proofs.seven.seven.Statement.{statement}

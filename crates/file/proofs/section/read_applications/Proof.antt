@@ -11,7 +11,7 @@ use Rattle.file.proofs.section.read_applications.Statement.{statement}
 use Rattle.file.proofs.section.read_applications.Tie as tie
 
 -- what is known once the count is accepted: the records start within the file
-room : (c : tie.After-count-at) → let p = c .before .before .before .before .args in (p .past .fourth + countWidth ≤ length (now (p .file))) × Facts3 (now (p .file)) (p .past)
+room : (c : tie.After-count-at) → let p = c .before .before .before .before .args in (p .past .«applications_at» + countWidth ≤ length (now (p .file))) × Facts3 (now (p .file)) (p .past)
 room c = (counted _ _ _ _ (c .before .before .count-fault .ensures) (c .before .if1 .left) .0, facts3 _ (c .before .before .before .before .pre))
 
 returns : tie.Need-returns

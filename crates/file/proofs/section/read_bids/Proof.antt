@@ -10,7 +10,7 @@ use Rattle.file.proofs.section.read_bids.Statement.{statement}
 use Rattle.file.proofs.section.read_bids.Tie as tie
 
 -- what is known once the count is accepted: the records start within the file
-room : (c : tie.After-count-at) → let p = c .before .before .before .before .args in (p .past .fifth + countWidth ≤ length (now (p .file))) × Facts4 (now (p .file)) (p .past)
+room : (c : tie.After-count-at) → let p = c .before .before .before .before .args in (p .past .«bids_at» + countWidth ≤ length (now (p .file))) × Facts4 (now (p .file)) (p .past)
 room c = (counted _ _ _ _ (c .before .before .count-fault .ensures) (c .before .if1 .left) .0, facts4 _ (c .before .before .before .before .pre))
 
 returns : tie.Need-returns

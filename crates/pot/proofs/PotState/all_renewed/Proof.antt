@@ -3,7 +3,7 @@ use borrow.Author.Needs.{needs}
 use native.Mathlib.Omega.{arith}
 use Prim.Native.Nat.{_≤_, _-_}
 use mathlib.Core.Path.{_≡_}
-use Rattle.sets.proofs.Laws.{done}
+use Rattle.arrays.proofs.Laws.{done}
 use Rattle.pot.specs.Marks.{renewedTo}
 use Rattle.pot.proofs.Sums.{renewed-next}
 use Rattle.pot.proofs.PotState.all_renewed.Statement.{statement}

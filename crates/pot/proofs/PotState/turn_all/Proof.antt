@@ -4,8 +4,8 @@ use native.Mathlib.Omega.{arith}
 use Prim.Native.Nat.{_≤_, _-_}
 use mathlib.Core.Path.{_≡_, _∙_}
 use mathlib.Core.Logic.{⊎-elim}
-use Rattle.sets.proofs.Laws.{done-by}
-use Rattle.sets.specs.Sets.{members}
+use Rattle.arrays.proofs.Laws.{done-by}
+use Rattle.arrays.specs.Sets.{members}
 use Rattle.pot.specs.Marks.{turnAll}
 use Rattle.pot.proofs.Laws.{turnAll-hit, turnAll-miss}
 use Rattle.pot.proofs.PotState.turn_all.Statement.{statement}

@@ -1,0 +1,80 @@
+-- Arrays place by place, and the members of sets. Assumes nothing.
+use Prim.Native.Nat.{ℕ, zero, suc, _≤_, _<_}
+use mathlib.Core.Path.{_≡_, refl, sym, _∙_}
+use mathlib.Core.Bool.{Bool, true, false, _||_}
+use mathlib.Core.List.{List}
+use native.Mathlib.Omega.{arith}
+use lib.ListN.{length, getD, set, replicate, length-set}
+use lib.Seq.{getD-set-same, getD-set-other}
+use lib.Dec.{eqb}
+use borrow.Author.Tests.{eqb-true, eqb-false, eq-eqb, ne-eqb}
+use Rattle.rules.specs.Lists.{pick, memb, sift, below}
+use Rattle.pot_laws.specs.Lists.{case, clash, memb-in, in-memb, in-sift, sift-in, sift-same, in-below, below-in}
+use Rattle.arrays.specs.Sets.{fill, none, built, members}
+
+pub eqb-sym : (a b : ℕ) → eqb a b ≡ eqb b a
+eqb-sym a b = case (eqb a b) (λ t. rw (t, eq-eqb b a (sym (eqb-true a b t)))) (λ f. rw (f, ne-eqb b a (λ e. eqb-false a b f (sym e))))
+
+-- one place written; and a place of a repeated value
+pub put-is : {A : Type 0} (l : List A) (i k : ℕ) (v d : A) → i < length l → getD (set l i v) k d ≡ pick (eqb k i) v (getD l k d)
+put-is l i k v d h =
+    case (eqb k i)
+    (λ t. let q = eqb-true k i t in rw (t, q) (getD-set-same l i v d h))
+    (λ f. rw f (getD-set-other l i k v d (eqb-false k i f)))
+
+pub at-start : {A : Type 0} (c i : ℕ) (v d : A) → i < c → getD (replicate c v) i d ≡ v
+at-start zero i v d h = absurd (omega arith)
+at-start (suc c) zero v d h = refl
+at-start (suc c) (suc i) v d h = at-start c i v d (omega arith)
+
+pub pick-or : {A : Type 0} (a b : Bool) (x y : A) → pick a x (pick b x y) ≡ pick (a || b) x y
+pick-or true b x y = refl
+pick-or false b x y = refl
+
+pub memb-sift : (f : ℕ → Bool) (i n : ℕ) → i < n → memb i (sift f (below n)) ≡ f i
+memb-sift f i n h =
+    case (f i) (λ t. rw t (in-memb (in-sift f (in-below i n h) t)))
+    (λ g. rw g (case (memb i (sift f (below n))) (λ t. clash (sift-in i f (below n) (memb-in i (sift f (below n)) t) .1) g) (λ u. u)))
+
+-- an array that is filled has at each place what its number gives
+pub fill-length : {A : Type 0} (l : List A) (f : ℕ → A) (n : ℕ) → length (fill l f n) ≡ length l
+unfolding fill
+fill-length l f zero = refl
+fill-length l f (suc n) = length-set (fill l f n) n (f n) ∙ fill-length l f n
+
+pub fill-at : {A : Type 0} (l : List A) (f : ℕ → A) (n k : ℕ) (d : A) → n ≤ length l → k < n → getD (fill l f n) k d ≡ f k
+unfolding fill
+fill-at l f zero k d h g = absurd (omega arith)
+fill-at l f (suc n) k d h g =
+    put-is (fill l f n) n k (f n) d (omega (arith, fill-length l f n))
+    ∙ case (eqb k n) (λ t. rw (t, eqb-true k n t)) (λ u. let q = eqb-false k n u in rw u (fill-at l f n k d (omega arith) (omega arith)))
+
+-- a set has the members that its test says
+pub members-built : (f : ℕ → Bool) (n : ℕ) → n ≤ 320 → members (built f n) n ≡ sift f (below n)
+unfolding members
+members-built f n h = sift-same (λ i. getD (built f n) i false) f (below n) (λ k i. fill-at none f n k false (size h) (below-in k n i))
+  where
+    size : n ≤ 320 → n ≤ length none
+    size h = unfold none in h
+
+-- where no number is above q, no place is
+pub fill-le : (l : List ℕ) (f : ℕ → ℕ) (q n i : ℕ) → n ≤ length l → ((j : ℕ) → j < n → f j ≤ q) → ((j : ℕ) → getD l j 0 ≤ q) → getD (fill l f n) i 0 ≤ q
+unfolding fill
+fill-le l f q zero i h b s = s i
+fill-le l f q (suc n) i h b s =
+    rw (put-is (fill l f n) n i (f n) 0 (omega (arith, fill-length l f n)))
+    (case (eqb i n) (λ t. rw t (b n (omega arith))) (λ g. rw g (fill-le l f q n i (omega arith) (λ j k. b j (omega arith)) s)))
+
+pub zeros : (n i : ℕ) → _≡_ {A = ℕ} (getD (replicate n 0) i 0) 0
+zeros zero i = refl
+zeros (suc n) zero = refl
+zeros (suc n) (suc i) = zeros n i
+
+-- fewer places, fewer members
+pub members-less : (l : List Bool) (n m : ℕ) → n ≤ m → length (members l n) ≤ length (members l m)
+unfolding members
+members-less l n zero h = let e : n ≡ 0 = omega arith in rw e (omega arith)
+members-less l n (suc m) h =
+    case (eqb n (suc m)) (λ t. rw (eqb-true n (suc m) t) (omega arith))
+    (λ f. let r = members-less l n m (let d = eqb-false n (suc m) f in omega arith) in
+    case (getD l m false) (λ t. rw t (omega arith)) (λ u. rw u (omega arith)))

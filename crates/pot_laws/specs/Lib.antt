@@ -1,0 +1,15 @@
+pub mod Lists
+pub mod Money
+pub mod Mono
+pub mod Bits
+pub mod Taken
+pub mod Steps
+pub mod Tie
+pub mod Runs
+pub mod Demand
+pub mod Pots
+pub mod Once
+pub mod Lowered
+pub mod Lower
+pub mod Reasons
+pub mod Sums

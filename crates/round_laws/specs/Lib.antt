@@ -1,0 +1,11 @@
+pub mod Bids
+pub mod Third
+pub mod Carried
+pub mod Met
+pub mod Places
+pub mod Bounds
+pub mod Read
+pub mod Apart
+pub mod Answers
+pub mod Demanded
+pub mod Theorems
