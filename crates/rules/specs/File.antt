@@ -14,7 +14,7 @@ pub record Year : Type 0 where
 abbrev pub yearAt : List ℕ → ℕ → Year
 yearAt s i = record { days = le 2 s (i * yearWidth); kind = le 2 s (i * yearWidth + 2); tlm = le 2 s (i * yearWidth + 4) }
 
--- how many of the first n years are delivery years
+-- how many of the first n years are delivery years: a delivery year's kind is 1 and any other's 0, so the sum of the kinds
 unfoldable pub deliveries : List ℕ → ℕ → ℕ
 deliveries s zero = 0
 deliveries s (suc n) = deliveries s n + yearAt s n .kind

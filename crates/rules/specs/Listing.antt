@@ -9,13 +9,13 @@ use lib.Dec.{eqb, ltb}
 use Rattle.rules.specs.Names.{administrative, auctioned, noPrice, automaticBid, noBid}
 use Rattle.rules.specs.Lists.{pick, given, both, when, never, one-more, every, howMany, sum}
 use Rattle.rules.specs.Bytes.{le, bytes, each}
-use Rattle.rules.specs.Value.{exactParts, valueOf, hoursOf}
+use Rattle.rules.specs.Value.{exactParts, hoursOf}
 use Rattle.rules.specs.File.{Round, deliveries, sections, roundOf, sectionsOf}
 use Rattle.rules.specs.Refusals.{orElse, orFault, scan, countFault, recordFault, section, yearFault, potFault, techFault, appFault, sevenOf, eightOf, nineOf, bidFault, elevenOf, judged, reading}
 use Rattle.rules.specs.Pot.{Pot, winners, downs, seen, closed, hanging, wideEnd, mark, best, value, priceFrom, tally, within, live, least, lowest, taken, follows, remaining, rank, combination, chosen, choose, tied, alone, lost, look, run, auction, adminTotal, adminFits, outcome, priceIn, totalIn, paid, unlookedReason, auctionReason, reason, winnersOf}
 use Rattle.rules.specs.Round.{energyOf, costOf, assemble, automatic, bidOf, mine, silent, enters, rowFor, potOf}
 use Rattle.rules.specs.Result.{told, toldIn, appTold, potAt}
-use Rattle.rules.specs.Worked.{nums, roundA, silence}
+use Rattle.rules.specs.Worked.{nums, joined, counted, roundA, silence}
 use Rattle.rules.specs.declared.Reading.{Reading}
 use Rattle.rules.specs.declared.Reading.the-variants.{Accepted, Refused}
 
@@ -134,5 +134,5 @@ pub listed :
     ++ (ascii "application 0 lost\n"
     ++ ascii "application 1 won 20000 bid auto\n")))
     × (listingOf (2 ∷ []) ≡ ascii "refused 1 at 0\n")
-unfolding decimalIn decimal outcomeWord priceWord bidWord potLine yearLine wonLine lostLine appLine bidLine refusalLine priceListed potLines appLineOf roundLines listingFor listingOf nums roundA silence given both when never one-more every howMany sum le bytes each exactParts valueOf hoursOf deliveries sections roundOf sectionsOf orElse orFault scan countFault recordFault section yearFault potFault techFault appFault sevenOf eightOf nineOf bidFault elevenOf judged reading winners downs seen closed hanging wideEnd mark best value priceFrom tally within live least lowest taken follows remaining rank combination chosen choose tied alone lost look run auction adminTotal adminFits outcome priceIn totalIn paid unlookedReason auctionReason reason winnersOf energyOf costOf assemble automatic bidOf mine silent enters rowFor potOf told toldIn appTold decLe decLt ℕ-discrete
+unfolding decimalIn decimal outcomeWord priceWord bidWord potLine yearLine wonLine lostLine appLine bidLine refusalLine priceListed potLines appLineOf roundLines listingFor listingOf nums joined counted given both when never one-more every howMany sum le bytes each exactParts hoursOf deliveries sections roundOf sectionsOf orElse orFault scan countFault recordFault section yearFault potFault techFault appFault sevenOf eightOf nineOf bidFault elevenOf judged reading winners downs seen closed hanging wideEnd mark best value priceFrom tally within live least lowest taken follows remaining rank combination chosen choose tied alone lost look run auction adminTotal adminFits outcome priceIn totalIn paid unlookedReason auctionReason reason winnersOf energyOf costOf assemble automatic bidOf mine silent enters rowFor potOf told toldIn appTold decLe decLt ℕ-discrete
 listed = (refl, refl, refl, refl)

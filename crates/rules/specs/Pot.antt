@@ -77,7 +77,8 @@ mark (e ∷ s) b = pick (memb b (e .wins)) becauseWon (pick (memb b (e .downs)) 
 abbrev pub has : ℕ → ℕ → Bool
 has m i = eqb (m / 2 ^ i % 2) 1
 
--- of the numbers below n that pass a test, those with the greatest figure, and of these the largest
+-- of the numbers below n that pass a test, those with the greatest figure, and of these the largest. 0, the empty combination, is where it starts, untested:
+-- it passes, since the winners without any of the tied bids fit
 unfoldable pub best : (ℕ → Bool) → (ℕ → ℕ) → ℕ → ℕ
 best ok figure zero = 0
 best ok figure (suc n) = let r = best ok figure n in pick (ok n && leb (figure r) (figure n)) n r
@@ -87,7 +88,8 @@ module _ (P : Pot) where
   unfoldable pub value : ℕ → ℕ → ℕ → ℕ
   value b p y = ceilDiv (P .cost b p y) (P .scale)
 
-  -- "sets the clearing price of their years to their price": the clearing price of year d after the winners listed, the newest first, z before them
+  -- "sets the clearing price of their years to their price": the clearing price of year d is the price of its newest winner, where winners are listed the
+  -- newest first; z where it has none: 0 in a trial, which then asks no price of that year, and `noPrice` in the result
   unfoldable pub priceFrom : (z : ℕ) → List ℕ → ℕ → ℕ
   priceFrom z [] d = z
   priceFrom z (w ∷ ws) d = pick (eqb (P .yr w) d) (P .price w) (priceFrom z ws d)
@@ -199,7 +201,7 @@ module _ (P : Pot) where
   unfoldable pub alone : Trace → ℕ → Event
   alone s b = pick (follows b (taken (down b [] [] ∷ s))) (down b [] (P .yr b ∷ [])) (down b (P .yr b ∷ []) [])
 
-  -- bids that were taken and do not fit: one alone, or several
+  -- bids that were taken and do not fit: one alone, or several. Where none is live none is taken and the run has ended, so the first case is never met
   unfoldable pub lost : Trace → List ℕ → Event
   lost s [] = won s []
   lost s (b ∷ []) = alone s b

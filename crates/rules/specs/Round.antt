@@ -17,7 +17,7 @@ pub record Row : Type 0 where
   pub reference : ℕ → ℕ
   pub load : ℕ → ℕ
 
--- another pot's bid is blank
+-- another pot's bid is blank: nothing of it can be read, so that pots are cleared apart by definition
 abbrev pub blank : Row
 blank = record { bid = record { app = 0; year = 0; days = 0; capacity = 0; price = 0 }; draw = 0; admin = 0; rqm = 0; reference = λ y. 0; load = λ y. 0 }
 
@@ -70,7 +70,7 @@ module _ (R : Round) where
   unfoldable pub enters : ℕ → Bool
   enters k = ltb k (R .b) || silent (k - R .b)
 
-  -- the row of a bid
+  -- the row of a bid. A year that the file does not have has no figures, so that a row says nothing of bytes outside its technology's record
   unfoldable pub rowFor : Bid → Row
   rowFor x =
       let a = appAt (R .apps) (x .app) in

@@ -1,125 +1,298 @@
--- The worked cases of document 01, from the file's bytes to the result's, as rows under a single theorem. Assumes nothing.
-use Prim.Native.Nat.{ℕ, _+_, _*_}
+-- The worked cases of document 01, from the file's bytes to the result's, as rows under a single theorem; and rows of our own for what they leave open.
+-- Assumes nothing.
+use Prim.Native.Nat.{ℕ, zero, suc, _+_, _*_, _/_, _^_}
 use mathlib.Core.Path.{_≡_, refl}
 use mathlib.Core.List.{List, [], _∷_, _++_}
 use native.Mathlib.Decide.{decLe, decLt, ℕ-discrete}
-use lib.ListN.{replicate}
+use lib.ListN.{length, replicate}
 use Rattle.rules.specs.Names.{noPrice}
 use Rattle.rules.specs.Lists.{given, both, when, never, one-more, every, howMany, sum}
 use Rattle.rules.specs.Bytes.{le, bytes, each, onto}
-use Rattle.rules.specs.Value.{exactParts, valueOf, hoursOf}
+use Rattle.rules.specs.Value.{exactParts, hoursOf}
 use Rattle.rules.specs.File.{deliveries, sections, roundOf, sectionsOf}
-use Rattle.rules.specs.Refusals.{orElse, orFault, scan, countFault, recordFault, section, yearFault, potFault, techFault, appFault, sevenOf, eightOf, nineOf, bidFault, elevenOf, judged, reading}
-use Rattle.rules.specs.Pot.{winners, downs, seen, closed, hanging, wideEnd, mark, best, value, priceFrom, tally, within, live, least, lowest, taken, follows, remaining, rank, combination, chosen, choose, tied, alone, lost, look, run, auction, adminTotal, adminFits, outcome, priceIn, totalIn, paid, unlookedReason, auctionReason, reason, winnersOf}
+use Rattle.rules.specs.Refusals.{orElse, orFault, scan, countFault, recordFault, section, yearFault, potFault, techFault, appFault, sevenOf, eightOf}
+use Rattle.rules.specs.Refusals.{nineOf, bidFault, elevenOf, judged, reading}
+use Rattle.rules.specs.Pot.{winners, downs, seen, closed, hanging, wideEnd, mark, best, value, priceFrom, tally, within, live, least, lowest, taken}
+use Rattle.rules.specs.Pot.{follows, remaining, rank, combination, chosen, choose, tied, alone, lost, look, run, auction, adminTotal, adminFits, outcome}
+use Rattle.rules.specs.Pot.{priceIn, totalIn, paid, unlookedReason, auctionReason, reason, winnersOf}
 use Rattle.rules.specs.Round.{energyOf, costOf, assemble, automatic, bidOf, mine, silent, enters, rowFor, potOf}
-use Rattle.rules.specs.Result.{told, toldIn, appTold, appBytes, potBytes, bidBytes, potsPart, appsPart, bidsPart, resultBytes, needed, answerTo, answerOf, after, clearOf}
-use Rattle.rules.specs.declared.Answer.the-variants.{Cleared}
+use Rattle.rules.specs.Result.{told, toldIn, appTold, appBytes, potBytes, bidBytes, potsPart, appsPart, bidsPart, resultBytes, needed, answerTo, answerOf}
+use Rattle.rules.specs.Result.{after, clearOf}
+use Rattle.rules.specs.declared.Answer.the-variants.{Cleared, Refused}
+
+-- ---- files and results, from their numbers
 
 -- numbers of w bytes each
 unfoldable pub nums : ℕ → List ℕ → List ℕ
 nums w [] = []
 nums w (x ∷ l) = bytes w x ++ nums w l
 
--- years of 365 days, all delivery, with no losses
-abbrev year : List ℕ
-year = nums 2 (365 ∷ 1 ∷ 0 ∷ [])
+-- records one after the other; and after their count
+unfoldable pub joined : List (List ℕ) → List ℕ
+joined [] = []
+joined (x ∷ l) = x ++ joined l
 
--- technology 0's figures in a year
-abbrev figures : List ℕ
-figures = nums 4 (20000 ∷ 0 ∷ []) ++ nums 2 (10000 ∷ [])
+unfoldable pub counted : List (List ℕ) → List ℕ
+counted l = bytes 2 (length l) ++ joined l
 
-abbrev app : (year draw capacity : ℕ) → List ℕ
-app y draw capacity = (nums 2 (0 ∷ y ∷ 365 ∷ draw ∷ []) ++ nums 4 (capacity ∷ [])) ++ nums 8 (0 ∷ [])
+-- n records alike but for their number
+unfoldable pub times : ℕ → (ℕ → List ℕ) → List (List ℕ)
+times zero f = []
+times (suc n) f = times n f ++ (f n ∷ [])
 
-abbrev bid : (a year capacity price : ℕ) → List ℕ
-bid a y capacity price = nums 2 (a ∷ y ∷ 365 ∷ []) ++ nums 4 (capacity ∷ price ∷ [])
+abbrev pub yearWith : (days kind tlm : ℕ) → List ℕ
+yearWith days kind tlm = nums 2 (days ∷ kind ∷ tlm ∷ [])
 
--- a file of one pot and one technology: its years, budgets, figures, applications and bids
-abbrev round : (y n b : ℕ) → (years budgets figures apps bids : List ℕ) → List ℕ
-round y n b years budgets figures apps bids =
-    (bytes 2 y ++ years)
-    ++ ((bytes 2 1 ++ budgets) ++ ((nums 2 (1 ∷ 0 ∷ 10000 ∷ []) ++ figures) ++ ((bytes 2 n ++ apps) ++ (bytes 2 b ++ bids))))
+-- "years 0 and 1, both delivery, 365 days, TLM 0"
+abbrev pub year : List ℕ
+year = yearWith 365 1 0
+
+abbrev pub budgets : List ℕ → List ℕ
+budgets l = nums 8 l
+
+abbrev pub figuresWith : (admin reference load : ℕ) → List ℕ
+figuresWith admin reference load = nums 4 (admin ∷ reference ∷ []) ++ bytes 2 load
+
+-- "administrative 20,000, reference 0, load and RQM 10,000"
+abbrev pub figures : List ℕ
+figures = figuresWith 20000 0 10000
+
+abbrev pub tech : (pot rqm : ℕ) → List (List ℕ) → List ℕ
+tech pot rqm years = nums 2 (pot ∷ rqm ∷ []) ++ joined years
+
+abbrev pub appWith : (tech year days draw capacity cost : ℕ) → List ℕ
+appWith t y days draw capacity cost = (nums 2 (t ∷ y ∷ days ∷ draw ∷ []) ++ nums 4 (capacity ∷ [])) ++ nums 8 (cost ∷ [])
+
+abbrev pub bidWith : (a year days capacity price : ℕ) → List ℕ
+bidWith a y days capacity price = nums 2 (a ∷ y ∷ days ∷ []) ++ nums 4 (capacity ∷ price ∷ [])
+
+-- of technology 0, for 365 days
+abbrev pub app : (year draw capacity : ℕ) → List ℕ
+app y draw capacity = appWith 0 y 365 draw capacity 0
+
+abbrev pub bid : (a year capacity price : ℕ) → List ℕ
+bid a y capacity price = bidWith a y 365 capacity price
+
+abbrev pub file : (years pots techs apps bids : List (List ℕ)) → List ℕ
+file years pots techs apps bids = counted years ++ (counted pots ++ (counted techs ++ (counted apps ++ counted bids)))
+
+-- "year 0 alone, with round A's technology", and a budget
+abbrev pub single : (budget : ℕ) → (apps bids : List (List ℕ)) → List ℕ
+single b apps bids = file (year ∷ []) (budgets (b ∷ []) ∷ []) (tech 0 10000 (figures ∷ []) ∷ []) apps bids
+
+-- what is told of a pot; of an application; and the result
+abbrev potTold : (outcome : ℕ) → (prices totals : List ℕ) → List ℕ
+potTold outcome prices totals = bytes 2 outcome ++ (nums 4 prices ++ nums 8 totals)
+
+abbrev lineWith : (won bid reason paid : ℕ) → List ℕ
+lineWith won bid reason paid = nums 2 (won ∷ bid ∷ reason ∷ []) ++ bytes 4 paid
+
+abbrev line : (won bid paid : ℕ) → List ℕ
+line won bid paid = lineWith won bid 0 paid
+
+abbrev result : (pots apps : List (List ℕ)) (reasons : List ℕ) → List ℕ
+result pots apps reasons = counted pots ++ (counted apps ++ (bytes 2 (length reasons) ++ nums 2 reasons))
+
+-- the file's result is r, and the three bytes lent beyond it stay
+abbrev Gives : (file r : List ℕ) → Type 0
+Gives file r = clearOf file (replicate (3 + length r) 9) ≡ record { answer = Cleared (length r); exit = r ++ (9 ∷ 9 ∷ 9 ∷ []) }
+
+-- ---- the marked cases
 
 -- "Round A", with its budgets
-unfoldable pub roundA : (first second : ℕ) → List ℕ
+abbrev pub roundA : (first second : ℕ) → List ℕ
 roundA b0 b1 =
-    round 2 3 3 (year ++ year) (nums 8 (b0 ∷ b1 ∷ [])) (figures ++ figures) (app 0 0 100 ++ (app 0 1 100 ++ app 1 2 100))
-    (bid 0 0 100 4000 ++ (bid 1 0 100 6000 ++ bid 2 1 100 5000))
-
--- "T1, T2 and F1 have year 0 alone"
-unfoldable pub tiedAt : (budget : ℕ) → List ℕ
-tiedAt b0 = round 1 3 3 year (bytes 8 b0) figures (app 0 5 200 ++ (app 0 3 100 ++ app 0 4 100)) (bid 0 0 200 4000 ++ (bid 1 0 100 4000 ++ bid 2 0 100 4000))
-
-unfoldable pub flexible : List ℕ
-flexible = round 1 1 2 year (bytes 8 60000) figures (app 0 0 200) (bid 0 0 200 6000 ++ bid 0 0 100 6001)
-
--- an application's line of the result
-abbrev line : (won bid paid : ℕ) → List ℕ
-line won bid paid = nums 2 (won ∷ bid ∷ 0 ∷ []) ++ bytes 4 paid
-
--- a result of one pot: clearing prices, totals, applications and reasons
-unfoldable pub result : (outcome n b : ℕ) → (prices totals apps reasons : List ℕ) → List ℕ
-result outcome n b prices totals apps reasons = (nums 2 (1 ∷ outcome ∷ []) ++ (nums 4 prices ++ nums 8 totals)) ++ ((bytes 2 n ++ apps) ++ (bytes 2 b ++ nums 2 reasons))
-
--- the file's result of n bytes is r, and the three bytes lent beyond it stay
-abbrev Gives : (file : List ℕ) (n : ℕ) (r : List ℕ) → Type 0
-Gives file n r = clearOf file (replicate (3 + n) 9) ≡ record { answer = Cleared n; exit = r ++ (9 ∷ 9 ∷ 9 ∷ []) }
+    file (year ∷ year ∷ []) (budgets (b0 ∷ b1 ∷ []) ∷ []) (tech 0 10000 (figures ∷ figures ∷ []) ∷ []) (app 0 0 100 ∷ app 0 1 100 ∷ app 1 2 100 ∷ [])
+    (bid 0 0 100 4000 ∷ bid 1 0 100 6000 ∷ bid 2 1 100 5000 ∷ [])
 
 -- the result that the listing prints
 abbrev listed : List ℕ
-listed = result 1 3 3 (4000 ∷ 5000 ∷ []) (35040 ∷ 78840 ∷ []) (line 1 0 4000 ++ (line 0 65535 0 ++ line 1 2 5000)) (1 ∷ 2 ∷ 1 ∷ [])
+listed = result (potTold 1 (4000 ∷ 5000 ∷ []) (35040 ∷ 78840 ∷ []) ∷ []) (line 1 0 4000 ∷ line 0 65535 0 ∷ line 1 2 5000 ∷ []) (1 ∷ 2 ∷ 1 ∷ [])
 
 -- all three win
-abbrev all : List ℕ
-all = result 1 3 3 (6000 ∷ 5000 ∷ []) (105120 ∷ 148920 ∷ []) (line 1 0 6000 ++ (line 1 1 6000 ++ line 1 2 5000)) (1 ∷ 1 ∷ 1 ∷ [])
+abbrev allWin : List ℕ
+allWin = result (potTold 1 (6000 ∷ 5000 ∷ []) (105120 ∷ 148920 ∷ []) ∷ []) (line 1 0 6000 ∷ line 1 1 6000 ∷ line 1 2 5000 ∷ []) (1 ∷ 1 ∷ 1 ∷ [])
 
-pub worked :
+-- "T1, T2 and F1 have year 0 alone"
+abbrev tiedAt : (budget : ℕ) → List ℕ
+tiedAt b = single b (app 0 5 200 ∷ app 0 3 100 ∷ app 0 4 100 ∷ []) (bid 0 0 200 4000 ∷ bid 1 0 100 4000 ∷ bid 2 0 100 4000 ∷ [])
+
+-- one application, whose value in year 0 is the total of the first test
+abbrev valued : (capacity price reference load tlm rqm days : ℕ) → List ℕ
+valued capacity price reference load tlm rqm days =
+    file (yearWith days 1 tlm ∷ []) (budgets (1000000000000 ∷ []) ∷ []) (tech 0 rqm (figuresWith price reference load ∷ []) ∷ []) (appWith 0 0 days 0 capacity 0 ∷ []) []
+
+-- it wins at its administrative price
+abbrev worth : (price value : ℕ) → List ℕ
+worth price v = result (potTold 0 (noPrice ∷ []) (v ∷ []) ∷ []) (lineWith 1 65535 6 price ∷ []) []
+
+-- V1 to V5, A1 to A4, T1, T2, F1
+abbrev Marked : Type 0
+Marked =
     -- Round A as listed
-    Gives (roundA 100000 100000) 68 listed
+    Gives (roundA 100000 100000) listed
     -- A1, A2
-    × Gives (roundA 105120 148920) 68 all
-    × Gives (roundA 105120 148919) 68 listed
+    × Gives (roundA 105120 148920) allWin
+    × Gives (roundA 105120 148919) listed
     -- A3, A4
-    × Gives (roundA 350400 525600) 68
-    (result 0 3 3 (noPrice ∷ noPrice ∷ []) (350400 ∷ 525600 ∷ []) (line 1 65535 20000 ++ (line 1 65535 20000 ++ line 1 65535 20000)) (6 ∷ 6 ∷ 6 ∷ []))
-    × Gives (roundA 350400 525599) 68 all
+    × Gives (roundA 350400 525600)
+    (result (potTold 0 (noPrice ∷ noPrice ∷ []) (350400 ∷ 525600 ∷ []) ∷ []) (line 1 65535 20000 ∷ line 1 65535 20000 ∷ line 1 65535 20000 ∷ []) (6 ∷ 6 ∷ 6 ∷ []))
+    × Gives (roundA 350400 525599) allWin
     -- T1, T2
-    × Gives (tiedAt 105120) 56 (result 1 3 3 (4000 ∷ []) (105120 ∷ []) (line 1 0 4000 ++ (line 1 1 4000 ++ line 0 65535 0)) (1 ∷ 1 ∷ 3 ∷ []))
-    × Gives (tiedAt 105119) 56 (result 1 3 3 (4000 ∷ []) (70080 ∷ []) (line 0 65535 0 ++ (line 1 1 4000 ++ line 1 2 4000)) (3 ∷ 1 ∷ 1 ∷ []))
-    -- V1 to V5
-    × (valueOf 100000 50000 3000 (24 * 365 * 1000) 90 10000 ≡ 1302174)
-    × (valueOf 100000 50000 3000 (24 * 365 * 1001) 90 10000 ≡ 1303477)
-    × (valueOf 40000 50000 3000 (24 * 365 * 1000) 90 10000 ≡ 0)
-    × (valueOf 50000 50000 3000 (24 * 365 * 1000) 90 10000 ≡ 0)
-    × (valueOf 500000 0 10000 (24 * 366 * 300000) 0 10000 ≡ 13176000000)
+    × Gives (tiedAt 105120) (result (potTold 1 (4000 ∷ []) (105120 ∷ []) ∷ []) (line 1 0 4000 ∷ line 1 1 4000 ∷ line 0 65535 0 ∷ []) (1 ∷ 1 ∷ 3 ∷ []))
+    × Gives (tiedAt 105119) (result (potTold 1 (4000 ∷ []) (70080 ∷ []) ∷ []) (line 0 65535 0 ∷ line 1 1 4000 ∷ line 1 2 4000 ∷ []) (3 ∷ 1 ∷ 1 ∷ []))
     -- F1
-    × Gives flexible 34 (result 1 1 2 (6001 ∷ []) (52569 ∷ []) (line 1 1 6001) (2 ∷ 1 ∷ []))
-unfolding nums roundA tiedAt flexible result given both when never one-more every howMany sum le bytes each onto exactParts valueOf hoursOf deliveries sections roundOf sectionsOf orElse orFault scan countFault recordFault section yearFault potFault techFault appFault sevenOf eightOf nineOf bidFault elevenOf judged reading winners downs seen closed hanging wideEnd mark best value priceFrom tally within live least lowest taken follows remaining rank combination chosen choose tied alone lost look run auction adminTotal adminFits outcome priceIn totalIn paid unlookedReason auctionReason reason winnersOf energyOf costOf assemble automatic bidOf mine silent enters rowFor potOf told toldIn appTold appBytes potBytes bidBytes potsPart appsPart bidsPart resultBytes needed answerTo answerOf after clearOf decLe decLt ℕ-discrete
-worked = (refl, refl, refl, refl, refl, refl, refl, refl, refl, refl, refl, refl, refl)
+    × Gives (single 60000 (app 0 0 200 ∷ []) (bid 0 0 200 6000 ∷ bid 0 0 100 6001 ∷ []))
+    (result (potTold 1 (6001 ∷ []) (52569 ∷ []) ∷ []) (line 1 1 6001 ∷ []) (2 ∷ 1 ∷ []))
+    -- V1 to V5; V2's exact cost, 1,303,476.174 pounds
+    × Gives (valued 1000 100000 50000 3000 90 10000 365) (worth 100000 1302174)
+    × Gives (valued 1001 100000 50000 3000 90 10000 365) (worth 100000 1303477)
+    × (potOf (roundOf (valued 1001 100000 50000 3000 90 10000 365)) 0 .cost 0 100000 0 ≡ 1303476174 * 10 ^ 14)
+    × Gives (valued 1000 40000 50000 3000 90 10000 365) (worth 40000 0)
+    × Gives (valued 1000 50000 50000 3000 90 10000 365) (worth 50000 0)
+    × Gives (valued 300000 500000 0 10000 0 10000 366) (worth 500000 13176000000)
 
--- ---- rows of our own, one for each slip that the marked ones let through
-
--- a dearer bid that would fit, after its year has closed: it is not looked at
-unfoldable pub closes : List ℕ
-closes = round 1 2 2 year (bytes 8 60000) figures (app 0 0 200 ++ app 0 1 100) (bid 0 0 200 6000 ++ bid 1 0 100 6100)
-
--- a flexible bid of the same year, behind another application's cheaper bid
-unfoldable pub behind : List ℕ
-behind = round 1 2 3 year (bytes 8 60000) figures (app 0 0 200 ++ app 0 1 200) (bid 0 0 200 6000 ++ (bid 0 0 100 6200 ++ bid 1 0 200 6100))
-
--- an administrative price that is lower in the later year: pay is capped by that of the start year
-unfoldable pub lowerLater : List ℕ
-lowerLater = round 2 1 1 (year ++ year) (nums 8 (100000 ∷ 100000 ∷ [])) (figures ++ (nums 4 (5000 ∷ 0 ∷ []) ++ bytes 2 10000)) (app 0 0 100) (bid 0 0 100 6000)
+-- ---- rows of our own, for what the marked ones leave open
 
 -- two applications without a bid: the automatic bids tie, and the lower draw wins
-unfoldable pub silence : List ℕ
-silence = round 1 2 0 year (bytes 8 200000) figures (app 0 1 100 ++ app 0 0 100) []
+abbrev pub silence : List ℕ
+silence = single 200000 (app 0 1 100 ∷ app 0 0 100 ∷ []) []
 
-pub slips :
-    Gives closes 44 (result 1 2 2 (noPrice ∷ []) (0 ∷ []) (line 0 65535 0 ++ line 0 65535 0) (2 ∷ 5 ∷ []))
-    × Gives behind 46 (result 1 2 3 (noPrice ∷ []) (0 ∷ []) (line 0 65535 0 ++ line 0 65535 0) (2 ∷ 5 ∷ 5 ∷ []))
-    × Gives lowerLater 44 (result 1 1 1 (6000 ∷ noPrice ∷ []) (52560 ∷ 52560 ∷ []) (line 1 0 6000) (1 ∷ []))
-    × Gives silence 40
-    (result 1 2 0 (20000 ∷ []) (175200 ∷ []) ((nums 2 (0 ∷ 65535 ∷ 3 ∷ []) ++ bytes 4 0) ++ (nums 2 (1 ∷ 65534 ∷ 1 ∷ []) ++ bytes 4 20000)) [])
-unfolding nums closes behind lowerLater silence result given both when never one-more every howMany sum le bytes each onto exactParts valueOf hoursOf deliveries sections roundOf sectionsOf orElse orFault scan countFault recordFault section yearFault potFault techFault appFault sevenOf eightOf nineOf bidFault elevenOf judged reading winners downs seen closed hanging wideEnd mark best value priceFrom tally within live least lowest taken follows remaining rank combination chosen choose tied alone lost look run auction adminTotal adminFits outcome priceIn totalIn paid unlookedReason auctionReason reason winnersOf energyOf costOf assemble automatic bidOf mine silent enters rowFor potOf told toldIn appTold appBytes potBytes bidBytes potsPart appsPart bidsPart resultBytes needed answerTo answerOf after clearOf decLe decLt ℕ-discrete
-slips = (refl, refl, refl, refl)
+abbrev Own : Type 0
+Own =
+    -- a dearer bid that would fit, after its year has closed: it is not looked at
+    Gives (single 60000 (app 0 0 200 ∷ app 0 1 100 ∷ []) (bid 0 0 200 6000 ∷ bid 1 0 100 6100 ∷ []))
+    (result (potTold 1 (noPrice ∷ []) (0 ∷ []) ∷ []) (line 0 65535 0 ∷ line 0 65535 0 ∷ []) (2 ∷ 5 ∷ []))
+    -- a flexible bid of the same year, behind another application's cheaper bid
+    × Gives (single 60000 (app 0 0 200 ∷ app 0 1 200 ∷ []) (bid 0 0 200 6000 ∷ bid 0 0 100 6200 ∷ bid 1 0 200 6100 ∷ []))
+    (result (potTold 1 (noPrice ∷ []) (0 ∷ []) ∷ []) (line 0 65535 0 ∷ line 0 65535 0 ∷ []) (2 ∷ 5 ∷ 5 ∷ []))
+    -- an administrative price that is lower in the later year: pay is capped by that of the start year
+    × Gives (file (year ∷ year ∷ []) (budgets (100000 ∷ 100000 ∷ []) ∷ []) (tech 0 10000 (figures ∷ figuresWith 5000 0 10000 ∷ []) ∷ []) (app 0 0 100 ∷ [])
+    (bid 0 0 100 6000 ∷ []))
+    (result (potTold 1 (6000 ∷ noPrice ∷ []) (52560 ∷ 52560 ∷ []) ∷ []) (line 1 0 6000 ∷ []) (1 ∷ []))
+    -- two applications without a bid
+    × Gives silence (result (potTold 1 (20000 ∷ []) (175200 ∷ []) ∷ []) (lineWith 0 65535 3 0 ∷ lineWith 1 65534 1 20000 ∷ []) [])
+    -- two winners whose values are no whole pounds: each is rounded up, not their sum
+    × Gives (file (yearWith 365 1 90 ∷ []) (budgets (2606954 ∷ []) ∷ []) (tech 0 10000 (figuresWith 500000 50000 3000 ∷ []) ∷ []) (app 0 0 1001 ∷
+    app 0 1 1001 ∷ []) (bid 0 0 1001 100000 ∷ bid 1 0 1001 100000 ∷ []))
+    (result (potTold 1 (100000 ∷ []) (2606954 ∷ []) ∷ []) (line 1 0 100000 ∷ line 1 1 100000 ∷ []) (1 ∷ 1 ∷ []))
+    -- a clearing price above a winner's administrative price: it is valued and paid at the latter
+    × Gives (file (year ∷ []) (budgets (230000 ∷ []) ∷ []) (tech 0 10000 (figuresWith 10000 0 10000 ∷ []) ∷ tech 0 10000 (figures ∷ []) ∷ [])
+    (app 0 0 100 ∷ appWith 1 0 365 1 100 0 ∷ []) (bid 0 0 100 9000 ∷ bid 1 0 100 15000 ∷ []))
+    (result (potTold 1 (15000 ∷ []) (219000 ∷ []) ∷ []) (line 1 0 10000 ∷ line 1 1 15000 ∷ []) (1 ∷ 1 ∷ []))
+    -- two pots, a leap year and a valuation-only one; days, TLM, RQM, reference, load factor and capacity all matter
+    × Gives (file (yearWith 365 1 100 ∷ yearWith 366 1 200 ∷ yearWith 365 0 300 ∷ []) (budgets (100000 ∷ 100000 ∷ 100000 ∷ []) ∷ budgets (800000 ∷
+    2200000 ∷ 2000000 ∷ []) ∷ []) (tech 1 9000 (figuresWith 60000 10000 3000 ∷ figuresWith 50000 20000 4000 ∷ figuresWith 0 30000 5000 ∷ []) ∷
+    tech 0 10000 (figures ∷ figures ∷ figuresWith 0 0 10000 ∷ []) ∷ []) (appWith 0 0 200 7 1234 999 ∷ appWith 0 1 366 1 777 0 ∷ appWith 1 0 365 2 100 5 ∷
+    []) (bidWith 0 0 200 1234 45000 ∷ bidWith 1 1 300 700 40000 ∷ bid 2 0 100 4000 ∷ []))
+    (result (potTold 1 (4000 ∷ noPrice ∷ []) (34690 ∷ 34434 ∷ 33989 ∷ []) ∷ potTold 1 (45000 ∷ 40000 ∷ []) (554145 ∷ 1311664 ∷ 975437 ∷ []) ∷ [])
+    (line 1 0 45000 ∷ line 1 1 40000 ∷ line 1 2 4000 ∷ []) (1 ∷ 1 ∷ 1 ∷ []))
+    -- a bid not looked at, whose application has won
+    × Gives (single 150000 (app 0 0 200 ∷ app 0 1 300 ∷ []) (bid 0 0 100 4000 ∷ bid 0 0 200 5000 ∷ bid 1 0 300 5000 ∷ bid 1 0 200 6000 ∷ []))
+    (result (potTold 1 (4000 ∷ []) (35040 ∷ []) ∷ []) (line 1 0 4000 ∷ line 0 65535 0 ∷ []) (1 ∷ 4 ∷ 2 ∷ 2 ∷ []))
+    -- eleven tied bids, of which nine do not fit alone and are dropped: two remain
+    × Gives (single 90000 (app 0 0 100 ∷ app 0 1 100 ∷ times 9 (λ i. app 0 (2 + i) 1000)) (bid 0 0 100 4000 ∷ bid 1 0 100 4000 ∷
+    times 9 (λ i. bid (2 + i) 0 1000 4000)))
+    (result (potTold 1 (4000 ∷ []) (70080 ∷ []) ∷ []) (line 1 0 4000 ∷ line 1 1 4000 ∷ times 9 (λ i. line 0 65535 0)) (1 ∷ 1 ∷ replicate 9 3))
+    -- eleven that each fit alone remain: outcome 2
+    × Gives (single 200000 (times 12 (λ i. app 0 i 100)) (times 11 (λ i. bid i 0 100 4000)))
+    (result (potTold 2 (noPrice ∷ []) (0 ∷ []) ∷ []) (times 11 (λ i. line 0 65535 0) ++ (lineWith 0 65535 7 0 ∷ [])) (replicate 11 7))
+    -- an application's own dearer bid is looked at next where no other bid is lower: it wins and the year closes
+    × Gives (single 110000 (app 0 0 300 ∷ app 0 1 100 ∷ []) (bid 0 0 300 6000 ∷ bid 0 0 200 6001 ∷ bid 1 0 100 6100 ∷ []))
+    (result (potTold 1 (6001 ∷ []) (105138 ∷ []) ∷ []) (line 1 1 6001 ∷ line 0 65535 0 ∷ []) (2 ∷ 1 ∷ 5 ∷ []))
+
+-- ---- files that are turned away
+
+-- the file is refused so, and the three bytes lent stay
+abbrev Refuses : (file : List ℕ) → (number at : ℕ) → Type 0
+Refuses file number at = clearOf file (9 ∷ 9 ∷ 9 ∷ []) ≡ record { answer = Refused number at; exit = 9 ∷ 9 ∷ 9 ∷ [] }
+
+-- years and pots, as round A has them, and counts after them
+abbrev upTo : (counts : List ℕ) → (techs : List (List ℕ)) → List ℕ
+upTo counts [] = counted (year ∷ []) ++ (counted (budgets (100000 ∷ []) ∷ []) ++ nums 2 counts)
+upTo counts (t ∷ l) = counted (year ∷ []) ++ (counted (budgets (100000 ∷ []) ∷ []) ++ (counted (t ∷ l) ++ nums 2 counts))
+
+-- files with nothing after the section at fault
+abbrev ofYears : List (List ℕ) → List ℕ
+ofYears years = file years [] [] [] []
+
+abbrev ofTech : List ℕ → List ℕ
+ofTech t = file (year ∷ []) (budgets (100000 ∷ []) ∷ []) (t ∷ []) [] []
+
+-- one file for each number, and for each limit of a field one that goes beyond it by one
+abbrev Refusals : Type 0
+Refusals =
+    -- 1
+    Refuses (2 ∷ []) 1 0
+    × Refuses (nums 2 (1 ∷ 365 ∷ 1 ∷ [])) 1 2
+    × Refuses (counted (year ∷ [])) 1 8
+    -- 2: years, pots, technologies, applications, bids
+    × Refuses (bytes 2 0) 2 0
+    × Refuses (bytes 2 9) 2 0
+    × Refuses (counted (year ∷ []) ++ bytes 2 0) 2 8
+    × Refuses (counted (year ∷ []) ++ bytes 2 5) 2 8
+    × Refuses (upTo (0 ∷ []) []) 2 18
+    × Refuses (upTo (33 ∷ []) []) 2 18
+    × Refuses (upTo (65 ∷ []) (tech 0 10000 (figures ∷ []) ∷ [])) 2 34
+    × Refuses (upTo (0 ∷ 257 ∷ []) (tech 0 10000 (figures ∷ []) ∷ [])) 2 36
+    -- 3: days, kind, TLM, the kinds' order, a fifth delivery year
+    × Refuses (ofYears (yearWith 364 1 0 ∷ [])) 3 2
+    × Refuses (ofYears (yearWith 367 1 0 ∷ [])) 3 2
+    × Refuses (ofYears (yearWith 365 2 0 ∷ [])) 3 2
+    × Refuses (ofYears (yearWith 365 1 10001 ∷ [])) 3 2
+    × Refuses (ofYears (yearWith 365 0 0 ∷ [])) 3 2
+    × Refuses (ofYears (year ∷ yearWith 365 0 0 ∷ year ∷ [])) 3 14
+    × Refuses (ofYears (year ∷ year ∷ year ∷ year ∷ year ∷ [])) 3 26
+    -- 4
+    × Refuses (file (year ∷ []) (budgets (100000 ∷ []) ∷ budgets (1000000000001 ∷ []) ∷ []) [] [] []) 4 18
+    -- 5: pot, RQM, load factor, reference, administrative price
+    × Refuses (ofTech (tech 1 10000 (figures ∷ []))) 5 20
+    × Refuses (ofTech (tech 0 10001 (figures ∷ []))) 5 20
+    × Refuses (ofTech (tech 0 10000 (figuresWith 20000 0 10001 ∷ []))) 5 20
+    × Refuses (ofTech (tech 0 10000 (figuresWith 20000 500001 10000 ∷ []))) 5 20
+    × Refuses (ofTech (tech 0 10000 (figuresWith 0 0 10000 ∷ []))) 5 20
+    × Refuses (ofTech (tech 0 10000 (figuresWith 500010 0 10000 ∷ []))) 5 20
+    × Refuses (ofTech (tech 0 10000 (figuresWith 15 0 10000 ∷ []))) 5 20
+    × Refuses (file (year ∷ yearWith 365 0 0 ∷ []) (budgets (1 ∷ 1 ∷ []) ∷ []) (tech 0 10000 (figures ∷ figures ∷ []) ∷ []) [] []) 5 34
+    -- 6: technology, year, days, capacity, draw
+    × Refuses (single 100000 (appWith 1 0 365 0 100 0 ∷ []) []) 6 36
+    × Refuses (single 100000 (app 1 0 100 ∷ []) []) 6 36
+    × Refuses (single 100000 (appWith 0 0 0 0 100 0 ∷ []) []) 6 36
+    × Refuses (single 100000 (appWith 0 0 366 0 100 0 ∷ []) []) 6 36
+    × Refuses (single 100000 (app 0 0 0 ∷ []) []) 6 36
+    × Refuses (single 100000 (app 0 0 300001 ∷ []) []) 6 36
+    × Refuses (single 100000 (app 0 7 100 ∷ app 0 7 100 ∷ []) []) 6 56
+    -- 7: application, year, days, capacity, price, start, price of its own year
+    × Refuses (single 100000 (app 0 0 100 ∷ []) (bid 1 0 100 4000 ∷ [])) 7 58
+    × Refuses (single 100000 (app 0 0 100 ∷ []) (bid 0 1 100 4000 ∷ [])) 7 58
+    × Refuses (single 100000 (app 0 0 100 ∷ []) (bidWith 0 0 0 100 4000 ∷ [])) 7 58
+    × Refuses (single 100000 (app 0 0 100 ∷ []) (bidWith 0 0 366 100 4000 ∷ [])) 7 58
+    × Refuses (single 100000 (app 0 0 100 ∷ []) (bid 0 0 0 4000 ∷ [])) 7 58
+    × Refuses (single 100000 (app 0 0 100 ∷ []) (bid 0 0 101 4000 ∷ [])) 7 58
+    × Refuses (single 100000 (app 0 0 100 ∷ []) (bid 0 0 100 20001 ∷ [])) 7 58
+    × Refuses (single 100000 (appWith 0 0 100 0 100 0 ∷ []) (bidWith 0 0 101 100 4000 ∷ [])) 7 58
+    × Refuses (file (year ∷ year ∷ []) (budgets (100000 ∷ 100000 ∷ []) ∷ []) (tech 0 10000 (figures ∷ figuresWith 10000 0 10000 ∷ []) ∷ []) (app 1 0 100 ∷
+    []) (bid 0 0 100 4000 ∷ [])) 7 82
+    × Refuses (file (year ∷ year ∷ []) (budgets (100000 ∷ 100000 ∷ []) ∷ []) (tech 0 10000 (figures ∷ figuresWith 10000 0 10000 ∷ []) ∷ []) (app 0 0 100 ∷
+    []) (bid 0 1 100 10001 ∷ [])) 7 82
+    -- 8
+    × Refuses (single 100000 (app 0 0 100 ∷ []) (bid 0 0 100 4000 ∷ bid 0 0 50 4000 ∷ [])) 8 72
+    -- 9: fourth in one year, eleventh
+    × Refuses (single 100000 (app 0 0 100 ∷ []) (times 4 (λ i. bid 0 0 100 (4000 + 10 * i)))) 9 100
+    × Refuses (file (times 4 (λ i. year)) (budgets (1 ∷ 1 ∷ 1 ∷ 1 ∷ []) ∷ []) (tech 0 10000 (times 4 (λ i. figures)) ∷ []) (app 0 0 100 ∷ [])
+    (times 11 (λ i. bid 0 (i / 3) 100 (4000 + 10 * i)))) 9 270
+    -- 10
+    × Refuses (single 100000 [] [] ++ (0 ∷ [])) 10 38
+    -- 11: at the lowest bid
+    × Refuses (single 100000 (app 0 0 100 ∷ []) (bid 0 0 100 4010 ∷ bid 0 0 100 4005 ∷ [])) 11 72
+    -- 12, at 0
+    × Refuses (single 100000 (app 0 0 100 ∷ []) (bid 0 0 100 4000 ∷ [])) 12 0
+
+pub worked : Marked × (Own × Refusals)
+unfolding times counted joined nums given both when never one-more every howMany sum le bytes each onto exactParts hoursOf deliveries sections roundOf sectionsOf
+    orElse orFault scan countFault recordFault section yearFault potFault techFault appFault sevenOf eightOf nineOf bidFault elevenOf judged reading winners downs
+    seen closed hanging wideEnd mark best value priceFrom tally within live least lowest taken follows remaining rank combination chosen choose tied alone lost
+    look run auction adminTotal adminFits outcome priceIn totalIn paid unlookedReason auctionReason reason winnersOf energyOf costOf assemble automatic bidOf mine
+    silent enters rowFor potOf told toldIn appTold appBytes potBytes bidBytes potsPart appsPart bidsPart resultBytes needed answerTo answerOf after clearOf
+    decLe decLt ℕ-discrete
+worked = ((refl, refl, refl, refl, refl, refl, refl, refl, refl, refl, refl, refl, refl, refl), ((refl, refl, refl, refl, refl, refl, refl, refl, refl, refl, refl), (refl, refl, refl, refl, refl, refl, refl, refl, refl, refl, refl, refl, refl, refl, refl, refl, refl, refl, refl, refl, refl, refl, refl, refl, refl, refl, refl, refl, refl, refl, refl, refl, refl, refl, refl, refl, refl, refl, refl, refl, refl, refl, refl, refl, refl, refl, refl, refl, refl, refl)))

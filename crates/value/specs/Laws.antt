@@ -1,10 +1,10 @@
 -- Laws of a bid's value, over the definitions alone. Assumes nothing.
-use mathlib.Core.Path.{_≡_, ap}
+use mathlib.Core.Path.{_≡_}
 use Prim.Native.Nat.{ℕ, _+_, _-_, _*_, _≤_, _<_}
 use native.Mathlib.Omega.{arith}
 use native.Mathlib.Nat.{mul-le-mul, mul-le-mul-right}
 use Rattle.rules.specs.Names.{highestPrice, whole}
-use Rattle.rules.specs.Value.{ceilDiv, pound, exactParts, valueOf, dearest}
+use Rattle.rules.specs.Value.{ceilDiv, pound, exactParts, dearest}
 use Rattle.value.specs.Ranges.{InRange}
 
 module _ (price reference energy share : ℕ) where
@@ -42,9 +42,8 @@ module _ (price reference energy share : ℕ) where
       let d : price - reference ≤ higher - reference = omega arith in
       omega (arith, mul-le-mul-right (energy * share) d)
 
--- it is the value of document 01, with load factor × energy and (1 − TLM) × RQM each taken as one number
-pub value-is : (price reference load energy tlm rqm : ℕ)
-    → valueOf price reference load energy tlm rqm ≡ ceilDiv ((price - reference) * (load * energy) * ((whole - tlm) * rqm)) pound
-unfolding valueOf exactParts
-value-is price reference load energy tlm rqm =
-    ap (λ (x : ℕ). ceilDiv x pound) (omega arith)
+-- document 01's exact cost, with load factor × energy and (1 − TLM) × RQM each taken as one number
+pub exact-is : (price reference load energy tlm rqm : ℕ)
+    → exactParts price reference load energy tlm rqm ≡ exact price reference (load * energy) ((whole - tlm) * rqm)
+unfolding exactParts
+exact-is price reference load energy tlm rqm = omega arith
