@@ -135,6 +135,9 @@ module _ (k : ℕ) where
       won-once : often k (winners (auction P)) ≤ 1
       won-once = omega (arith, often-won (auction P), once h)
 
+      down-once : often k (downs (auction P)) ≤ 1
+      down-once = omega (arith, often-won (auction P), once h)
+
       -- what won was not turned down
       pub not-both : In k (winners (auction P)) → In k (downs (auction P)) → ⊥
       not-both i j = omega (arith, often-some i, often-some j, often-won (auction P), once h)
@@ -158,6 +161,10 @@ map-once f (x ∷ l) h s k =
 -- no number stands twice among the winners, where none does among the bids
 pub winners-once : (P : Pot) → NoneTwice (P .bids) → NoneTwice (winners (auction P))
 winners-once P h k = won-once k P (h k)
+
+-- and none among those turned down: the step that turned a bid down is one
+pub downs-once : (P : Pot) → NoneTwice (P .bids) → NoneTwice (downs (auction P))
+downs-once P h k = down-once k P (h k)
 
 module _ (P : Pot) (L : Lawful P) where
   -- what was looked at are bids of the pot

@@ -20,6 +20,20 @@ TurnedDown n = (n ≡ downAlone) ⊎ (n ≡ downTied)
 abbrev pub Unlooked : ℕ → Type 0
 Unlooked n = (n ≡ unlookedWon) ⊎ (n ≡ unlookedElse)
 
+-- what a reason of an auction says of a bid: it won, it was turned down, or it was not looked at
+pub data Fate (n : ℕ) : Type 0 where
+  winner : n ≡ becauseWon → Fate n
+  loser : TurnedDown n → Fate n
+  passed : Unlooked n → Fate n
+
+-- no reason says two of these
+pub one-fate : {n : ℕ} → (n ≡ becauseWon → TurnedDown n → ⊥) × (n ≡ becauseWon → Unlooked n → ⊥) × (TurnedDown n → Unlooked n → ⊥)
+one-fate = (
+  λ e t. ⊎-elim (λ x. omega arith) (λ x. omega arith) t,
+  λ e t. ⊎-elim (λ x. omega arith) (λ x. omega arith) t,
+  λ t u. ⊎-elim (λ x. ⊎-elim (λ y. omega arith) (λ y. omega arith) u) (λ x. ⊎-elim (λ y. omega arith) (λ y. omega arith) u) t,
+)
+
 module _ (P : Pot) where
   -- ---- the mark of a bid that was looked at
 
@@ -81,14 +95,24 @@ module _ (P : Pot) where
       go (won i e) = wins i e
       go (turned i t) = falls i t
 
+  pub fate : (k n : ℕ) → Why k n → Fate n
+  fate k n (wins i e) = winner e
+  fate k n (falls i t) = loser t
+  fate k n (rests f t) = passed t
+
+  pub won-so : (k n : ℕ) → Why k n → n ≡ becauseWon → In k (winners (auction P))
+  won-so k n (wins i e) q = i
+  won-so k n (falls i t) q = absurd (one-fate .0 q t)
+  won-so k n (rests f t) q = absurd (one-fate .1 q t)
+
   pub fell : (k n : ℕ) → Why k n → TurnedDown n → In k (downs (auction P))
-  fell k n (wins i e) t = absurd (⊎-elim (λ x. omega arith) (λ x. omega arith) t)
+  fell k n (wins i e) t = absurd (one-fate .0 e t)
   fell k n (falls i x) t = i
-  fell k n (rests f x) t = absurd (⊎-elim (λ a. ⊎-elim (λ b. omega arith) (λ b. omega arith) t) (λ a. ⊎-elim (λ b. omega arith) (λ b. omega arith) t) x)
+  fell k n (rests f x) t = absurd (one-fate .2 t x)
 
   pub rested : (k n : ℕ) → Why k n → Unlooked n → memb k (seen (auction P)) ≡ false
-  rested k n (wins i e) t = absurd (⊎-elim (λ x. omega arith) (λ x. omega arith) t)
-  rested k n (falls i x) t = absurd (⊎-elim (λ a. ⊎-elim (λ b. omega arith) (λ b. omega arith) t) (λ a. ⊎-elim (λ b. omega arith) (λ b. omega arith) t) x)
+  rested k n (wins i e) t = absurd (one-fate .1 e t)
+  rested k n (falls i x) t = absurd (one-fate .2 x t)
   rested k n (rests f x) t = f
 
   -- ---- by the outcome

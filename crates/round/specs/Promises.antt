@@ -1,16 +1,18 @@
 -- The promises, as theorems about what the public functions write: `Clears file lent r exit` is the contract of `round::clear`, which answered r and left
 -- `exit` in the lent result. Assumes nothing.
-use Prim.Native.Nat.{ℕ, _<_}
+use Prim.Native.Nat.{ℕ, _+_, _<_}
 use mathlib.Core.Path.{_≡_, sym, ap, _∙_}
 use mathlib.Core.List.{List}
-use lib.ListN.{length, drop}
+use lib.ListN.{length, take, drop}
 use Rattle.rules.specs.Names.{auctioned}
 use Rattle.rules.specs.File.{roundOf}
 use Rattle.rules.specs.Refusals.{reading}
-use Rattle.rules.specs.Result.{needed, refusedAs, lengthOf}
+use Rattle.rules.specs.Result.{needed, refusedAs, lengthOf, Outcome}
 use Rattle.rules.specs.declared.Reading.{Reading}
 use Rattle.rules.specs.declared.Answer.{Answer}
+use Rattle.reading_laws.specs.Small.{largest}
 use Rattle.round_laws.specs.Apart.{DifferElsewhere}
+use Rattle.round_laws.specs.Undeclared.{SaveCosts}
 use Rattle.round_laws.specs.Third.{Third}
 use Rattle.round_laws.specs.Read.{outcomeAt, totalAt, toldAt}
 use Rattle.round_laws.specs.Demanded.{whyAt, SameRecords}
@@ -30,6 +32,20 @@ pub pots-apart : (file other lent lent′ : List ℕ) {r q : Answer} {exit exit�
     → SameRecords p (roundOf file) (roundOf other) exit exit′
 pots-apart file other lent lent′ C D e f p h d =
     rw (C .bytes, D .bytes) (laws.pots-apart file other lent lent′ (rw (C .answer) at e) (rw (D .answer) at f) p h d)
+
+-- "No declared cost enters any of them": two files of the same bytes but for declared costs get the same answer and the same bytes, refused or cleared
+pub no-declared-cost : (file other lent : List ℕ) {r q : Answer} {exit exit′ : List ℕ} → Clears file lent r exit → Clears other lent q exit′
+    → SaveCosts file other → (r ≡ q) × (exit ≡ exit′)
+no-declared-cost file other lent C D S =
+    let e = laws.no-declared-cost file other lent S in
+    (C .answer ∙ ap (λ (x : Outcome). x .answer) e ∙ sym (D .answer), C .bytes ∙ ap (λ (x : Outcome). x .exit) e ∙ sym (D .bytes))
+
+-- of a file longer than the longest round only its first bytes matter, up to one after where that round ends
+pub longer-file : (file lent : List ℕ) {r q : Answer} {exit exit′ : List ℕ} → largest < length file → Clears file lent r exit
+    → Clears (take (largest + 1) file) lent q exit′ → (r ≡ q) × (exit ≡ exit′)
+longer-file file lent h C D =
+    let e = laws.longer-file file lent h in
+    (C .answer ∙ ap (λ (x : Outcome). x .answer) e ∙ sym (D .answer), C .bytes ∙ ap (λ (x : Outcome). x .exit) e ∙ sym (D .bytes))
 
 -- "a refusal leaves the lent result as it was"
 pub refusal-writes-nothing : (file lent : List ℕ) {r : Answer} {exit : List ℕ} → Clears file lent r exit → (refusedAs r ≡ 0 → ⊥) → exit ≡ lent

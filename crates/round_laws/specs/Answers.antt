@@ -1,9 +1,9 @@
 -- What is known where a round is answered with a result, and where it is refused. Assumes nothing.
-use Prim.Native.Nat.{ℕ, _+_, _≤_}
+use Prim.Native.Nat.{ℕ, _+_, _≤_, _<_}
 use mathlib.Core.Path.{_≡_, refl, sym, ap, _∙_}
 use mathlib.Core.List.{List, [], _∷_, _++_}
 use native.Mathlib.Omega.{arith}
-use lib.ListN.{length, drop}
+use lib.ListN.{length, take, drop}
 use lib.Dec.{ltb}
 use borrow.Author.Tests.{ltb-false}
 use Rattle.rules.specs.Bytes.{onto}
@@ -18,6 +18,8 @@ use Rattle.rules.specs.declared.Answer.the-variants.{Cleared, Refused}
 use Rattle.pot_laws.specs.Lists.{case}
 use Rattle.reading_laws.specs.Walk.{or-then, or-passed, section-then, scan-then}
 use Rattle.reading_laws.specs.Reading.{Sound, section-right, accepted}
+use Rattle.reading_laws.specs.Small.{largest}
+use Rattle.reading_laws.specs.Longer.{first-bytes, never-accepted}
 use Rattle.round_laws.specs.Places.{At, at-start}
 use Rattle.round_laws.specs.Read.{needed-is}
 
@@ -107,3 +109,16 @@ kept (Refused m at) R lent h = refl
 pub refusal-keeps : (file lent : List ℕ) → (refusedAs (clearOf file lent .answer) ≡ 0 → ⊥) → clearOf file lent .exit ≡ lent
 unfolding clearOf
 refusal-keeps file lent h = kept (answerOf file (length lent)) (roundOf file) lent h
+
+-- a refused file's answer, whatever its round
+refused-so : (file lent : List ℕ) {m x : ℕ} → reading file ≡ r.Refused m x → clearOf file lent ≡ record { answer = Refused m x; exit = lent }
+unfolding clearOf answerOf answerTo after
+refused-so file lent e = rw e
+
+-- of a file longer than the largest round only the first bytes matter
+pub longer : (file lent : List ℕ) → largest < length file → clearOf file lent ≡ clearOf (take (largest + 1) file) lent
+longer file lent h = go (reading file) refl
+  where
+    go : (q : Reading) → reading file ≡ q → clearOf file lent ≡ clearOf (take (largest + 1) file) lent
+    go (r.Accepted g) e = absurd (never-accepted file h e)
+    go (r.Refused m x) e = refused-so file lent e ∙ sym (refused-so (take (largest + 1) file) lent (sym (first-bytes file h) ∙ e))

@@ -17,12 +17,9 @@ use Rattle.rules.specs.Pot.{Pot, outcome, priceIn, totalIn, reason}
 use Rattle.rules.specs.Round.{blank, techOf, automatic, bidOf, mine, silent, enters, rowFor, assemble, potOf}
 use Rattle.rules.specs.Result.{potFor, potAt, toldIn, appTold}
 use Rattle.pot_laws.specs.Lists.{case, clash, In, here, there, below-in, sift-same}
+use Rattle.reading_laws.specs.Alike.{Same, le-same}
 use Rattle.reading_laws.specs.Reading.{Sound, app-tech, app-year}
 use Rattle.round_laws.specs.Bids.{appPot, bidPot, bid-own, bid-auto, mine-own, mine-auto, mine-out, Kind, own, auto, out, kind, Mine, mine-is}
-
--- the same w bytes at a place
-abbrev pub Same : List ℕ → List ℕ → (at w : ℕ) → Type 0
-Same s t at w = (j : ℕ) → j < w → getD s (at + j) 0 ≡ getD t (at + j) 0
 
 -- the bytes of an application before its declared cost
 abbrev pub undeclared : ℕ
@@ -46,16 +43,6 @@ pub record DifferElsewhere (p : ℕ) (f g : Round) : Type 0 where
   -- "each pot's records at the same places"
   pub app-places : (i : ℕ) → i < f .n → (appPot f i ≡ p) ↔ (appPot g i ≡ p)
   pub bid-places : (i : ℕ) → i < f .b → (bidPot f i ≡ p) ↔ (bidPot g i ≡ p)
-
--- a number within the same bytes is the same
-le-same : (k : ℕ) (s t : List ℕ) (at w x : ℕ) → Same s t at w → at ≤ x → x + k ≤ at + w → le k s x ≡ le k t x
-unfolding le
-le-same zero s t at w x h l u = refl
-le-same (suc k) s t at w x h l u =
-    let e : at + (x - at) ≡ x = omega arith in
-    let q : getD s x 0 ≡ getD t x 0 = rw e at (h (x - at) (omega arith)) in
-    let r = le-same k s t at w (x + 1) h (omega arith) (omega arith) in
-    omega arith
 
 eqb-same : (a b p : ℕ) → (a ≡ p) ↔ (b ≡ p) → eqb a p ≡ eqb b p
 eqb-same a b p h =

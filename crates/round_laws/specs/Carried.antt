@@ -14,7 +14,7 @@ use Rattle.rules.specs.File.{Round, yearAt}
 use Rattle.rules.specs.Pot.{Pot, winners, auction, totalIn, paid, clearing, tally, exact, total, counted, reason, winnersOf}
 use Rattle.rules.specs.Round.{bidOf, mine, silent, rowFor, energyOf, costOf, potOf}
 use Rattle.rules.specs.Result.{Told, told, toldIn, appTold}
-use Rattle.pot_laws.specs.Lists.{case, clash, and-true, In, here, there, memb-in, in-memb, in-none, in-below, sift-in, in-sift, sift-both, sift-same}
+use Rattle.pot_laws.specs.Lists.{case, clash, and-true, In, here, there, memb-in, in-memb, in-none, in-one, in-below, sift-in, in-sift, sift-both, sift-same}
 use Rattle.reading_laws.specs.Reading.{Sound}
 use Rattle.pot_laws.specs.Runs.{won-seen}
 use Rattle.pot_laws.specs.Once.{NoneTwice, often, often-sift, seen-mine, single}
@@ -104,6 +104,14 @@ module _ (R : Round) (p : ℕ) (S : Sound R) where
     unfolding appTold toldIn
     told-is a e q = ap (λ (q : ℕ). toldIn (R .b) (silent R a) (potOf R q) a) e ∙ by-auction P A _ _ _ ∙ ap (told (R .b) P (autoIs a)) q
 
+    -- an application's one winner is the bid told with it
+    sole-told : (a w : ℕ) → appPot R a ≡ p → winnersOf P a ≡ w ∷ [] → bidTold R p (appTold R) a ≡ w
+    unfolding bidTold told
+    sole-told a w e q =
+        let i = of a w (rw q (here refl)) in
+        let z = bid-mine w (i .0) in
+        rw (ap (λ (x : Told). x .bid) (told-is a e q)) (number a w (z .2) (sym (z .1) ∙ i .1))
+
     -- each of the pot's winners is told once
     carried : (f F : ℕ → ℕ) → ((a w : ℕ) → mine R p w ≡ true → bidTold R p (appTold R) a ≡ w → appTold R a .paid ≡ paid P w → f a ≡ F w) → sum f (wonApps R p (appTold R)) ≡ sum F won
     unfolding wonApps bidTold told sum
@@ -116,10 +124,8 @@ module _ (R : Round) (p : ℕ) (S : Sound R) where
         go a e nobody q = let T = told-is a e q in rw (ap (λ (x : Told). x .won) T, q)
         go a e (one w) q =
             let T = told-is a e q in
-            let i = of a w (rw q (here refl)) in
-            let z = bid-mine w (i .0) in
-            let b : bidTold R p (appTold R) a ≡ w = rw (ap (λ (x : Told). x .bid) T) (number a w (z .2) (sym (z .1) ∙ i .1)) in
-            rw (ap (λ (x : Told). x .won) T, q) (omega (arith, h a w (z .2) b (ap (λ (x : Told). x .paid) T)))
+            let z = bid-mine w (of a w (rw q (here refl)) .0) in
+            rw (ap (λ (x : Told). x .won) T, q) (omega (arith, h a w (z .2) (sole-told a w e q) (ap (λ (x : Told). x .paid) T)))
 
         -- another pot's application has none
         other : (a : ℕ) → eqb (appPot R a) p ≡ false → {l : List ℕ} → Short l → winnersOf P a ≡ l → 0 ≡ sum F l
@@ -164,3 +170,36 @@ module _ (R : Round) (p : ℕ) (S : Sound R) where
         go : appPot R (bidOf R w .app) ≡ p → {l : List ℕ} → Short l → winnersOf P (bidOf R w .app) ≡ l → eqb (appTold R (bidOf R w .app) .won) 1 ≡ true
         go q nobody e = in-none (rw e at j)
         go q (one v) e = eq-eqb _ 1 (ap (λ (x : Told). x .won) (told-is (bidOf R w .app) q e))
+
+    -- its bid is the one told with its application
+    pub bid-told : (w : ℕ) → In w (winners (auction P)) → bidTold R p (appTold R) (bidOf R w .app) ≡ w
+    unfolding winnersOf
+    bid-told w i = go (winners-short (bidOf R w .app)) refl
+      where
+        z : Mine R p (bidOf R w) × (P .app w ≡ bidOf R w .app) × (mine R p w ≡ true)
+        z = bid-mine w (won-in w i)
+
+        j : In w (winnersOf P (bidOf R w .app))
+        j = in-sift (λ v. eqb (P .app v) (bidOf R w .app) && memb v (winners (auction P))) (won-in w i) (rw (eq-eqb _ _ (z .1), in-memb i))
+
+        go : {l : List ℕ} → Short l → winnersOf P (bidOf R w .app) ≡ l → bidTold R p (appTold R) (bidOf R w .app) ≡ w
+        go nobody e = in-none (rw e at j)
+        go (one v) e = sole-told (bidOf R w .app) v (z .0 .pot) e ∙ sym (in-one (rw e at j))
+
+    -- an application told as won has a winner, which is the bid told with it
+    pub winner-of : (a : ℕ) → In a (wonApps R p (appTold R)) → (w : ℕ) × In w (winners (auction P)) × (bidTold R p (appTold R) a ≡ w) × (bidOf R w .app ≡ a)
+    unfolding wonApps told
+    winner-of a i = go (winners-short a) refl
+      where
+        r : In a (below (R .n)) × ((eqb (appPot R a) p && eqb (appTold R a .won) 1) ≡ true)
+        r = sift-in a (λ a. eqb (appPot R a) p && eqb (appTold R a .won) 1) (below (R .n)) i
+
+        q : (eqb (appPot R a) p ≡ true) × (eqb (appTold R a .won) 1 ≡ true)
+        q = and-true (eqb (appPot R a) p) (eqb (appTold R a .won) 1) (r .1)
+
+        pot : appPot R a ≡ p
+        pot = eqb-true _ p (q .0)
+
+        go : {l : List ℕ} → Short l → winnersOf P a ≡ l → (w : ℕ) × In w (winners (auction P)) × (bidTold R p (appTold R) a ≡ w) × (bidOf R w .app ≡ a)
+        go nobody e = let z : _≡_ {A = ℕ} 0 1 = sym (ap (λ (x : Told). x .won) (told-is a pot e)) ∙ eqb-true _ 1 (q .1) in absurd (omega arith)
+        go (one w) e = let m = of a w (rw e (here refl)) in (w, m .2, sole-told a w pot e, sym (bid-mine w (m .0) .1) ∙ m .1)

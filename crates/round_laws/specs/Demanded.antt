@@ -38,6 +38,14 @@ module _ (R : Round) (p : ℕ) (T U : ℕ → Told) (e : (a : ℕ) → a < R .n 
       (e a (below-in a (R .n) (sift-in a (λ a. eqb (appPot R a) p && eqb (T a .won) 1) (below (R .n)) i .0))))
       ∙ ap (sum (costTold R p U y)) won-same
 
+  bid-same : (a : ℕ) → a < R .n → bidTold R p T a ≡ bidTold R p U a
+  unfolding bidTold
+  bid-same a h = ap (λ (x : Told). pick (ltb (x .bid) (R .b)) (x .bid) (R .b + a)) (e a h)
+
+  won-below : (a : ℕ) → In a (wonApps R p U) → a < R .n
+  unfolding wonApps
+  won-below a i = below-in a (R .n) (sift-in a (λ a. eqb (appPot R a) p && eqb (U a .won) 1) (below (R .n)) i .0)
+
   third-same : (tt uu tw uw : ℕ → ℕ) → ((y : ℕ) → y < R .y → tt y ≡ uu y) → ((k : ℕ) → In k (potOf R p .bids) → tw k ≡ uw k) → Third R p U uu uw → Third R p T tt tw
   third-same tt uu tw uw f g D = record {
     affordable = λ y h. rw (cost-same y) (D .affordable y h);
@@ -47,6 +55,15 @@ module _ (R : Round) (p : ℕ) (T U : ℕ → Told) (e : (a : ℕ) → a < R .n 
     unlooked = λ k i t.
         ⊎-elim (λ w. inl (rw won-same w)) (λ c. inr (c .0, c .1, rw (g (c .0) (c .1)) (c .2), c .3, c .4))
         (D .unlooked k i (rw (g k i) at t));
+    one-step = D .one-step;
+    fate = λ k i. rw (g k i) (D .fate k i);
+    winner = λ k i t.
+        let w = D .winner k i (sym (g k i) ∙ t) in
+        (rw won-same (w .0), bid-same (bidOf R k .app) (won-below _ (w .0)) ∙ w .1);
+    won-by = λ a i.
+        let j : In a (wonApps R p U) = rw won-same at i in
+        let w = D .won-by a j in
+        rw (bid-same a (won-below a j)) (w .0, g _ (w .0) ∙ w .1, w .2);
   }
 
 -- the reason that the result's bytes tell of a bid: a sealed bid's in its own record, an automatic one's in its application's

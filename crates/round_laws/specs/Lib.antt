@@ -6,6 +6,7 @@ pub mod Places
 pub mod Bounds
 pub mod Read
 pub mod Apart
+pub mod Undeclared
 pub mod Answers
 pub mod Demanded
 pub mod Theorems

@@ -2,19 +2,20 @@
 use Prim.Native.Nat.{ℕ, _+_, _*_, _≤_}
 use mathlib.Core.Path.{_≡_, refl, sym, _∙_}
 use mathlib.Core.Logic.{inl, inr, ⊎-elim}
+use Rattle.rules.specs.Names.{becauseWon}
 use Rattle.rules.specs.File.{Round}
 use Rattle.rules.specs.Pot.{Pot, winners, downs, auction, totalIn, reason}
 use Rattle.rules.specs.Round.{bidOf, potOf}
 use Rattle.rules.specs.Result.{appTold}
 use Rattle.pot_laws.specs.Lists.{clash, In, memb-in, in-memb, map-in}
 use Rattle.reading_laws.specs.Reading.{Sound}
-use Rattle.pot_laws.specs.Runs.{down-seen}
+use Rattle.pot_laws.specs.Runs.{won-seen, down-seen}
 use Rattle.pot_laws.specs.Demand as d
-use Rattle.pot_laws.specs.Once.{seen-mine, not-both}
+use Rattle.pot_laws.specs.Once.{seen-mine, not-both, downs-once}
 use Rattle.round_laws.specs.Bids.{pound-is, years-is, budget-is, bids-in, bids-once, app-is, yr-is, price-is, lawful}
-use Rattle.pot_laws.specs.Reasons.{TurnedDown, Auctioned, Why, wins, falls, rests, fell, rested, reason-why}
+use Rattle.pot_laws.specs.Reasons.{TurnedDown, Auctioned, Why, wins, falls, rests, fate, won-so, fell, rested, reason-why}
 use Rattle.round_laws.specs.Third.{Third}
-use Rattle.round_laws.specs.Carried.{bid-mine, won-in, won-told, exact-told, length-told, total-told}
+use Rattle.round_laws.specs.Carried.{bid-mine, won-in, won-told, bid-told, winner-of, exact-told, length-told, total-told}
 
 at-scale : {a b c s t : ℕ} → b ≡ c → s ≡ t → a ≤ b * s → a ≤ c * t
 at-scale p q h = rw (sym p, sym q) h
@@ -41,6 +42,15 @@ module _ (R : Round) (p : ℕ) (S : Sound R) (A : Auctioned (potOf R p)) where
       go (falls j t) = t
       go (rests f t) = clash (in-memb (down-seen c (auction P) i)) f
 
+  -- what won is told so
+  won-reason : (w : ℕ) → In w (winners (auction P)) → reason P w ≡ becauseWon
+  won-reason w i = go (reason-why P A w)
+    where
+      go : {n : ℕ} → Why P w n → n ≡ becauseWon
+      go (wins j e) = e
+      go (falls j t) = absurd (not-both w P (bids-once R p w) i j)
+      go (rests f t) = clash (in-memb (won-seen w (auction P) i)) f
+
   pub third : Third R p (appTold R) (totalIn P) (reason P)
   third = record {
     affordable = λ y h. rw (exact-told R p S A y) (at-scale (budget-is R p y h) (pound-is R p) (demand .affordable y (rw (years-is R p) h)));
@@ -61,4 +71,11 @@ module _ (R : Round) (p : ℕ) (S : Sound R) (A : Auctioned (potOf R p)) where
         let m = bids-in R p c j .0 in
         inr (c, j, down-told c (h .1), sym (yr-is R p c m) ∙ h .2 ∙ yr-is R p k n, rw (price-is R p c m, price-is R p k n) at (h .3)))
         (demand .unlooked k i (rested P k (reason P k) (reason-why P A k) t));
+    one-step = downs-once P (bids-once R p);
+    fate = λ k i. fate P k (reason P k) (reason-why P A k);
+    winner = λ k i e. let w = won-so P k (reason P k) (reason-why P A k) e in (won-told R p S A k w, bid-told R p S A k w);
+    won-by = λ a i.
+        let z = winner-of R p S A a i in
+        let w = z .0 in
+        rw (z .2) (won-in R p S w (z .1), won-reason w (z .1), z .3);
   }

@@ -1,10 +1,10 @@
 -- The theorems, each under the sentence of document 01 that it answers. `clearOf file lent` is the answer to a file, and what then stands in the lent bytes; a file is
 -- cleared where that answer is no refusal. Assumes nothing.
-use Prim.Native.Nat.{ℕ, _≤_, _<_}
+use Prim.Native.Nat.{ℕ, _+_, _≤_, _<_}
 use mathlib.Core.Path.{_≡_, sym, _∙_}
 use mathlib.Core.Bool.{false}
 use mathlib.Core.List.{List, map}
-use lib.ListN.{length, drop}
+use lib.ListN.{length, take, drop}
 use Rattle.rules.specs.Names.{auctioned}
 use Rattle.rules.specs.File.{Round, roundOf}
 use Rattle.rules.specs.Pot.{Pot, winners, live, auction, wideEnd}
@@ -13,6 +13,8 @@ use Rattle.rules.specs.Result.{needed, refusedAs, clearOf}
 use Rattle.rules.specs.declared.Answer.{Answer}
 use Rattle.pot_laws.specs.Lists.{In}
 use Rattle.reading_laws.specs.Reading.{Sound}
+use Rattle.reading_laws.specs.Small.{largest}
+use Rattle.round_laws.specs.Undeclared.{SaveCosts, same-clearing}
 use Rattle.pot_laws.specs.Mono.{Lawful}
 use Rattle.pot_laws.specs.Runs as runs
 use Rattle.pot_laws.specs.Once as once
@@ -41,6 +43,14 @@ third-demand = demanded.demand-3
 pub pots-apart : (file other lent lent′ : List ℕ) → IsCleared file lent → IsCleared other lent′ → (p : ℕ) → p < roundOf file .p
     → DifferElsewhere p (roundOf file) (roundOf other) → SameRecords p (roundOf file) (roundOf other) (clearOf file lent .exit) (clearOf other lent′ .exit)
 pots-apart = demanded.cleared-apart
+
+-- "No declared cost enters any of them": two files of the same bytes but for declared costs get the same answer and the same bytes, refused or cleared
+pub no-declared-cost : (file other lent : List ℕ) → SaveCosts file other → clearOf file lent ≡ clearOf other lent
+no-declared-cost file other lent D = same-clearing file other D lent
+
+-- of a file longer than the longest round only its first bytes matter, up to one after where that round ends
+pub longer-file : (file lent : List ℕ) → largest < length file → clearOf file lent ≡ clearOf (take (largest + 1) file) lent
+longer-file = answers.longer
 
 -- "A refusal writes nothing."
 pub refusal-writes-nothing : (file lent : List ℕ) → (IsCleared file lent → ⊥) → clearOf file lent .exit ≡ lent

@@ -9,12 +9,14 @@ use lib.Dec.{eqb, ltb}
 use Rattle.rules.specs.Lists.{pick, sift, below, sum}
 use Rattle.rules.specs.Value.{pound}
 use Rattle.rules.specs.File.{Round, budgetAt}
-use Rattle.rules.specs.Pot.{auction}
+use Rattle.rules.specs.Names.{becauseWon}
+use Rattle.rules.specs.Pot.{downs, auction}
 use Rattle.rules.specs.Round.{bidOf, rowFor, costOf, potOf}
 use Rattle.rules.specs.Result.{Told}
 use Rattle.pot_laws.specs.Lists.{In}
 use Rattle.round_laws.specs.Bids.{appPot}
-use Rattle.pot_laws.specs.Reasons.{TurnedDown, Unlooked}
+use Rattle.pot_laws.specs.Once.{NoneTwice}
+use Rattle.pot_laws.specs.Reasons.{TurnedDown, Unlooked, Fate}
 use Rattle.pot_laws.specs.Demand.{Dear}
 
 module _ (R : Round) (p : ℕ) (T : ℕ → Told) where
@@ -46,7 +48,16 @@ pub record Third (R : Round) (p : ℕ) (T : ℕ → Told) (total why : ℕ → �
   -- every bid looked at and turned down would, added at its own price to all that had won by the end of its step, revalued, have cost in some year more than the
   -- budget less one pound for each bid counted
   pub turned-down : (k : ℕ) → In k (potOf R p .bids) → TurnedDown (why k) → Dear (potOf R p) k (auction (potOf R p))
+  -- the step that turned a bid down is one
+  pub one-step : NoneTwice (downs (auction (potOf R p)))
   -- every bid never looked at belongs to an application that won, or to a delivery year in which a cheaper bid had been turned down
   pub unlooked : (k : ℕ) → In k (potOf R p .bids) → Unlooked (why k)
       → In (bidOf R k .app) (wonApps R p T)
       ⊎ ((c : ℕ) × In c (potOf R p .bids) × TurnedDown (why c) × (bidOf R c .year ≡ bidOf R k .year) × (bidOf R c .price < bidOf R k .price))
+  -- every bid of the pot is told as one of the three: won, turned down, not looked at; no reason says two of them (`one-fate`)
+  pub fate : (k : ℕ) → In k (potOf R p .bids) → Fate (why k)
+  -- a bid told as won is the bid told with its application, which is told as won
+  pub winner : (k : ℕ) → In k (potOf R p .bids) → why k ≡ becauseWon → In (bidOf R k .app) (wonApps R p T) × (bidTold R p T (bidOf R k .app) ≡ k)
+  -- and the other way round
+  pub won-by : (a : ℕ) → In a (wonApps R p T)
+      → In (bidTold R p T a) (potOf R p .bids) × (why (bidTold R p T a) ≡ becauseWon) × (bidOf R (bidTold R p T a) .app ≡ a)
