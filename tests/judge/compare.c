@@ -171,7 +171,65 @@ static void compare_rounds(uint64_t count, uint64_t seed, uint8_t *file)
             compare("round", seed + i, file, make_round(seed + i, file));
 }
 
-/* For every ten damaged rounds, one spliced from two and one of random bytes. */
+/* ---- files that the library must not tell apart ---- */
+
+static uint64_t two_bytes(const uint8_t *p)
+{
+    return p[0] + 256u * p[1];
+}
+
+/* The library answers both files alike, and leaves the same bytes. */
+static bool alike(const uint8_t *file, uint64_t len, const uint8_t *other, uint64_t other_len)
+{
+    static struct lent one, two;
+    set_pattern(&one, 0);
+    two = one;
+    uint64_t answer = gustmirror_clear(file, len, one.bytes, MOST_LENT);
+    uint64_t answered = gustmirror_clear(other, other_len, two.bytes, MOST_LENT);
+    if (answer != answered)
+        return differs("answers of files alike", answer, answered);
+    if (memcmp(&one, &two, sizeof one) != 0)
+        return differs("results of files alike", 1, 0);
+    return true;
+}
+
+/* A file longer than any round is refused for its first bytes alone. */
+static void compare_longer(uint64_t seed, uint8_t *file)
+{
+    size_t len = seed % 8 == 0 ? make_largest(file) : make_round(seed, file);
+    size_t longer = JUDGE_MAX_FILE + 1 + (size_t)rng_below(&rng, MAKE_CAPACITY - JUDGE_MAX_FILE);
+    for (size_t i = len; i < longer; i++)
+        file[i] = (uint8_t)rng_next(&rng);
+    compare("longer file", seed, file, longer);
+    bool same = alike(file, longer, file, JUDGE_MAX_FILE + 1);
+    passed += same;
+    failed += !same;
+}
+
+/* No declared cost enters: a round, or a damaged one, with others. */
+static void compare_declared(uint64_t seed, uint8_t *file)
+{
+    static uint8_t other[MAKE_CAPACITY];
+    enum { YEAR = 6, BUDGET = 8, HEAD = 4, TECHNOLOGY_YEAR = 10, APPLICATION = 20, COST = 12, COST_BYTES = 8 };
+    size_t len = make_round(seed, file);
+    uint64_t years = two_bytes(file), pots_at = 2 + years * YEAR, pots = two_bytes(file + pots_at);
+    uint64_t technologies_at = pots_at + 2 + pots * years * BUDGET, technologies = two_bytes(file + technologies_at);
+    uint64_t applications_at = technologies_at + 2 + technologies * (HEAD + years * TECHNOLOGY_YEAR);
+    uint64_t applications = two_bytes(file + applications_at);
+    if (seed % 2 == 0)
+        file[rng_below(&rng, applications_at)] ^= 1 << rng_below(&rng, 3);
+    if (two_bytes(file) != years || two_bytes(file + pots_at) != pots || two_bytes(file + technologies_at) != technologies)
+        return;
+    memcpy(other, file, len);
+    for (uint64_t a = 0; a < applications; a++)
+        for (unsigned i = 0; i < COST_BYTES; i++)
+            other[applications_at + 2 + a * APPLICATION + COST + i] = (uint8_t)rng_next(&rng);
+    bool same = alike(file, len, other, len);
+    passed += same;
+    failed += !same;
+}
+
+/* For every ten damaged rounds, one spliced from two, one of random bytes, one that goes on, and one with other declared costs. */
 static void compare_others(uint64_t count, uint64_t seed, uint8_t *file)
 {
     for (uint64_t i = 0; i < count; i++) {
@@ -180,6 +238,8 @@ static void compare_others(uint64_t count, uint64_t seed, uint8_t *file)
             continue;
         compare("splice", seed + i, file, splice(seed + i, file));
         compare("random bytes", i, file, random_bytes(file));
+        compare_longer(seed + i, file);
+        compare_declared(seed + i / 10, file);
     }
 }
 
