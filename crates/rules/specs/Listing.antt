@@ -134,5 +134,8 @@ pub listed :
     ++ (ascii "application 0 lost\n"
     ++ ascii "application 1 won 20000 bid auto\n")))
     × (listingOf (2 ∷ []) ≡ ascii "refused 1 at 0\n")
+    -- numbers of every digit, and the least of two digits
+    × (decimal 9876543210 ≡ ascii "9876543210")
+    × (decimal 10 ≡ ascii "10")
 unfolding decimalIn decimal outcomeWord priceWord bidWord potLine yearLine wonLine lostLine appLine bidLine refusalLine priceListed potLines appLineOf roundLines listingFor listingOf nums joined counted given both when never one-more every howMany sum le bytes each exactParts hoursOf deliveries sections roundOf sectionsOf orElse orFault scan countFault recordFault section yearFault potFault techFault appFault sevenOf eightOf nineOf bidFault elevenOf judged reading winners downs seen closed hanging wideEnd mark best value priceFrom tally within live least lowest taken follows remaining rank combination chosen choose tied alone lost look run auction adminTotal adminFits outcome priceIn totalIn paid unlookedReason auctionReason reason winnersOf energyOf costOf assemble automatic bidOf mine silent enters rowFor potOf told toldIn appTold decLe decLt ℕ-discrete
-listed = (refl, refl, refl, refl)
+listed = (refl, refl, refl, refl, refl, refl)

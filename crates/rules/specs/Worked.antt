@@ -11,13 +11,13 @@ use Rattle.rules.specs.Bytes.{le, bytes, each, onto}
 use Rattle.rules.specs.Value.{exactParts, hoursOf}
 use Rattle.rules.specs.File.{deliveries, sections, roundOf, sectionsOf}
 use Rattle.rules.specs.Refusals.{orElse, orFault, scan, countFault, recordFault, section, yearFault, potFault, techFault, appFault, sevenOf, eightOf}
-use Rattle.rules.specs.Refusals.{nineOf, bidFault, elevenOf, judged, reading}
+use Rattle.rules.specs.Refusals.{nineOf, bidFault, elevenOf, judged, reading, refusal, place}
 use Rattle.rules.specs.Pot.{winners, downs, seen, closed, hanging, wideEnd, mark, best, value, priceFrom, tally, within, live, least, lowest, taken}
 use Rattle.rules.specs.Pot.{follows, remaining, rank, combination, chosen, choose, tied, alone, lost, look, run, auction, adminTotal, adminFits, outcome}
 use Rattle.rules.specs.Pot.{priceIn, totalIn, paid, unlookedReason, auctionReason, reason, winnersOf}
 use Rattle.rules.specs.Round.{energyOf, costOf, assemble, automatic, bidOf, mine, silent, enters, rowFor, potOf}
 use Rattle.rules.specs.Result.{told, toldIn, appTold, appBytes, potBytes, bidBytes, potsPart, appsPart, bidsPart, resultBytes, needed, answerTo, answerOf}
-use Rattle.rules.specs.Result.{after, clearOf}
+use Rattle.rules.specs.Result.{after, clearOf, refusedAs, refusedAt, codeOf, lengthTo, lengthOf}
 use Rattle.rules.specs.declared.Answer.the-variants.{Cleared, Refused}
 
 -- ---- files and results, from their numbers
@@ -223,47 +223,47 @@ ofTech t = file (year ∷ []) (budgets (100000 ∷ []) ∷ []) (t ∷ []) [] []
 abbrev Refusals : Type 0
 Refusals =
     -- 1
-    Refuses (2 ∷ []) 1 0
+    (Refuses (2 ∷ []) 1 0
     × Refuses (nums 2 (1 ∷ 365 ∷ 1 ∷ [])) 1 2
-    × Refuses (counted (year ∷ [])) 1 8
+    × Refuses (counted (year ∷ [])) 1 8)
     -- 2: years, pots, technologies, applications, bids
-    × Refuses (bytes 2 0) 2 0
+    × (Refuses (bytes 2 0) 2 0
     × Refuses (bytes 2 9) 2 0
     × Refuses (counted (year ∷ []) ++ bytes 2 0) 2 8
     × Refuses (counted (year ∷ []) ++ bytes 2 5) 2 8
     × Refuses (upTo (0 ∷ []) []) 2 18
     × Refuses (upTo (33 ∷ []) []) 2 18
     × Refuses (upTo (65 ∷ []) (tech 0 10000 (figures ∷ []) ∷ [])) 2 34
-    × Refuses (upTo (0 ∷ 257 ∷ []) (tech 0 10000 (figures ∷ []) ∷ [])) 2 36
+    × Refuses (upTo (0 ∷ 257 ∷ []) (tech 0 10000 (figures ∷ []) ∷ [])) 2 36)
     -- 3: days, kind, TLM, the kinds' order, a fifth delivery year
-    × Refuses (ofYears (yearWith 364 1 0 ∷ [])) 3 2
+    × (Refuses (ofYears (yearWith 364 1 0 ∷ [])) 3 2
     × Refuses (ofYears (yearWith 367 1 0 ∷ [])) 3 2
     × Refuses (ofYears (yearWith 365 2 0 ∷ [])) 3 2
     × Refuses (ofYears (yearWith 365 1 10001 ∷ [])) 3 2
     × Refuses (ofYears (yearWith 365 0 0 ∷ [])) 3 2
     × Refuses (ofYears (year ∷ yearWith 365 0 0 ∷ year ∷ [])) 3 14
-    × Refuses (ofYears (year ∷ year ∷ year ∷ year ∷ year ∷ [])) 3 26
+    × Refuses (ofYears (year ∷ year ∷ year ∷ year ∷ year ∷ [])) 3 26)
     -- 4
     × Refuses (file (year ∷ []) (budgets (100000 ∷ []) ∷ budgets (1000000000001 ∷ []) ∷ []) [] [] []) 4 18
     -- 5: pot, RQM, load factor, reference, administrative price
-    × Refuses (ofTech (tech 1 10000 (figures ∷ []))) 5 20
+    × (Refuses (ofTech (tech 1 10000 (figures ∷ []))) 5 20
     × Refuses (ofTech (tech 0 10001 (figures ∷ []))) 5 20
     × Refuses (ofTech (tech 0 10000 (figuresWith 20000 0 10001 ∷ []))) 5 20
     × Refuses (ofTech (tech 0 10000 (figuresWith 20000 500001 10000 ∷ []))) 5 20
     × Refuses (ofTech (tech 0 10000 (figuresWith 0 0 10000 ∷ []))) 5 20
     × Refuses (ofTech (tech 0 10000 (figuresWith 500010 0 10000 ∷ []))) 5 20
     × Refuses (ofTech (tech 0 10000 (figuresWith 15 0 10000 ∷ []))) 5 20
-    × Refuses (file (year ∷ yearWith 365 0 0 ∷ []) (budgets (1 ∷ 1 ∷ []) ∷ []) (tech 0 10000 (figures ∷ figures ∷ []) ∷ []) [] []) 5 34
+    × Refuses (file (year ∷ yearWith 365 0 0 ∷ []) (budgets (1 ∷ 1 ∷ []) ∷ []) (tech 0 10000 (figures ∷ figures ∷ []) ∷ []) [] []) 5 34)
     -- 6: technology, year, days, capacity, draw
-    × Refuses (single 100000 (appWith 1 0 365 0 100 0 ∷ []) []) 6 36
+    × (Refuses (single 100000 (appWith 1 0 365 0 100 0 ∷ []) []) 6 36
     × Refuses (single 100000 (app 1 0 100 ∷ []) []) 6 36
     × Refuses (single 100000 (appWith 0 0 0 0 100 0 ∷ []) []) 6 36
     × Refuses (single 100000 (appWith 0 0 366 0 100 0 ∷ []) []) 6 36
     × Refuses (single 100000 (app 0 0 0 ∷ []) []) 6 36
     × Refuses (single 100000 (app 0 0 300001 ∷ []) []) 6 36
-    × Refuses (single 100000 (app 0 7 100 ∷ app 0 7 100 ∷ []) []) 6 56
+    × Refuses (single 100000 (app 0 7 100 ∷ app 0 7 100 ∷ []) []) 6 56)
     -- 7: application, year, days, capacity, price, start, price of its own year
-    × Refuses (single 100000 (app 0 0 100 ∷ []) (bid 1 0 100 4000 ∷ [])) 7 58
+    × (Refuses (single 100000 (app 0 0 100 ∷ []) (bid 1 0 100 4000 ∷ [])) 7 58
     × Refuses (single 100000 (app 0 0 100 ∷ []) (bid 0 1 100 4000 ∷ [])) 7 58
     × Refuses (single 100000 (app 0 0 100 ∷ []) (bidWith 0 0 0 100 4000 ∷ [])) 7 58
     × Refuses (single 100000 (app 0 0 100 ∷ []) (bidWith 0 0 366 100 4000 ∷ [])) 7 58
@@ -274,13 +274,13 @@ Refusals =
     × Refuses (file (year ∷ year ∷ []) (budgets (100000 ∷ 100000 ∷ []) ∷ []) (tech 0 10000 (figures ∷ figuresWith 10000 0 10000 ∷ []) ∷ []) (app 1 0 100 ∷
     []) (bid 0 0 100 4000 ∷ [])) 7 82
     × Refuses (file (year ∷ year ∷ []) (budgets (100000 ∷ 100000 ∷ []) ∷ []) (tech 0 10000 (figures ∷ figuresWith 10000 0 10000 ∷ []) ∷ []) (app 0 0 100 ∷
-    []) (bid 0 1 100 10001 ∷ [])) 7 82
+    []) (bid 0 1 100 10001 ∷ [])) 7 82)
     -- 8
     × Refuses (single 100000 (app 0 0 100 ∷ []) (bid 0 0 100 4000 ∷ bid 0 0 50 4000 ∷ [])) 8 72
     -- 9: fourth in one year, eleventh
-    × Refuses (single 100000 (app 0 0 100 ∷ []) (times 4 (λ i. bid 0 0 100 (4000 + 10 * i)))) 9 100
+    × (Refuses (single 100000 (app 0 0 100 ∷ []) (times 4 (λ i. bid 0 0 100 (4000 + 10 * i)))) 9 100
     × Refuses (file (times 4 (λ i. year)) (budgets (1 ∷ 1 ∷ 1 ∷ 1 ∷ []) ∷ []) (tech 0 10000 (times 4 (λ i. figures)) ∷ []) (app 0 0 100 ∷ [])
-    (times 11 (λ i. bid 0 (i / 3) 100 (4000 + 10 * i)))) 9 270
+    (times 11 (λ i. bid 0 (i / 3) 100 (4000 + 10 * i)))) 9 270)
     -- 10
     × Refuses (single 100000 [] [] ++ (0 ∷ [])) 10 38
     -- 11: at the lowest bid
@@ -288,11 +288,43 @@ Refusals =
     -- 12, at 0
     × Refuses (single 100000 (app 0 0 100 ∷ []) (bid 0 0 100 4000 ∷ [])) 12 0
 
-pub worked : Marked × (Own × Refusals)
+-- ---- answers as numbers
+
+abbrev Answers : Type 0
+Answers =
+    ((refusedAs (Cleared 68) ≡ 0) × (refusedAt (Cleared 68) ≡ 0) × (refusedAs (Refused 7 120) ≡ 7) × (refusedAt (Refused 7 120) ≡ 120))
+    × ((codeOf (Cleared 68) ≡ 0) × (codeOf (Refused 7 120) ≡ 30064771192))
+    × ((refusal (reading (roundA 100000 100000)) ≡ 0) × (place (reading (roundA 100000 100000)) ≡ 0))
+    × ((refusal (reading (2 ∷ [])) ≡ 1) × (place (reading (counted (year ∷ []))) ≡ 8))
+    × ((lengthOf (roundA 100000 100000) ≡ 68) × (lengthOf (2 ∷ []) ≡ 0))
+
+pub worked : Marked × (Own × (Refusals × Answers))
 unfolding times counted joined nums given both when never one-more every howMany sum le bytes each onto exactParts hoursOf deliveries sections roundOf sectionsOf
     orElse orFault scan countFault recordFault section yearFault potFault techFault appFault sevenOf eightOf nineOf bidFault elevenOf judged reading winners downs
     seen closed hanging wideEnd mark best value priceFrom tally within live least lowest taken follows remaining rank combination chosen choose tied alone lost
     look run auction adminTotal adminFits outcome priceIn totalIn paid unlookedReason auctionReason reason winnersOf energyOf costOf assemble automatic bidOf mine
     silent enters rowFor potOf told toldIn appTold appBytes potBytes bidBytes potsPart appsPart bidsPart resultBytes needed answerTo answerOf after clearOf
-    decLe decLt ℕ-discrete
-worked = ((refl, refl, refl, refl, refl, refl, refl, refl, refl, refl, refl, refl, refl, refl), ((refl, refl, refl, refl, refl, refl, refl, refl, refl, refl, refl), (refl, refl, refl, refl, refl, refl, refl, refl, refl, refl, refl, refl, refl, refl, refl, refl, refl, refl, refl, refl, refl, refl, refl, refl, refl, refl, refl, refl, refl, refl, refl, refl, refl, refl, refl, refl, refl, refl, refl, refl, refl, refl, refl, refl, refl, refl, refl, refl, refl, refl)))
+    refusal place refusedAs refusedAt codeOf lengthTo lengthOf decLe decLt ℕ-discrete
+worked = (
+  (refl, refl, refl, refl, refl, refl, refl, refl, refl, refl, refl, refl, refl, refl),
+  (
+    (refl, refl, refl, refl, refl, refl, refl, refl, refl, refl, refl),
+    (
+      (
+        (refl, refl, refl),
+        (refl, refl, refl, refl, refl, refl, refl, refl),
+        (refl, refl, refl, refl, refl, refl, refl),
+        refl,
+        (refl, refl, refl, refl, refl, refl, refl, refl),
+        (refl, refl, refl, refl, refl, refl, refl),
+        (refl, refl, refl, refl, refl, refl, refl, refl, refl, refl),
+        refl,
+        (refl, refl),
+        refl,
+        refl,
+        refl,
+      ),
+      ((refl, refl, refl, refl), (refl, refl), (refl, refl), (refl, refl), (refl, refl)),
+    ),
+  ),
+)
