@@ -5,20 +5,21 @@ ghost use Rattle.rules.specs.Names.{techWidth};
 ghost use Rattle.rules.specs.File.{techAt};
 ghost use Rattle.layout.specs.Layout.{Room};
 
-// Where a field stands in the record, which starts with the pot.
+// Where a field stands in the record, which starts with the pot. Of the last three, each year has its own, `TECH_YEAR` bytes further on.
 pub const RQM: usize = 2;
 
-// Where a year's field stands in that year's part of the record, which starts with the administrative price.
-pub const REFERENCE: usize = 4;
+pub const ADMIN: usize = 4;
 
-pub const LOAD: usize = 8;
+pub const REFERENCE: usize = 8;
+
+pub const LOAD: usize = 12;
 
 // Where record t starts, in a file of so many years: so many bytes have the t records before it.
 pub fn place(years: usize, t: usize) -> usize
     requires { ⌜ t * techWidth years + techWidth years < 2 ^ 64 ⌝ }
     ensures { λ r. ⌜ r ≡ t * techWidth years ⌝ }
 {
-    t * (names::TECH_HEAD + names::TECH_YEAR * years)
+    t * (ADMIN + names::TECH_YEAR * years)
 }
 
 pub fn pot(recs: &[u8], years: usize, t: usize) -> usize
@@ -40,28 +41,19 @@ pub fn admin(recs: &[u8], years: usize, t: usize, y: usize) -> u64
     requires { ⌜ Room (now recs) (techWidth years) t × (y < years) ⌝ }
     ensures { λ r. ⌜ (r ≡ techAt years (now (recs .entry)) t .admin y) × (r < 4294967296) ⌝ }
 {
-    fields::le32(
-        techs,
-        place(years, t) + (names::TECH_HEAD + names::TECH_YEAR * y),
-    )
+    fields::le32(recs, place(years, t) + (ADMIN + names::TECH_YEAR * y))
 }
 
 pub fn reference(recs: &[u8], years: usize, t: usize, y: usize) -> u64
     requires { ⌜ Room (now recs) (techWidth years) t × (y < years) ⌝ }
     ensures { λ r. ⌜ (r ≡ techAt years (now (recs .entry)) t .reference y) × (r < 4294967296) ⌝ }
 {
-    fields::le32(
-        techs,
-        place(years, t) + (names::TECH_HEAD + REFERENCE + names::TECH_YEAR * y),
-    )
+    fields::le32(recs, place(years, t) + (REFERENCE + names::TECH_YEAR * y))
 }
 
 pub fn load(recs: &[u8], years: usize, t: usize, y: usize) -> u64
     requires { ⌜ Room (now recs) (techWidth years) t × (y < years) ⌝ }
     ensures { λ r. ⌜ (r ≡ techAt years (now (recs .entry)) t .load y) × (r < 65536) ⌝ }
 {
-    fields::le16(
-        techs,
-        place(years, t) + (names::TECH_HEAD + LOAD + names::TECH_YEAR * y),
-    )
+    fields::le16(recs, place(years, t) + (LOAD + names::TECH_YEAR * y))
 }

@@ -9,5 +9,5 @@ returns c = (read-at 2 _ _ (c .before .place .ensures) (c .le16 .ensures .0), c 
 
 pub load-spec : {M : Type 1} → statement M
 load-spec =
-    tie.close (tie.spec (λ c κs. search needs) (λ c. search needs) (λ c. search needs) (λ c. search needs) (λ c. search needs) (λ c κs. search needs)
+    tie.close (tie.spec (λ c κs. search needs) (λ c. search needs) (λ c. search needs) (λ c. search needs) (λ c κs. search needs)
     returns)

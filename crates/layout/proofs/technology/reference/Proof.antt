@@ -9,5 +9,5 @@ returns c = (read-at 4 _ _ (c .before .place .ensures) (c .le32 .ensures .0), c 
 
 pub reference-spec : {M : Type 1} → statement M
 reference-spec =
-    tie.close (tie.spec (λ c κs. search needs) (λ c. search needs) (λ c. search needs) (λ c. search needs) (λ c. search needs) (λ c κs. search needs)
+    tie.close (tie.spec (λ c κs. search needs) (λ c. search needs) (λ c. search needs) (λ c. search needs) (λ c κs. search needs)
     returns)
