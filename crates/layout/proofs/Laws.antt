@@ -1,5 +1,5 @@
 -- A number is the same where it is read from equal places or from equal parts. Assumes nothing.
-use Prim.Native.Nat.{ℕ, _+_}
+use Prim.Native.Nat.{ℕ, _+_, _*_}
 use mathlib.Core.Path.{_≡_, ap, _∙_}
 use mathlib.Core.List.{List}
 use Rattle.rules.specs.Bytes.{le}
@@ -11,3 +11,7 @@ read-at w s c e h = h ∙ ap (λ (p : ℕ). le w s (p + c)) e
 -- a number read in a part that was handed on
 pub read-in : (f : List ℕ → ℕ) {r : ℕ} {l m : List ℕ} → l ≡ m → r ≡ f l → r ≡ f m
 read-in f e h = h ∙ ap f e
+
+-- the bytes of i records whose width was worked out
+pub times : (i : ℕ) {w v : ℕ} → w ≡ v → i * w ≡ i * v
+times i e = ap (λ (w : ℕ). i * w) e

@@ -5,12 +5,20 @@ ghost use Rattle.rules.specs.Names.{potWidth};
 ghost use Rattle.rules.specs.File.{budgetAt};
 ghost use Rattle.layout.specs.Layout.{Room};
 
+// The bytes of a record, in a file of so many years.
+pub fn width(years: usize) -> usize
+    requires { ⌜ potWidth years < 2 ^ 64 ⌝ }
+    ensures { λ r. ⌜ r ≡ potWidth years ⌝ }
+{
+    names::BUDGET_WIDTH * years
+}
+
 // Where record p starts, in a file of so many years: so many bytes have the p records before it.
 pub fn place(years: usize, p: usize) -> usize
     requires { ⌜ p * potWidth years + potWidth years < 2 ^ 64 ⌝ }
     ensures { λ r. ⌜ r ≡ p * potWidth years ⌝ }
 {
-    p * (names::BUDGET_WIDTH * years)
+    p * width(years)
 }
 
 // The budget of pot p in year y.

@@ -14,12 +14,20 @@ pub const REFERENCE: usize = 8;
 
 pub const LOAD: usize = 12;
 
+// The bytes of a record, in a file of so many years.
+pub fn width(years: usize) -> usize
+    requires { ⌜ techWidth years < 2 ^ 64 ⌝ }
+    ensures { λ r. ⌜ r ≡ techWidth years ⌝ }
+{
+    names::TECH_HEAD + names::TECH_YEAR * years
+}
+
 // Where record t starts, in a file of so many years: so many bytes have the t records before it.
 pub fn place(years: usize, t: usize) -> usize
     requires { ⌜ t * techWidth years + techWidth years < 2 ^ 64 ⌝ }
     ensures { λ r. ⌜ r ≡ t * techWidth years ⌝ }
 {
-    t * (ADMIN + names::TECH_YEAR * years)
+    t * width(years)
 }
 
 pub fn pot(recs: &[u8], years: usize, t: usize) -> usize

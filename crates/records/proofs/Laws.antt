@@ -1,14 +1,22 @@
 -- Equal numbers are judged alike: for a function that reads numbers and hands them on. Assumes nothing.
-use Prim.Native.Nat.{ℕ, _%_, _≤_, _<_}
-use mathlib.Core.Path.{_≡_, sym, _∙_}
+use Prim.Native.Nat.{ℕ, _+_, _%_, _≤_, _<_}
+use mathlib.Core.Path.{_≡_, sym, ap, _∙_}
 use mathlib.Core.List.{List}
 use native.Mathlib.Omega.{arith}
 use Rattle.rules.specs.Names.{whole, highestPrice, priceStep}
-use Rattle.rules.specs.File.{appAt}
+use Rattle.rules.specs.File.{App, appAt}
 use Rattle.rules.specs.Refusals.{appFault}
+use Rattle.rules.specs.declared.Reading.{Reading}
+use Rattle.rules.specs.declared.Reading.the-variants.{Refused}
 use Rattle.reading_laws.specs.Walk.{given-yes, same-rule, part-broken}
 use Rattle.reading_laws.specs.Reading.{holds}
 use Rattle.records.specs.Numbers.{pricesOf, numbersOf, drawOf}
+
+-- ---- refusals
+
+-- a record at fault whose place was worked out
+pub placed : (f base : ℕ) {x y : ℕ} {r : Reading} → x ≡ y → Refused f (base + y) ≡ r → Refused f (base + x) ≡ r
+placed f base e h = ap (λ (x : ℕ). Refused f (base + x)) e ∙ h
 
 -- ---- the technologies
 
@@ -33,10 +41,9 @@ module _ {r : ℕ} (k d : ℕ) {a b c a′ b′ c′ : ℕ} (e : r ≡ pricesOf 
 
 -- ---- the applications
 
-module _ (years : List ℕ) (d t : ℕ) (recs : List ℕ) (i : ℕ) {r tech year days capacity : ℕ} (e : r ≡ numbersOf years d t tech year days capacity)
-    (p₁ : tech ≡ appAt recs i .tech) (p₂ : year ≡ appAt recs i .year) (p₃ : days ≡ appAt recs i .days) (p₄ : capacity ≡ appAt recs i .capacity) where
-  same-numbers : r ≡ numbersOf years d t (appAt recs i .tech) (appAt recs i .year) (appAt recs i .days) (appAt recs i .capacity)
-  same-numbers = cc
+module _ (years : List ℕ) (d t : ℕ) (recs : List ℕ) (i : ℕ) {r : ℕ} {x : App} (e : r ≡ numbersOf years d t x) (p : x ≡ appAt recs i) where
+  same-numbers : r ≡ numbersOf years d t (appAt recs i)
+  same-numbers = e ∙ ap (numbersOf years d t) p
 
   -- a number is wrong
   pub numbers-wrong : (r ≡ 0 → ⊥) → r ≡ appFault years d t recs i

@@ -4,29 +4,30 @@ use mathlib.Core.List.{List}
 use native.Mathlib.Decide.{decLe, decLt, ℕ-discrete}
 use Rattle.rules.specs.Names.{techBroken, appBroken, whole, highestPrice, priceStep, largestCapacity}
 use Rattle.rules.specs.Lists.{given, both, when, never, every}
-use Rattle.rules.specs.File.{yearAt, appAt}
+use Rattle.rules.specs.File.{App, yearAt, appAt}
 
--- 5 of a technology's numbers in year k, the delivery years being the first d
-unfoldable pub pricesOf : (k d admin reference load : ℕ) → ℕ
-pricesOf k d admin reference load =
+-- 5 of a technology's numbers in year y, the delivery years being the first d
+unfoldable pub pricesOf : (y d admin reference load : ℕ) → ℕ
+pricesOf y d admin reference load =
     given
     (both (decLe load whole)
     (both (decLe reference highestPrice)
-    (both (when (decLt k d) (both (decLe priceStep admin) (both (decLe admin highestPrice) (ℕ-discrete (admin % priceStep) 0))))
-    (when (decLe d k) (ℕ-discrete admin 0)))))
+    (both (when (decLt y d) (both (decLe priceStep admin) (both (decLe admin highestPrice) (ℕ-discrete (admin % priceStep) 0))))
+    (when (decLe d y) (ℕ-discrete admin 0)))))
     0
     techBroken
 
 -- 6 of an application's numbers, its draw apart
-unfoldable pub numbersOf : List ℕ → (d t tech year days capacity : ℕ) → ℕ
-numbersOf years d t tech year days capacity =
+unfoldable pub numbersOf : List ℕ → (d t : ℕ) → App → ℕ
+numbersOf years d t x =
     given
-    (both (decLt tech t)
-    (both (decLt year d)
-    (both (decLt 0 days) (both (decLe days (yearAt years year .days)) (both (decLt 0 capacity) (decLe capacity largestCapacity))))))
+    (both (decLt (x .tech) t)
+    (both (decLt (x .year) d)
+    (both (decLt 0 (x .days))
+    (both (decLe (x .days) (yearAt years (x .year) .days)) (both (decLt 0 (x .capacity)) (decLe (x .capacity) largestCapacity))))))
     0
     appBroken
 
 -- 6 of its draw
 unfoldable pub drawOf : List ℕ → ℕ → ℕ
-drawOf apps i = given (every i (λ k. never (ℕ-discrete (appAt apps k .draw) (appAt apps i .draw)))) 0 appBroken
+drawOf apps a = given (every a (λ k. never (ℕ-discrete (appAt apps k .draw) (appAt apps a .draw)))) 0 appBroken

@@ -1,29 +1,28 @@
-// The pots' records: refusals 1 and 4. "budget 8 for each year".
+// The pots' records: refusals 1 and 4.
 ghost use mathlib.Core.Path.{_≡_};
 ghost use Prim.Native.Nat.{_+_, _*_, _≤_, _<_, _^_};
 ghost use lib.ListN.{length};
 ghost use Rattle.rules.specs.Names.{mostYears, potWidth};
 ghost use Rattle.rules.specs.Refusals.{recordFault, potFault};
 ghost use Rattle.records.specs.Records.{potsOf};
+use layout::pot;
 use rules::Reading;
 use rules::Sections;
 
-// What is wrong with pot i, where there are y years: 0 if nothing is.
-fn pot_fault(recs: &[u8], y: usize, i: usize) -> u64
-    requires { ⌜ (y ≤ mostYears) × (i * potWidth y ≤ length (now recs)) ⌝ }
-    ensures { λ r. ⌜ r ≡ recordFault (now (recs .entry)) (potWidth y) (potFault y (now (recs .entry))) i ⌝ }
+// What is wrong with pot p, in a file of so many years: 0 if nothing is.
+fn pot_fault(recs: &[u8], years: usize, p: usize) -> u64
+    requires { ⌜ (years ≤ mostYears) × (p * potWidth years ≤ length (now recs)) ⌝ }
+    ensures { λ r. ⌜ r ≡ recordFault (now (recs .entry)) (potWidth years) (potFault years (now (recs .entry))) p ⌝ }
 {
-    let width = names::BUDGET_WIDTH * y;
-    let at = i * width;
-    if recs.len() - at < width {
+    if recs.len() - pot::place(years, p) < pot::width(years) {
         return names::ENDS_EARLY;
     }
-    let mut k: usize = 0;
-    while k < y {
-        if names::HIGHEST_BUDGET < fields::le64(recs, at + names::BUDGET_WIDTH * k) {
+    let mut y: usize = 0;
+    while y < years {
+        if names::HIGHEST_BUDGET < pot::budget(recs, years, p, y) {
             return names::POT_BROKEN;
         }
-        k += 1;
+        y += 1;
     }
     0
 }
@@ -33,18 +32,18 @@ pub fn pots(recs: &[u8], base: usize, done: Sections) -> Reading
     requires { ⌜ (done .years ≤ mostYears) × (base + length (now recs) < 2 ^ 63) ⌝ }
     ensures { λ r. ⌜ r ≡ potsOf (now (recs .entry)) base done ⌝ }
 {
-    let y = done.years;
+    let years = done.years;
     let n = done.pots;
-    let mut i: usize = 0;
-    while i < n {
-        let f = pot_fault(recs, y, i);
+    let mut p: usize = 0;
+    while p < n {
+        let f = pot_fault(recs, years, p);
         if f != 0 {
             return Reading::Refused {
                 number: f,
-                at: base + i * (names::BUDGET_WIDTH * y),
+                at: base + pot::place(years, p),
             };
         }
-        i += 1;
+        p += 1;
     }
     Reading::Accepted { sections: done }
 }

@@ -15,18 +15,17 @@ returns c = sym (given-no _ _ _ (λ h. omega arith))
 returns-2 : tie.Need-returns-2
 unfolding recordFault
 returns-2 c = let f = c .before in
-    numbers-wrong _ _ _ _ _ (f .numbers-fault .ensures) (f .before .before .before .before .le16 .ensures .0) (f .before .before .before .le162 .ensures .0) (f .before .before .le163 .ensures .0) (f .before .le32 .ensures .0) (c .if2 .taken)
+    numbers-wrong _ _ _ _ _ (f .numbers-fault .ensures) (f .before .read .ensures) (c .if2 .taken)
     ∙ sym (given-yes _ _ _ (omega arith))
 
 returns-3 : tie.Need-returns-3
 unfolding recordFault
 returns-3 c = let f = c .before .before in
     c .draw-fault .ensures
-    ∙ draw-asked _ _ _ _ _ (f .numbers-fault .ensures) (f .before .before .before .before .le16 .ensures .0) (f .before .before .before .le162 .ensures .0) (f .before .before .le163 .ensures .0) (f .before .le32 .ensures .0) (c .before .if2 .left)
+    ∙ draw-asked _ _ _ _ _ (f .numbers-fault .ensures) (f .before .read .ensures) (c .before .if2 .left)
     ∙ sym (given-yes _ _ _ (omega arith))
 
 pub app-fault-spec : {M : Type 1} → statement M
 app-fault-spec =
-    tie.close (tie.spec (λ c. search needs) (λ c. search needs) returns (λ c κs. search needs) (λ c. search needs) (λ c κs. search needs)
-    (λ c. search needs) (λ c κs. search needs) (λ c. search needs) (λ c κs. search needs) (λ c κs. search needs) returns-2 (λ c κs. search needs)
+    tie.close (tie.spec (λ c. search needs) (λ c. search needs) returns (λ c κs. search needs) (λ c κs. search needs) returns-2 (λ c κs. search needs)
     returns-3)

@@ -1,4 +1,4 @@
--- `records::applications::applications` meets its contract: what is left to judge from application i on is the answer. Assumes nothing.
+-- `records::applications::applications` meets its contract: what is left to judge from application a on is the answer. Assumes nothing.
 use borrow.Author.Needs.{needs}
 use native.Mathlib.Omega.{arith}
 use native.Mathlib.Nat.{sub-zero}
@@ -15,11 +15,12 @@ use Rattle.records.proofs.applications.applications.Statement.{statemen
 use Rattle.records.proofs.applications.applications.Tie as tie
 
 abbrev Inv-loop : tie.InvT-loop
-Inv-loop years recs base done d t n i₀ i =
-    (i ≤ n) × (i * appWidth ≤ length recs) × (scan (recordFault recs appWidth (appFault years d t recs)) appWidth base i (n - i) (Accepted done) ≡ appsOf years recs base done)
+Inv-loop year-recs recs base done deliveries technologies n a₀ a =
+    (a ≤ n) × (a * appWidth ≤ length recs)
+    × (scan (recordFault recs appWidth (appFault year-recs deliveries technologies recs)) appWidth base a (n - a) (Accepted done) ≡ appsOf year-recs recs base done)
 
 abbrev μ-loop : tie.MeasureT-loop
-μ-loop years recs base done d t n i₀ i = n - i
+μ-loop year-recs recs base done deliveries technologies n a₀ a = n - a
 
 loop-holds : tie.Need-loop-holds Inv-loop μ-loop
 unfolding appsOf

@@ -37,4 +37,4 @@ returns-7 c = sym (given-yes _ _ _ (omega arith))
 
 pub numbers-fault-spec : {M : Type 1} → statement M
 numbers-fault-spec =
-    tie.close (tie.spec returns returns-2 returns-3 (λ c. search needs) (λ c κs. search needs) returns-4 returns-5 returns-6 returns-7)
+    tie.close (tie.spec returns returns-2 returns-3 (λ c κs. search needs) returns-4 returns-5 returns-6 returns-7)

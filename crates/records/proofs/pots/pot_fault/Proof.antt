@@ -1,4 +1,4 @@
--- `records::pots::pot_fault` meets its contract: the budgets before year k are not too high. Assumes nothing.
+-- `records::pots::pot_fault` meets its contract: the budgets before year y are not too high. Assumes nothing.
 use borrow.Author.Needs.{needs}
 use borrow.Author.Count.{below-more}
 use native.Mathlib.Omega.{arith}
@@ -13,10 +13,10 @@ use Rattle.records.proofs.pots.pot_fault.Statement.{statement}
 use Rattle.records.proofs.pots.pot_fault.Tie as tie
 
 abbrev Inv-loop : tie.InvT-loop
-Inv-loop recs y i width at k₀ k = (k ≤ y) × ((j : ℕ) → j < k → budgetAt y recs i j ≤ highestBudget)
+Inv-loop recs years p y₀ y = (y ≤ years) × ((j : ℕ) → j < y → budgetAt years recs p j ≤ highestBudget)
 
 abbrev μ-loop : tie.MeasureT-loop
-μ-loop recs y i width at k₀ k = y - k
+μ-loop recs years p y₀ y = years - y
 
 returns : tie.Need-returns Inv-loop μ-loop
 unfolding recordFault
@@ -27,7 +27,7 @@ loop-holds c = (omega arith, λ j l. absurd (not-suc-le-zero l))
 
 returns-2 : tie.Need-returns-2 Inv-loop μ-loop
 unfolding recordFault potFault
-returns-2 c = sym (given-yes _ _ _ (omega arith) ∙ given-no _ _ _ (λ h. omega (arith, h (c .before .before .before .loop .k) (omega arith))))
+returns-2 c = sym (given-yes _ _ _ (omega arith) ∙ given-no _ _ _ (λ h. omega (arith, h (c .before .before .before .loop .y) (omega arith))))
 
 loop-again : tie.Need-loop-again Inv-loop μ-loop
 loop-again c = (omega arith, below-more _ _ (c .before .before .before .loop .inv .1) (omega arith))
@@ -38,5 +38,5 @@ returns-3 c = sym (given-yes _ _ _ (omega arith) ∙ given-yes _ _ _ (λ j l. c 
 
 pub pot-fault-spec : {M : Type 1} → statement M
 pot-fault-spec =
-    tie.close (tie.spec Inv-loop μ-loop (λ c. search needs) (λ c. search needs) (λ c. search needs) returns loop-holds (λ c. search needs)
-    (λ c. search needs) (λ c κs. search needs) returns-2 (λ c. search needs) (λ c. search needs) loop-again returns-3)
+    tie.close (tie.spec Inv-loop μ-loop (λ c κs. search needs) (λ c. search needs) (λ c κs. search needs) returns loop-holds (λ c κs. search needs)
+    returns-2 (λ c. search needs) (λ c. search needs) loop-again returns-3)

@@ -1,4 +1,4 @@
--- `records::pots::pots` meets its contract: what is left to judge from pot i on is the answer. Assumes nothing.
+-- `records::pots::pots` meets its contract: what is left to judge from pot p on is the answer. Assumes nothing.
 use borrow.Author.Needs.{needs}
 use native.Mathlib.Omega.{arith}
 use native.Mathlib.Nat.{sub-zero}
@@ -11,22 +11,24 @@ use Rattle.rules.specs.declared.Reading.the-variants.{Accepted}
 use Rattle.reading_laws.specs.Walk.{at-fault, goes-on, at-end}
 use Rattle.reading_laws.specs.Fault.{no-fault}
 use Rattle.records.specs.Records.{potsOf}
+use Rattle.records.proofs.Laws.{placed}
 use Rattle.records.proofs.pots.pots.Statement.{statement}
 use Rattle.records.proofs.pots.pots.Tie as tie
 
 abbrev Inv-loop : tie.InvT-loop
-Inv-loop recs base done y n i₀ i =
-    (i ≤ n) × (i * potWidth y ≤ length recs) × (scan (recordFault recs (potWidth y) (potFault y recs)) (potWidth y) base i (n - i) (Accepted done) ≡ potsOf recs base done)
+Inv-loop recs base done years n p₀ p =
+    (p ≤ n) × (p * potWidth years ≤ length recs)
+    × (scan (recordFault recs (potWidth years) (potFault years recs)) (potWidth years) base p (n - p) (Accepted done) ≡ potsOf recs base done)
 
 abbrev μ-loop : tie.MeasureT-loop
-μ-loop recs base done y n i₀ i = n - i
+μ-loop recs base done years n p₀ p = n - p
 
 loop-holds : tie.Need-loop-holds Inv-loop μ-loop
 unfolding potsOf
 loop-holds c = (omega arith, omega arith, rw (sub-zero (c .before .args .done .pots)))
 
 returns : tie.Need-returns Inv-loop μ-loop
-returns c = at-fault _ _ _ _ _ _ (c .before .before .before .loop .inv .2) (omega arith) (c .before .pot-fault .ensures) (c .if1 .taken)
+returns c = placed _ _ (c .place .ensures) (at-fault _ _ _ _ _ _ (c .before .before .before .before .loop .inv .2) (omega arith) (c .before .before .pot-fault .ensures) (c .before .if1 .taken))
 
 loop-again : tie.Need-loop-again Inv-loop μ-loop
 loop-again c =
@@ -39,5 +41,5 @@ returns-2 c = at-end _ _ _ _ _ _ (c .before .loop .inv .2) (omega arith)
 
 pub pots-spec : {M : Type 1} → statement M
 pots-spec =
-    tie.close (tie.spec Inv-loop μ-loop loop-holds (λ c κs. search needs) (λ c. search needs) (λ c. search needs) (λ c. search needs) returns
-    (λ c. search needs) (λ c. search needs) loop-again returns-2)
+    tie.close (tie.spec Inv-loop μ-loop loop-holds (λ c κs. search needs) (λ c κs. search needs) (λ c. search needs) returns (λ c. search needs)
+    (λ c. search needs) loop-again returns-2)

@@ -1,4 +1,4 @@
--- `records::technologies::tech_fault` meets its contract: the numbers of the years before k keep rule 5. Assumes nothing.
+-- `records::technologies::tech_fault` meets its contract: the numbers of the years before y keep rule 5. Assumes nothing.
 use native.Mathlib.Omega.{arith}
 use mathlib.Core.Path.{sym, _∙_}
 use Prim.Native.Nat.{ℕ, _≤_, _<_, _-_}
@@ -13,10 +13,12 @@ use Rattle.records.proofs.technologies.tech_fault.Statement.{statement}
 use Rattle.records.proofs.technologies.tech_fault.Tie as tie
 
 abbrev Inv-loop : tie.InvT-loop
-Inv-loop recs y d p i width at k₀ k = (k ≤ y) × ((j : ℕ) → j < k → Priced j d (techAt y recs i .admin j) (techAt y recs i .reference j) (techAt y recs i .load j))
+Inv-loop recs years deliveries pots t y₀ y =
+    (y ≤ years)
+    × ((j : ℕ) → j < y → Priced j deliveries (techAt years recs t .admin j) (techAt years recs t .reference j) (techAt years recs t .load j))
 
 abbrev μ-loop : tie.MeasureT-loop
-μ-loop recs y d p i width at k₀ k = y - k
+μ-loop recs years deliveries pots t y₀ y = years - y
 
 returns : tie.Need-returns Inv-loop μ-loop
 unfolding recordFault
@@ -35,13 +37,19 @@ loop-holds c = (omega arith, λ j l. absurd (not-suc-le-zero l))
 
 returns-4 : tie.Need-returns-4 Inv-loop μ-loop
 unfolding recordFault techFault
-returns-4 c = let f = c .before in
-    let kept = prices-kept _ _ (f .prices-fault .ensures) (f .before .before .before .le32 .ensures .0) (f .before .before .le322 .ensures .0) (f .before .le163 .ensures .0) in
-    sym (given-yes _ _ _ (omega arith) ∙ given-no _ _ _ (λ h. c .if4 .taken (kept (h .1 .1 (f .before .before .before .before .before .loop .k) (omega arith)))))
+returns-4 c =
+    let f = c .before in
+    let w = f .before .before .before .before .before .before .before .before .before .before in
+    let kept = prices-kept _ _ (f .prices-fault .ensures) (f .before .before .before .admin .ensures .0) (f .before .before .reference .ensures .0)
+    (f .before .load .ensures .0) in
+    sym (given-yes _ _ _ (omega (arith, w .if1 .left, w .before .width .ensures, w .before .before .place .ensures))
+    ∙ given-no _ _ _ (λ h. c .if4 .taken (kept (h .1 .1 (f .before .before .before .before .before .loop .y) (omega arith)))))
 
 loop-again : tie.Need-loop-again Inv-loop μ-loop
-loop-again c = let f = c .before in
-    let right = prices-right _ _ (f .prices-fault .ensures) (f .before .before .before .le32 .ensures .0) (f .before .before .le322 .ensures .0) (f .before .le163 .ensures .0) in
+loop-again c =
+    let f = c .before in
+    let right = prices-right _ _ (f .prices-fault .ensures) (f .before .before .before .admin .ensures .0) (f .before .before .reference .ensures .0)
+    (f .before .load .ensures .0) in
     (omega arith, below-more _ _ (f .before .before .before .before .before .loop .inv .1) (right (c .if4 .left)))
 
 returns-5 : tie.Need-returns-5 Inv-loop μ-loop
@@ -50,7 +58,6 @@ returns-5 c = sym (given-yes _ _ _ (omega arith) ∙ given-yes _ _ _ (omega arit
 
 pub tech-fault-spec : {M : Type 1} → statement M
 tech-fault-spec =
-    tie.close (tie.spec Inv-loop μ-loop (λ c. search needs) (λ c. search needs) (λ c. search needs) (λ c. search needs) returns (λ c κs. search needs)
-    returns-2 (λ c. search needs) (λ c κs. search needs) returns-3 loop-holds (λ c. search needs) (λ c. search needs) (λ c. search needs)
-    (λ c κs. search needs) (λ c. search needs) (λ c. search needs) (λ c. search needs) (λ c κs. search needs) (λ c. search needs) (λ c. search needs)
-    (λ c. search needs) (λ c κs. search needs) (λ c κs. search needs) returns-4 (λ c. search needs) (λ c. search needs) loop-again returns-5)
+    tie.close (tie.spec Inv-loop μ-loop (λ c κs. search needs) (λ c. search needs) (λ c κs. search needs) returns (λ c κs. search needs) returns-2
+    (λ c κs. search needs) returns-3 loop-holds (λ c κs. search needs) (λ c κs. search needs) (λ c κs. search needs) (λ c κs. search needs) returns-4
+    (λ c. search needs) (λ c. search needs) loop-again returns-5)

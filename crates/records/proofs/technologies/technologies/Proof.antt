@@ -1,4 +1,4 @@
--- `records::technologies::technologies` meets its contract: what is left to judge from technology i on is the answer. Assumes nothing.
+-- `records::technologies::technologies` meets its contract: what is left to judge from technology t on is the answer. Assumes nothing.
 use borrow.Author.Needs.{needs}
 use native.Mathlib.Omega.{arith}
 use native.Mathlib.Nat.{sub-zero}
@@ -11,22 +11,24 @@ use Rattle.rules.specs.declared.Reading.the-variants.{Accepted}
 use Rattle.reading_laws.specs.Walk.{at-fault, goes-on, at-end}
 use Rattle.reading_laws.specs.Fault.{no-fault}
 use Rattle.records.specs.Records.{techsOf}
+use Rattle.records.proofs.Laws.{placed}
 use Rattle.records.proofs.technologies.technologies.Statement.{statement}
 use Rattle.records.proofs.technologies.technologies.Tie as tie
 
 abbrev Inv-loop : tie.InvT-loop
-Inv-loop recs base done y d p n i₀ i =
-    (i ≤ n) × (i * techWidth y ≤ length recs) × (scan (recordFault recs (techWidth y) (techFault y d p recs)) (techWidth y) base i (n - i) (Accepted done) ≡ techsOf recs base done)
+Inv-loop recs base done years deliveries pots n t₀ t =
+    (t ≤ n) × (t * techWidth years ≤ length recs)
+    × (scan (recordFault recs (techWidth years) (techFault years deliveries pots recs)) (techWidth years) base t (n - t) (Accepted done) ≡ techsOf recs base done)
 
 abbrev μ-loop : tie.MeasureT-loop
-μ-loop recs base done y d p n i₀ i = n - i
+μ-loop recs base done years deliveries pots n t₀ t = n - t
 
 loop-holds : tie.Need-loop-holds Inv-loop μ-loop
 unfolding techsOf
 loop-holds c = (omega arith, omega arith, rw (sub-zero (c .before .args .done .technologies)))
 
 returns : tie.Need-returns Inv-loop μ-loop
-returns c = at-fault _ _ _ _ _ _ (c .before .before .before .loop .inv .2) (omega arith) (c .before .tech-fault .ensures) (c .if1 .taken)
+returns c = placed _ _ (c .place .ensures) (at-fault _ _ _ _ _ _ (c .before .before .before .before .loop .inv .2) (omega arith) (c .before .before .tech-fault .ensures) (c .before .if1 .taken))
 
 loop-again : tie.Need-loop-again Inv-loop μ-loop
 loop-again c =
@@ -39,5 +41,5 @@ returns-2 c = at-end _ _ _ _ _ _ (c .before .loop .inv .2) (omega arith)
 
 pub technologies-spec : {M : Type 1} → statement M
 technologies-spec =
-    tie.close (tie.spec Inv-loop μ-loop loop-holds (λ c κs. search needs) (λ c. search needs) (λ c. search needs) (λ c. search needs) (λ c. search needs)
-    returns (λ c. search needs) (λ c. search needs) loop-again returns-2)
+    tie.close (tie.spec Inv-loop μ-loop loop-holds (λ c κs. search needs) (λ c κs. search needs) (λ c. search needs) returns (λ c. search needs)
+    (λ c. search needs) loop-again returns-2)

@@ -49,5 +49,5 @@ returns-10 c = sym (given-yes _ _ _ (omega arith) ∙ given-yes _ _ _ (omega ari
 
 pub year-fault-spec : {M : Type 1} → statement M
 year-fault-spec =
-    tie.close (tie.spec (λ c. search needs) (λ c. search needs) returns (λ c κs. search needs) returns-2 returns-3 (λ c. search needs)
-    (λ c κs. search needs) returns-4 (λ c. search needs) (λ c κs. search needs) returns-5 returns-6 returns-7 returns-8 returns-9 returns-10)
+    tie.close (tie.spec (λ c. search needs) (λ c. search needs) returns (λ c κs. search needs) returns-2 returns-3 (λ c κs. search needs) returns-4
+    (λ c κs. search needs) returns-5 returns-6 returns-7 returns-8 returns-9 returns-10)
