@@ -1,38 +1,41 @@
 -- Equal numbers are judged alike; the rules that read nothing but the bids; and records judged from the last to the first. Assumes nothing.
 use Prim.Native.Nat.{ℕ, suc, _+_, _-_, _*_, _≤_, _<_}
-use mathlib.Core.Path.{_≡_, refl, sym, _∙_}
+use mathlib.Core.List.{List}
+use mathlib.Core.Path.{_≡_, refl, sym, ap, _∙_}
 use native.Mathlib.Omega.{arith}
 use native.Mathlib.Nat.{mul-le-mul-right}
-use Rattle.rules.specs.File.{Round, yearAt, techAt, appAt, bidAt}
+use Rattle.rules.specs.File.{Round, App, Bid, yearAt, techAt, appAt, bidAt}
 use Rattle.rules.specs.Refusals.{orElse, orFault, scan, sevenOf, eightOf, nineOf, bidFault}
+use Rattle.rules.specs.declared.Sections.{Sections}
 use Rattle.rules.specs.declared.Reading.{Reading}
 use Rattle.rules.specs.declared.Reading.the-variants.{Refused}
+use Rattle.layout.specs.Layout.{yearsIn, technologiesIn, applicationsIn}
+use Rattle.layout.proofs.Laws.{read-in}
 use Rattle.reading_laws.specs.Walk.{refuses, same-rule}
-use Rattle.bids.specs.Bids.{judgeOf, heldOf, alone}
+use Rattle.bids.specs.Bids.{judgeOf, heldOf, tablesOf, TablesRight, alone}
 
--- the rule of the numbers that were read is the rule of the bid
-pub held-is : (R : Round) (i a year : ℕ) {r days capacity price most-days most-capacity start start-days tech admin : ℕ}
-    → r ≡ judgeOf year days capacity price most-days most-capacity start start-days admin
-    → days ≡ bidAt (R .bids) i .days
-    → capacity ≡ bidAt (R .bids) i .capacity
-    → price ≡ bidAt (R .bids) i .price
-    → most-days ≡ yearAt (R .years) year .days
-    → most-capacity ≡ appAt (R .apps) a .capacity
-    → start ≡ appAt (R .apps) a .year
-    → start-days ≡ appAt (R .apps) a .days
-    → admin ≡ techAt (R .y) (R .techs) tech .admin year
-    → tech ≡ appAt (R .apps) a .tech
-    → r ≡ heldOf R i a year
+-- the rule of the numbers that were read in the parts of the file is the rule of the bid
+pub held-is : (s : List ℕ) (g : Sections) (b : Bid) {a : App} {r most-days admin : ℕ} {years techs apps : List ℕ}
+    → years ≡ yearsIn s g → techs ≡ technologiesIn s g → apps ≡ applicationsIn s g → r ≡ judgeOf b a most-days admin → a ≡ appAt apps (b .app)
+    → most-days ≡ yearAt years (b .year) .days → admin ≡ techAt (g .years) techs (a .tech) .admin (b .year) → r ≡ heldOf s g b
 unfolding heldOf
-held-is R i a year e p₁ p₂ p₃ p₄ p₅ p₆ p₇ p₈ p₉ = cc
+held-is s g b ey et ea e p q l =
+    let p′ = p ∙ ap (λ (x : List ℕ). appAt x (b .app)) ea in
+    let q′ = read-in (λ x. yearAt x (b .year) .days) ey q in
+    let l′ = l ∙ (λ j. techAt (g .years) (et j) (p′ j .tech) .admin (b .year)) in
+    e ∙ (λ j. judgeOf b (p′ j) (q′ j) (l′ j))
 
 -- the application is in the file and the year a delivery year: the rest of rule 7 is asked
-pub rest-asked : (R : Round) (i : ℕ) {r a year : ℕ} → r ≡ heldOf R i a year → a ≡ bidAt (R .bids) i .app → year ≡ bidAt (R .bids) i .year → a < R .n → year < R .d
-    → r ≡ sevenOf R i
+pub rest-asked : (s recs : List ℕ) (g : Sections) (i : ℕ) {r : ℕ} {b : Bid} → r ≡ heldOf s g b → b ≡ bidAt recs i → b .app < g .applications → b .year < g .deliveries
+    → r ≡ sevenOf (tablesOf s recs g) i
 unfolding heldOf judgeOf sevenOf
-rest-asked R i {r} e p q l h =
-    let e′ : r ≡ heldOf R i (bidAt (R .bids) i .app) (bidAt (R .bids) i .year) = cc in
-    e′ ∙ same-rule _ _ _ (λ w. (omega arith, (omega arith, w))) (λ w. w .1 .1)
+rest-asked s recs g i e p l h =
+    e ∙ ap (heldOf s g) p ∙ same-rule _ _ _ (λ w. (rw p at l, (rw p at h, w))) (λ w. w .1 .1)
+
+-- the technology of an application that was read
+pub tech-known : (s : List ℕ) (g : Sections) {a : App} (n : ℕ) {apps : List ℕ} → TablesRight s g → apps ≡ applicationsIn s g → a ≡ appAt apps n → n < g .applications
+    → a .tech < g .technologies
+tech-known s g n T ea p l = rw (p ∙ ap (λ (x : List ℕ). appAt x n) ea) (T .tech n l)
 
 -- record x of t stands whole in what t records occupy
 pub record-whole : (x t w : ℕ) {l : ℕ} → x < t → t * w ≤ l → x * w + w ≤ l

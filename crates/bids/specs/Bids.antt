@@ -1,48 +1,47 @@
 -- What the checks of the bids' records answer. Assumes nothing.
-use Prim.Native.Nat.{ℕ, _*_, _≤_, _<_}
+use Prim.Native.Nat.{ℕ, _+_, _*_, _≤_, _<_}
 use mathlib.Core.Path.{_≡_}
 use mathlib.Core.List.{List, []}
 use lib.ListN.{length, getD}
 use native.Mathlib.Decide.{decLe, decLt, ℕ-discrete}
-use Rattle.rules.specs.Names.{bidBroken, yearWidth, techWidth, appWidth, bidWidth, mostYears}
+use Rattle.rules.specs.Names.{bidBroken, countWidth, yearWidth, techWidth, appWidth, bidWidth, mostYears}
 use Rattle.rules.specs.Lists.{given, both, when}
-use Rattle.rules.specs.File.{Round, yearAt, techAt, appAt, bidAt}
+use Rattle.rules.specs.File.{Round, App, Bid, yearAt, techAt, appAt, bidAt}
 use Rattle.rules.specs.Refusals.{scan, recordFault, bidFault, sameApp?, elevenOf}
 use Rattle.rules.specs.declared.Sections.{Sections}
 use Rattle.rules.specs.declared.Reading.{Reading}
 use Rattle.rules.specs.declared.Reading.the-variants.{Accepted}
+use Rattle.layout.specs.Layout.{yearsIn, technologiesIn, applicationsIn}
 
 -- ---- rule 7, where the numbers have been read
 
--- 7 of a bid's numbers, beside those that it is held to: the days of its year, the capacity, year and days of its application, and the
--- administrative price
-unfoldable pub judgeOf : (year days capacity price most-days most-capacity start start-days admin : ℕ) → ℕ
-judgeOf year days capacity price most-days most-capacity start start-days admin =
+-- 7 of a bid beside its application, the days of its year and the administrative price
+unfoldable pub judgeOf : Bid → App → (most-days admin : ℕ) → ℕ
+judgeOf b a most-days admin =
     given
-    (both (decLt 0 days)
-    (both (decLe days most-days)
-    (both (decLt 0 capacity)
-    (both (decLe capacity most-capacity)
-    (both (decLe start year) (both (when (ℕ-discrete start year) (decLe days start-days)) (decLe price admin)))))))
+    (both (decLt 0 (b .days))
+    (both (decLe (b .days) most-days)
+    (both (decLt 0 (b .capacity))
+    (both (decLe (b .capacity) (a .capacity))
+    (both (decLe (a .year) (b .year)) (both (when (ℕ-discrete (a .year) (b .year)) (decLe (b .days) (a .days))) (decLe (b .price) admin)))))))
     0
     bidBroken
 
--- 7 of bid i, of application a and in a year
-unfoldable pub heldOf : Round → (i a year : ℕ) → ℕ
-heldOf R i a year =
-    let b = bidAt (R .bids) i in
-    let p = appAt (R .apps) a in
-    judgeOf year (b .days) (b .capacity) (b .price) (yearAt (R .years) year .days) (p .capacity) (p .year) (p .days) (techAt (R .y) (R .techs) (p .tech) .admin year)
+-- 7 of a bid beside the sections of a file
+unfoldable pub heldOf : List ℕ → Sections → Bid → ℕ
+heldOf s g b =
+    let a = appAt (applicationsIn s g) (b .app) in
+    judgeOf b a (yearAt (yearsIn s g) (b .year) .days) (techAt (g .years) (technologiesIn s g) (a .tech) .admin (b .year))
 
 -- ---- the records
 
--- the tables that a bid is held to. No rule of a bid reads the pots' budgets
-abbrev pub tablesOf : (years techs apps recs : List ℕ) → Sections → Round
-tablesOf years techs apps recs g = record {
-  years = years;
+-- the tables that a bid is held to, of a file whose sections before the bids these are. No rule of a bid reads the pots' budgets
+abbrev pub tablesOf : (s recs : List ℕ) → Sections → Round
+tablesOf s recs g = record {
+  years = yearsIn s g;
   pots = [];
-  techs = techs;
-  apps = apps;
+  techs = technologiesIn s g;
+  apps = applicationsIn s g;
   bids = recs;
   y = g .years;
   d = g .deliveries;
@@ -52,9 +51,23 @@ tablesOf years techs apps recs g = record {
   b = g .bids;
 }
 
-unfoldable pub bidsOf : (years techs apps recs : List ℕ) → (base : ℕ) → Sections → Reading
-bidsOf years techs apps recs base g =
-    scan (recordFault recs bidWidth (bidFault (tablesOf years techs apps recs g))) bidWidth base 0 (g .bids) (Accepted g)
+-- what is to be known of the sections before the bids, so that a bid can be looked up in them
+pub record TablesRight (s : List ℕ) (g : Sections) : Type 0 where
+  pub years-start : countWidth ≤ g .«pots_at»
+  pub years-end : g .«pots_at» ≤ length s
+  pub techs-start : g .«technologies_at» + countWidth ≤ g .«applications_at»
+  pub techs-end : g .«applications_at» ≤ length s
+  pub apps-start : g .«applications_at» + countWidth ≤ g .«bids_at»
+  pub apps-end : g .«bids_at» ≤ length s
+  pub few : g .deliveries ≤ g .years
+  pub most : g .years ≤ mostYears
+  pub years-whole : g .years * yearWidth ≤ length (yearsIn s g)
+  pub techs-whole : g .technologies * techWidth (g .years) ≤ length (technologiesIn s g)
+  pub apps-whole : g .applications * appWidth ≤ length (applicationsIn s g)
+  pub tech : (a : ℕ) → a < g .applications → appAt (applicationsIn s g) a .tech < g .technologies
+
+unfoldable pub bidsOf : (s recs : List ℕ) → (base : ℕ) → Sections → Reading
+bidsOf s recs base g = scan (recordFault recs bidWidth (bidFault (tablesOf s recs g))) bidWidth base 0 (g .bids) (Accepted g)
 
 -- a round of n bids alone, for the rules that read nothing else
 abbrev pub alone : (recs : List ℕ) → (n : ℕ) → Round
@@ -66,15 +79,6 @@ samePrice? recs k i = both (sameApp? (alone recs i) k i) (ℕ-discrete (bidAt re
 
 unfoldable pub lowestOf : (recs : List ℕ) → (base : ℕ) → Sections → Reading
 lowestOf recs base g = scan (elevenOf (alone recs (g .bids))) bidWidth base 0 (g .bids) (Accepted g)
-
--- what is to be known of the tables, so that a bid can be looked up in them
-pub record Looked (R : Round) : Type 0 where
-  pub few : R .d ≤ R .y
-  pub most : R .y ≤ mostYears
-  pub years-whole : R .y * yearWidth ≤ length (R .years)
-  pub techs-whole : R .t * techWidth (R .y) ≤ length (R .techs)
-  pub apps-whole : R .n * appWidth ≤ length (R .apps)
-  pub tech : (a : ℕ) → a < R .n → appAt (R .apps) a .tech < R .t
 
 -- ---- the earlier bids of an application, chained from the latest to the first
 

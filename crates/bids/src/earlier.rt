@@ -2,14 +2,16 @@
 // looked at. A link is how many bids of the file there are up to the one that it leads to: `latest` has one for each application, `previous`
 // one for each bid. A number that has no place in them leads to the bid just before, and no bid is passed over.
 ghost use mathlib.Core.Path.{_≡_};
-ghost use Prim.Native.Nat.{_+_, _*_, _≤_, _<_};
+ghost use Prim.Native.Nat.{_+_, _≤_, _<_};
 ghost use native.Mathlib.Decide.{decLt};
-ghost use lib.ListN.{length, getD, set};
+ghost use lib.ListN.{getD, set};
 ghost use Rattle.rules.specs.Names.{bidWidth, bidsEach, bidsAYear, bidsTooMany};
 ghost use Rattle.rules.specs.File.{bidAt};
 ghost use Rattle.rules.specs.Lists.{given, both};
 ghost use Rattle.rules.specs.Refusals.{orFault, eightOf, nineOf, sameApp?, sameYear?};
+ghost use Rattle.layout.specs.Layout.{Room};
 ghost use Rattle.bids.specs.Bids.{alone, samePrice?, Free, Latest, Previous};
+use layout::bid;
 
 // ---- the chains
 
@@ -34,19 +36,19 @@ fn put(links: &mut [usize], k: usize, r: usize)
 
 // The bids from the answer to bid i are not of its application.
 fn start(recs: &[u8], latest: &[usize], i: usize) -> usize
-    requires { ⌜ (i * bidWidth + bidWidth ≤ length (now recs)) × Latest (now recs) (now latest) i ⌝ }
+    requires { ⌜ Room (now recs) bidWidth i × Latest (now recs) (now latest) i ⌝ }
     ensures { λ r. ⌜ Free (now (recs .entry)) (bidAt (now (recs .entry)) i .app) r i ⌝ }
 {
-    let a = fields::le16(recs, i * names::BID_WIDTH) as usize;
+    let a = bid::application(recs, i);
     link(latest, a, i)
 }
 
 // The bids from the answer to bid k are not of the application of bid i, which is a later one.
 fn next(recs: &[u8], previous: &[usize], k: usize, i: usize) -> usize
-    requires { ⌜ (k < i) × (i * bidWidth + bidWidth ≤ length (now recs)) × Previous (now recs) (now previous) i ⌝ }
+    requires { ⌜ (k < i) × Room (now recs) bidWidth i × Previous (now recs) (now previous) i ⌝ }
     ensures { λ r. ⌜ Free (now (recs .entry)) (bidAt (now (recs .entry)) i .app) r k ⌝ }
 {
-    if fields::le16(recs, k * names::BID_WIDTH) == fields::le16(recs, i * names::BID_WIDTH) {
+    if bid::application(recs, k) == bid::application(recs, i) {
         return link(previous, k, k);
     }
     k
@@ -54,13 +56,13 @@ fn next(recs: &[u8], previous: &[usize], k: usize, i: usize) -> usize
 
 // Bid i is accepted: it is the latest of its application.
 pub fn accept(recs: &[u8], latest: &mut [usize], previous: &mut [usize], i: usize)
-    requires { ⌜ i * bidWidth + bidWidth ≤ length (now recs) ⌝ }
+    requires { ⌜ Room (now recs) bidWidth i ⌝ }
     requires { ⌜ Latest (now recs) (now latest) i × Previous (now recs) (now previous) i ⌝ }
     ensures { λ _. ⌜ Latest (now (recs .entry)) (now (latest .exit)) (i + 1) × Previous (now (recs .entry)) (now (previous .exit)) (i + 1) ⌝ }
 {
     let r = start(recs, latest, i);
     put(previous, i, r);
-    let a = fields::le16(recs, i * names::BID_WIDTH) as usize;
+    let a = bid::application(recs, i);
     put(latest, a, i + 1);
 }
 
@@ -68,10 +70,10 @@ pub fn accept(recs: &[u8], latest: &mut [usize], previous: &mut [usize], i: usiz
 
 // 1 if bids k and i are of one application, else 0.
 fn same_app(recs: &[u8], k: usize, i: usize) -> usize
-    requires { ⌜ (k * bidWidth + bidWidth ≤ length (now recs)) × (i * bidWidth + bidWidth ≤ length (now recs)) ⌝ }
+    requires { ⌜ Room (now recs) bidWidth k × Room (now recs) bidWidth i ⌝ }
     ensures { λ r. ⌜ (r ≡ given (sameApp? (alone (now (recs .entry)) i) k i) 1 0) × (r ≤ 1) ⌝ }
 {
-    if fields::le16(recs, k * names::BID_WIDTH) == fields::le16(recs, i * names::BID_WIDTH) {
+    if bid::application(recs, k) == bid::application(recs, i) {
         1
     } else {
         0
@@ -80,13 +82,11 @@ fn same_app(recs: &[u8], k: usize, i: usize) -> usize
 
 // 1 if bids k and i are of one application and in one year, else 0.
 pub fn same_year(recs: &[u8], k: usize, i: usize) -> usize
-    requires { ⌜ (k * bidWidth + bidWidth ≤ length (now recs)) × (i * bidWidth + bidWidth ≤ length (now recs)) ⌝ }
+    requires { ⌜ Room (now recs) bidWidth k × Room (now recs) bidWidth i ⌝ }
     ensures { λ r. ⌜ (r ≡ given (sameYear? (alone (now (recs .entry)) i) k i) 1 0) × (r ≤ 1) ⌝ }
 {
-    if fields::le16(recs, k * names::BID_WIDTH) == fields::le16(recs, i * names::BID_WIDTH) {
-        if fields::le16(recs, k * names::BID_WIDTH + 2)
-            == fields::le16(recs, i * names::BID_WIDTH + 2)
-        {
+    if bid::application(recs, k) == bid::application(recs, i) {
+        if bid::year(recs, k) == bid::year(recs, i) {
             return 1;
         }
         return 0;
@@ -96,13 +96,11 @@ pub fn same_year(recs: &[u8], k: usize, i: usize) -> usize
 
 // 1 if bids k and i are of one application and at one price, else 0.
 fn same_price(recs: &[u8], k: usize, i: usize) -> usize
-    requires { ⌜ (k * bidWidth + bidWidth ≤ length (now recs)) × (i * bidWidth + bidWidth ≤ length (now recs)) ⌝ }
+    requires { ⌜ Room (now recs) bidWidth k × Room (now recs) bidWidth i ⌝ }
     ensures { λ r. ⌜ r ≡ given (samePrice? (now (recs .entry)) k i) 1 0 ⌝ }
 {
-    if fields::le16(recs, k * names::BID_WIDTH) == fields::le16(recs, i * names::BID_WIDTH) {
-        if fields::le32(recs, k * names::BID_WIDTH + 10)
-            == fields::le32(recs, i * names::BID_WIDTH + 10)
-        {
+    if bid::application(recs, k) == bid::application(recs, i) {
+        if bid::price(recs, k) == bid::price(recs, i) {
             return 1;
         }
         return 0;
@@ -125,7 +123,7 @@ fn nine(of_app: usize, of_year: usize) -> u64
 
 // Rules 8 and 9 of bid i. 0 if both are kept.
 pub fn eight_nine(recs: &[u8], latest: &[usize], previous: &[usize], i: usize) -> u64
-    requires { ⌜ i * bidWidth + bidWidth ≤ length (now recs) ⌝ }
+    requires { ⌜ Room (now recs) bidWidth i ⌝ }
     requires { ⌜ Latest (now recs) (now latest) i × Previous (now recs) (now previous) i ⌝ }
     ensures { λ r. ⌜ r ≡ orFault (eightOf (alone (now (recs .entry)) i) i) (nineOf (alone (now (recs .entry)) i) i) ⌝ }
 {

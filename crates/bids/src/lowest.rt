@@ -6,6 +6,7 @@ ghost use Rattle.rules.specs.Names.{bidWidth};
 ghost use Rattle.rules.specs.Refusals.{elevenOf};
 ghost use Rattle.bids.specs.Bids.{alone, lowestOf};
 use super::earlier::same_year;
+use layout::bid;
 use rules::Reading;
 use rules::Sections;
 
@@ -14,14 +15,14 @@ fn eleven(recs: &[u8], n: usize, i: usize) -> u64
     requires { ⌜ (n * bidWidth ≤ length (now recs)) × (i < n) ⌝ }
     ensures { λ r. ⌜ r ≡ elevenOf (alone (now (recs .entry)) n) i ⌝ }
 {
-    let price = fields::le32(recs, i * names::BID_WIDTH + 10);
+    let price = bid::price(recs, i);
     if price % names::PRICE_STEP == 0 {
         return 0;
     }
     let mut k: usize = 0;
     while k < n {
         if same_year(recs, k, i) == 1 {
-            if fields::le32(recs, k * names::BID_WIDTH + 10) < price {
+            if bid::price(recs, k) < price {
                 return 0;
             }
         }

@@ -11,4 +11,5 @@ returns-2 : tie.Need-returns-2
 returns-2 c = passed (c .before .args .a) (c .before .args .b) refl (c .if1 .left) refl
 
 pub first-spec : {M : Type 1} → statement M
-first-spec = tie.close (tie.spec returns returns-2)
+first-spec =
+    tie.close (tie.spec returns returns-2)

@@ -15,27 +15,22 @@ use Rattle.bids.proofs.judged.Statement.{statement}
 use Rattle.bids.proofs.judged.Tie as tie
 
 abbrev Inv-loop : tie.InvT-loop
-Inv-loop years techs apps recs base done latest₀ previous₀ n i₀ latest previous i =
+Inv-loop file recs base done latest₀ previous₀ n i₀ latest previous i =
     (i ≤ n) × (i * bidWidth ≤ length recs) × (length latest ≡ length latest₀) × (length previous ≡ length previous₀) × Latest recs latest i
-    × Previous recs previous i × (scan (recordFault recs bidWidth (bidFault (tablesOf years techs apps recs done))) bidWidth base i (n - i) (Accepted done) ≡ bidsOf years techs apps recs base done)
+    × Previous recs previous i
+    × (scan (recordFault recs bidWidth (bidFault (tablesOf file recs done))) bidWidth base i (n - i) (Accepted done) ≡ bidsOf file recs base done)
 
 abbrev μ-loop : tie.MeasureT-loop
-μ-loop years techs apps recs base done latest₀ previous₀ n i₀ latest previous i = n - i
+μ-loop file recs base done latest₀ previous₀ n i₀ latest previous i = n - i
 
 loop-holds : tie.Need-loop-holds Inv-loop μ-loop
 unfolding bidsOf
 loop-holds c =
-    let s = c .before .before .before .before .before .before in
+    let s = c .before .before .before .before in
     (omega arith, omega arith, refl, refl, s .pre .1 .1, s .pre .1 .2, rw (sub-zero (s .args .done .bids)))
 
 bid-fault-requires : tie.Need-bid-fault-requires Inv-loop μ-loop
-bid-fault-requires c κs = let v = c .before .before .before .loop .inv in (c .before .before .before .before .before .before .before .before .before .before .pre .0, (v .1, v .4, v .5))
-
-mul-t17 : tie.Need-mul-t17 Inv-loop μ-loop
-mul-t17 c = search needs
-
-add-t18 : tie.Need-add-t18 Inv-loop μ-loop
-add-t18 c = search needs
+bid-fault-requires c κs = let v = c .before .before .before .loop .inv in (c .before .before .before .before .before .before .before .before .pre .0, (v .1, v .4, v .5))
 
 same-length : tie.Need-same-length Inv-loop μ-loop
 same-length c = c .before .before .before .before .before .loop .inv .2
@@ -77,5 +72,5 @@ returns-2 c = at-end _ _ _ _ _ _ (c .before .loop .inv .6) (omega arith)
 
 pub judged-spec : {M : Type 1} → statement M
 judged-spec =
-    tie.close (tie.spec Inv-loop μ-loop loop-holds bid-fault-requires mul-t17 add-t18 same-length same-length-2 returns accept-requires add-i loop-less
-    loop-again same-length-3 same-length-4 returns-2)
+    tie.close (tie.spec Inv-loop μ-loop loop-holds bid-fault-requires (λ c. search needs) (λ c. search needs) same-length same-length-2 returns
+    accept-requires add-i loop-less loop-again same-length-3 same-length-4 returns-2)

@@ -9,9 +9,9 @@ returns c =
     let w = c .before .before .before .before .before .before .before in
     let s = w .before .before in
     let p = s .before .before .before .before .before .pre .1 in
-    (latest-next _ _ _ _ (p .0) (c .before .before .before .before .le16 .ensures .0) (c .before .before .put2 .ensures), previous-next _ _ _ _ (p .1) (s .start .ensures) (w .put .ensures))
+    (latest-next _ _ _ _ (p .0) (c .before .before .before .before .application .ensures .0) (c .before .before .put2 .ensures), previous-next _ _ _ _ (p .1) (s .start .ensures) (w .put .ensures))
 
 pub accept-spec : {M : Type 1} → statement M
 accept-spec =
-    tie.close (tie.spec (λ c κs. search needs) (λ c κs. search needs) (λ c. search needs) (λ c κs. search needs) (λ c. search needs)
-    (λ c κs. search needs) (λ c. search needs) (λ c. search needs) returns)
+    tie.close (tie.spec (λ c κs. search needs) (λ c κs. search needs) (λ c κs. search needs) (λ c. search needs) (λ c κs. search needs)
+    (λ c. search needs) (λ c. search needs) returns)

@@ -14,4 +14,5 @@ returns-2 : tie.Need-returns-2
 returns-2 c = sym (List·getD-eq-default (now (c .before .args .links)) _ (c .if1 .left))
 
 pub link-spec : {M : Type 1} → statement M
-link-spec = tie.close (tie.spec (λ c. search needs) (λ c. search needs) returns returns-2)
+link-spec =
+    tie.close (tie.spec (λ c. search needs) (λ c. search needs) returns returns-2)

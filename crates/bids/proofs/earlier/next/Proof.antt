@@ -13,4 +13,4 @@ returns-2 c = free-none _ _ _
 
 pub next-spec : {M : Type 1} → statement M
 next-spec =
-    tie.close (tie.spec (λ c. search needs) (λ c κs. search needs) (λ c. search needs) (λ c κs. search needs) (λ c κs. search needs) returns returns-2)
+    tie.close (tie.spec (λ c κs. search needs) (λ c κs. search needs) (λ c κs. search needs) returns returns-2)

@@ -15,4 +15,5 @@ returns-3 : tie.Need-returns-3
 returns-3 c = sym (given-yes _ _ _ (omega arith))
 
 pub nine-spec : {M : Type 1} → statement M
-nine-spec = tie.close (tie.spec returns returns-2 returns-3)
+nine-spec =
+    tie.close (tie.spec returns returns-2 returns-3)

@@ -14,4 +14,4 @@ returns-2 c = (sym (given-no _ _ _ (λ h. omega arith)), omega arith)
 
 pub same-app-spec : {M : Type 1} → statement M
 same-app-spec =
-    tie.close (tie.spec (λ c. search needs) (λ c κs. search needs) (λ c. search needs) (λ c κs. search needs) returns returns-2)
+    tie.close (tie.spec (λ c κs. search needs) (λ c κs. search needs) returns returns-2)

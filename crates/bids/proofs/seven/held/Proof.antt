@@ -1,30 +1,32 @@
 -- `bids::seven::held` meets its contract: equal numbers are judged alike. Assumes nothing.
 use native.Mathlib.Omega.{arith}
+use mathlib.Core.Path.{ap}
+use lib.ListN.{length}
 use Rattle.rules.specs.Names.{techWidth}
-use Rattle.bids.proofs.Laws.{held-is, record-whole}
+use Rattle.bids.proofs.Laws.{held-is, tech-known, record-whole}
 use borrow.Author.Needs.{needs}
 use Rattle.bids.proofs.seven.held.Statement.{statement}
 use Rattle.bids.proofs.seven.held.Tie as tie
 
-admin-price-requires : tie.Need-admin-price-requires
-admin-price-requires c κs = let s = c .before .before .before .before .before .before .before .before .before .before .before .before in
-    let t = s .pre .0 .tech (s .args .a) (omega (arith, s .pre)) in
-    (record-whole (c .before .before .before .le163 .result) (s .args .done .technologies) (techWidth (s .args .done .years)) (omega (arith, t, c .before .before .before .le163 .ensures)) (s .pre .0 .techs-whole), omega (arith, s .pre))
+read-requires : tie.Need-read-requires
+read-requires c κs = omega (arith, c .before .before .pre .0 .apps-whole, c .before .before .pre .1, ap length (c .applications .ensures))
+
+days-requires : tie.Need-days-requires
+days-requires c κs = omega (arith, c .before .before .before .before .pre .0 .years-whole, c .before .before .before .before .pre .0 .few, c .before .before .before .before .pre .2, ap length (c .years .ensures))
+
+admin-requires : tie.Need-admin-requires
+admin-requires c κs =
+    let t = tech-known _ _ _ (c .before .before .before .before .before .before .pre .0) (c .before .before .before .before .applications .ensures) (c .before .before .before .read .ensures) (c .before .before .before .before .before .before .pre .1) in (
+      record-whole _ _ (techWidth (c .before .before .before .before .before .before .args .done .years)) t (omega (arith, c .before .before .before .before .before .before .pre .0 .techs-whole, ap length (c .technologies .ensures))),
+      omega (arith, c .before .before .before .before .before .before .pre .0 .few, c .before .before .before .before .before .before .pre .2),
+    )
 
 returns : tie.Need-returns
-returns c = let admin = c .before .before in
-    let sd = admin .before in
-    let st = sd .before in
-    let te = st .before in
-    let md = te .before in
-    let pr = md .before in
-    let ca = pr .before in
-    let da = ca .before in
-    held-is _ _ _ _ (c .judge .ensures) (da .le16 .ensures .0) (ca .le32 .ensures .0) (pr .le322 .ensures .0) (md .le162 .ensures .0) (admin .le323 .ensures .0) (st .le164 .ensures .0) (sd .le165 .ensures .0) (c .before .admin-price .ensures) (te .le163 .ensures .0)
+returns c =
+    held-is _ _ _ (c .before .before .before .before .years .ensures) (c .before .before .technologies .ensures) (c .before .before .before .before .before .before .applications .ensures) (c .judge .ensures) (c .before .before .before .before .before .read .ensures) (c .before .before .before .days .ensures .0)
+    (c .before .admin .ensures .0)
 
 pub held-spec : {M : Type 1} → statement M
 held-spec =
-    tie.close (tie.spec (λ c. search needs) (λ c. search needs) (λ c κs. search needs) (λ c. search needs) (λ c κs. search needs) (λ c. search needs)
-    (λ c κs. search needs) (λ c. search needs) (λ c κs. search needs) (λ c. search needs) (λ c κs. search needs) (λ c. search needs)
-    (λ c κs. search needs) (λ c. search needs) (λ c κs. search needs) (λ c. search needs) (λ c κs. search needs) admin-price-requires
+    tie.close (tie.spec (λ c κs. search needs) read-requires (λ c κs. search needs) days-requires (λ c κs. search needs) admin-requires
     (λ c κs. search needs) returns)

@@ -1,6 +1,7 @@
 -- `bids::seven::seven` meets its contract: the application or the year is wrong, or the rest of rule 7 is asked. Assumes nothing.
 use native.Mathlib.Omega.{arith}
-use mathlib.Core.Path.{sym}
+use mathlib.Core.Path.{sym, ap}
+use Rattle.rules.specs.File.{Bid}
 use Rattle.rules.specs.Refusals.{sevenOf}
 use Rattle.reading_laws.specs.Walk.{given-no}
 use Rattle.bids.proofs.Laws.{rest-asked}
@@ -10,16 +11,15 @@ use Rattle.bids.proofs.seven.seven.Tie as tie
 
 returns : tie.Need-returns
 unfolding sevenOf
-returns c = sym (given-no _ _ _ (λ h. omega (arith, h .0)))
+returns c = sym (given-no _ _ _ (λ h. omega (arith, ap (λ (b : Bid). b .app) (c .before .before .before .read .ensures), h .0)))
 
 returns-2 : tie.Need-returns-2
 unfolding sevenOf
-returns-2 c = sym (given-no _ _ _ (λ h. omega (arith, h .1 .0)))
+returns-2 c = sym (given-no _ _ _ (λ h. omega (arith, ap (λ (b : Bid). b .year) (c .before .before .before .before .before .before .read .ensures), h .1 .0)))
 
 returns-3 : tie.Need-returns-3
-returns-3 c = rest-asked _ _ (c .held .ensures) (c .before .before .before .before .le16 .ensures .0) (c .before .before .le162 .ensures .0) (c .before .before .before .if1 .left) (c .before .if2 .left)
+returns-3 c = rest-asked _ _ _ _ (c .held .ensures) (c .before .before .before .before .before .before .before .read .ensures) (c .before .before .before .before .if1 .left) (c .before .if2 .left)
 
 pub seven-spec : {M : Type 1} → statement M
 seven-spec =
-    tie.close (tie.spec (λ c. search needs) (λ c κs. search needs) returns (λ c. search needs) (λ c κs. search needs) returns-2 (λ c κs. search needs)
-    returns-3)
+    tie.close (tie.spec (λ c κs. search needs) returns returns-2 (λ c κs. search needs) returns-3)
