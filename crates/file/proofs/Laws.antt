@@ -16,9 +16,10 @@ use Rattle.reading_laws.specs.Walk.{given-yes, refuses}
 use Rattle.reading_laws.specs.Reading.{holds, YearRight, year-right, app-right, deliveries-most, counts}
 use Rattle.reading_laws.specs.Fault.{Table, years, pots, techs, apps, bids, tables, says, countIs, recordIs, judges, judgesAll, Right, AllRight, none, also, after, goes, stops, faulty, or-passes, sections-pass, count-right, record-right, ends-within}
 use Rattle.fields.proofs.Le.{part-length}
+use Rattle.layout.specs.Layout.{yearsIn}
 use Rattle.records.specs.Records.{yearsOf, potsOf, techsOf, appsOf}
-use Rattle.bids.specs.Bids.{tablesOf, Looked, bidsOf, lowestOf}
-use Rattle.file.specs.Reads.{withPots, withTechs, withApps, withBids, toYears, toPots, toTechs, toApps, afterYears, afterPots, afterTechs, afterApps, readYears, readPots, readTechs, readApps, readBids}
+use Rattle.bids.specs.Bids.{TablesRight, bidsOf, lowestOf}
+use Rattle.file.specs.Reads.{ends, withPots, withTechs, withApps, withBids, toYears, toPots, toTechs, toApps, afterYears, afterPots, afterTechs, afterApps, readYears, readPots, readTechs, readApps, readBids}
 
 -- ---- a section by its count and its records
 
@@ -53,16 +54,18 @@ module _ (s : List ℕ) {Ts : List Table} (a : AllRight s Ts) (T : Table) (q : R
       ∙ sym (sections-pass s (judges s T q) a)
 
   -- its count is accepted, and F is what its n records answer, in the part of the file that they occupy
-  pub next-read : (F : Sections → ℕ → List ℕ → Reading)
-      → F h (le countWidth s (at h)) (part s (at h + countWidth) (at h + countWidth + le countWidth s (at h) * width h)) ≡ scan (recordIs s T) (T .width) (T .at + countWidth) 0 (says s T) q
-      → f ≡ 0 → {n : ℕ} {l : List ℕ} {r : Reading} → n ≡ le countWidth s (at g) → l ≡ part s (at g + countWidth) (at g + countWidth + n * width g) → r ≡ F g n l
+  pub next-read : (F : Sections → (n next : ℕ) → List ℕ → Reading)
+      → F h (le countWidth s (at h)) (ends (at h) (le countWidth s (at h)) (width h)) (part s (at h + countWidth) (ends (at h) (le countWidth s (at h)) (width h)))
+      ≡ scan (recordIs s T) (T .width) (T .at + countWidth) 0 (says s T) q
+      → f ≡ 0 → {n next : ℕ} {l : List ℕ} {r : Reading} → n ≡ le countWidth s (at g) → next ≡ ends (at g) n (width g) → l ≡ part s (at g + countWidth) next → r ≡ F g n next l
       → r ≡ judgesAll s Ts (judges s T q)
   unfolding section
-  next-read F same z {n} p l r =
+  next-read F same z {n} p m l r =
       let p′ = p ∙ ap (λ (x : Sections). le countWidth s (at x)) i in
-      let c = l ∙ (λ j. part s (at (i j) + countWidth) (at (i j) + countWidth + p′ j * width (i j))) in
+      let m′ = m ∙ (λ j. ends (at (i j)) (p′ j) (width (i j))) in
+      let c = l ∙ (λ j. part s (at (i j) + countWidth) (m′ j)) in
       let no : countIs s T ≡ 0 = sym fault-is ∙ z in
-      r ∙ (λ j. F (i j) (p′ j) (c j)) ∙ same ∙ sym (or-passes _ (T .at) _ no) ∙ sym (sections-pass s (judges s T q) a)
+      r ∙ (λ j. F (i j) (p′ j) (m′ j) (c j)) ∙ same ∙ sym (or-passes _ (T .at) _ no) ∙ sym (sections-pass s (judges s T q) a)
 
 -- ---- what is known of the first sections, where they are right
 
@@ -110,7 +113,7 @@ module _ (s : List ℕ) {f : ℕ} (e : f ≡ countFault s 0 1 mostYears) where
       → r ≡ yearsOf l n countWidth → r ≡ readYears s
   unfolding readYears yearsOf roundOf sections
   years-read z p q r =
-      next-read s none (years (roundOf s)) (Accepted (afterYears s)) (λ x. 0) (λ x. yearWidth) {g = afterYears s} refl refl e (λ x n l. yearsOf l n countWidth) refl z p q r
+      next-read s none (years (roundOf s)) (Accepted (afterYears s)) (λ x. 0) (λ x. yearWidth) {g = afterYears s} refl refl e (λ x n next l. yearsOf l n countWidth) refl z p refl q r
 
 -- ---- the pots, after the years
 
@@ -134,14 +137,14 @@ module _ (s : List ℕ) {g : Sections} (h : readYears s ≡ Accepted g) where
         let a = goes s (toYears (roundOf s)) (afterYears s) h in
         next-refused s (a .0) (pots (roundOf s)) (Accepted (afterPots s)) (λ x. x .«pots_at») (λ x. potWidth (x .years)) (a .1) refl e z
 
-    pub pots-read : f ≡ 0 → {n : ℕ} {l : List ℕ} {r : Reading} → n ≡ le countWidth s (g .«pots_at»)
-        → l ≡ part s (g .«pots_at» + countWidth) (g .«pots_at» + countWidth + n * potWidth (g .years))
-        → r ≡ potsOf l (g .«pots_at» + countWidth) (withPots g n) → r ≡ readPots s
+    pub pots-read : f ≡ 0 → {n m : ℕ} {l : List ℕ} {r : Reading} → n ≡ le countWidth s (g .«pots_at») → m ≡ n * potWidth (g .years)
+        → l ≡ part s (g .«pots_at» + countWidth) (g .«pots_at» + countWidth + m)
+        → r ≡ potsOf l (g .«pots_at» + countWidth) (withPots g n (g .«pots_at» + countWidth + m)) → r ≡ readPots s
     unfolding readYears readPots potsOf roundOf sections
-    pots-read z p q r =
+    pots-read z p m q r =
         let a = goes s (toYears (roundOf s)) (afterYears s) h in
         next-read s (a .0) (pots (roundOf s)) (Accepted (afterPots s)) (λ x. x .«pots_at») (λ x. potWidth (x .years)) (a .1) refl e
-        (λ x n l. potsOf l (x .«pots_at» + countWidth) (withPots x n)) refl z p q r
+        (λ x n next l. potsOf l (x .«pots_at» + countWidth) (withPots x n next)) refl z p (ap (λ (x : ℕ). g .«pots_at» + countWidth + x) m) q r
 
 -- ---- the technologies, after the pots
 
@@ -165,20 +168,20 @@ module _ (s : List ℕ) {g : Sections} (h : readPots s ≡ Accepted g) where
         let a = goes s (toPots (roundOf s)) (afterPots s) h in
         next-refused s (a .0) (techs (roundOf s)) (Accepted (afterTechs s)) (λ x. x .«technologies_at») (λ x. techWidth (x .years)) (a .1) refl e z
 
-    pub techs-read : f ≡ 0 → {n : ℕ} {l : List ℕ} {r : Reading} → n ≡ le countWidth s (g .«technologies_at»)
-        → l ≡ part s (g .«technologies_at» + countWidth) (g .«technologies_at» + countWidth + n * techWidth (g .years))
-        → r ≡ techsOf l (g .«technologies_at» + countWidth) (withTechs g n) → r ≡ readTechs s
+    pub techs-read : f ≡ 0 → {n m : ℕ} {l : List ℕ} {r : Reading} → n ≡ le countWidth s (g .«technologies_at») → m ≡ n * techWidth (g .years)
+        → l ≡ part s (g .«technologies_at» + countWidth) (g .«technologies_at» + countWidth + m)
+        → r ≡ techsOf l (g .«technologies_at» + countWidth) (withTechs g n (g .«technologies_at» + countWidth + m)) → r ≡ readTechs s
     unfolding readPots readTechs techsOf roundOf sections
-    techs-read z p q r =
+    techs-read z p m q r =
         let a = goes s (toPots (roundOf s)) (afterPots s) h in
         next-read s (a .0) (techs (roundOf s)) (Accepted (afterTechs s)) (λ x. x .«technologies_at») (λ x. techWidth (x .years)) (a .1) refl e
-        (λ x n l. techsOf l (x .«technologies_at» + countWidth) (withTechs x n)) refl z p q r
+        (λ x n next l. techsOf l (x .«technologies_at» + countWidth) (withTechs x n next)) refl z p (ap (λ (x : ℕ). g .«technologies_at» + countWidth + x) m) q r
 
 -- ---- the applications, after the technologies
 
 -- what is known of the sections so far
 pub record Facts3 (s : List ℕ) (g : Sections) : Type 0 where
-  pub days : g .deliveries * yearWidth ≤ length (part s countWidth (g .«pots_at»))
+  pub days : g .deliveries * yearWidth ≤ length (yearsIn s g)
   pub starts : countWidth ≤ g .«pots_at»
   pub ended : g .«pots_at» ≤ length s
   pub within : g .«applications_at» ≤ length s
@@ -208,28 +211,16 @@ module _ (s : List ℕ) {g : Sections} (h : readTechs s ≡ Accepted g) where
         next-refused s (a .0) (apps (roundOf s)) (Accepted (afterApps s)) (λ x. x .«applications_at») (λ x. appWidth) (a .1) refl e z
 
     pub apps-read : f ≡ 0 → {n : ℕ} {years l : List ℕ} {r : Reading} → n ≡ le countWidth s (g .«applications_at»)
-        → years ≡ part s countWidth (g .«pots_at»)
-        → l ≡ part s (g .«applications_at» + countWidth) (g .«applications_at» + countWidth + n * appWidth)
-        → r ≡ appsOf years l (g .«applications_at» + countWidth) (withApps g n) → r ≡ readApps s
+        → years ≡ yearsIn s g → l ≡ part s (g .«applications_at» + countWidth) (ends (g .«applications_at») n appWidth)
+        → r ≡ appsOf years l (g .«applications_at» + countWidth) (withApps g n (ends (g .«applications_at») n appWidth)) → r ≡ readApps s
     unfolding readTechs readApps appsOf roundOf sections
     apps-read z {n} {l = l} p y q r =
         let a = goes s (toTechs (roundOf s)) (afterTechs s) h in
         next-read s (a .0) (apps (roundOf s)) (Accepted (afterApps s)) (λ x. x .«applications_at») (λ x. appWidth) (a .1) refl e
-        (λ x n l. appsOf (part s countWidth (x .«pots_at»)) l (x .«applications_at» + countWidth) (withApps x n)) refl z p q
-        (r ∙ ap (λ (x : List ℕ). appsOf x l (g .«applications_at» + countWidth) (withApps g n)) y)
+        (λ x n next l. appsOf (yearsIn s x) l (x .«applications_at» + countWidth) (withApps x n next)) refl z p refl q
+        (r ∙ ap (λ (x : List ℕ). appsOf x l (g .«applications_at» + countWidth) (withApps g n (ends (g .«applications_at») n appWidth))) y)
 
 -- ---- the bids, after the applications
-
--- what is known of the sections so far
-pub record Facts4 (s : List ℕ) (g : Sections) : Type 0 where
-  pub starts : countWidth ≤ g .«pots_at»
-  pub ended : g .«pots_at» ≤ length s
-  pub techs-start : g .«technologies_at» + countWidth ≤ g .«applications_at»
-  pub techs-end : g .«applications_at» ≤ length s
-  pub apps-start : g .«applications_at» + countWidth ≤ g .«bids_at»
-  pub within : g .«bids_at» ≤ length s
-  pub looked : (recs : List ℕ) (n : ℕ)
-      → Looked (tablesOf (part s countWidth (g .«pots_at»)) (part s (g .«technologies_at» + countWidth) (g .«applications_at»)) (part s (g .«applications_at» + countWidth) (g .«bids_at»)) recs (withBids g n))
 
 module _ (s : List ℕ) where
   techs-long : Right s (techs (roundOf s))
@@ -252,33 +243,26 @@ module _ (s : List ℕ) where
   apps-tech r a l = app-right _ _ _ _ a (record-right s (apps (roundOf s)) r a l .1) .tech
 
 module _ (s : List ℕ) {g : Sections} (h : readApps s ≡ Accepted g) where
-  pub facts4 : Facts4 s g
+  -- the bids can be held to the sections so far
+  pub tables-right : (n : ℕ) → TablesRight s (withBids g n)
   unfolding readApps
-  facts4 = let a = goes s (toApps (roundOf s)) (afterApps s) h in rw (a .1) (known-of (a .0))
+  tables-right m = let a = goes s (toApps (roundOf s)) (afterApps s) h in rw (a .1) (known-of (a .0))
     where
-      known-of : AllRight s (toApps (roundOf s)) → Facts4 s (afterApps s)
+      known-of : AllRight s (toApps (roundOf s)) → TablesRight s (withBids (afterApps s) m)
       known-of (also y (also p (also t (also n none)))) = record {
-        starts = omega arith;
-        ended = years-known s y .1;
+        years-start = omega arith;
+        years-end = years-known s y .1;
         techs-start = omega arith;
         techs-end = techs-known s t .1;
         apps-start = omega arith;
-        within = apps-known s n .1;
-        looked = λ recs m. record {
-          few = deliveries-known s y;
-          most = years-known s y .0;
-          years-whole = years-long s y;
-          techs-whole = techs-long s t;
-          apps-whole = apps-long s n;
-          tech = apps-tech s n;
-        };
+        apps-end = apps-known s n .1;
+        few = deliveries-known s y;
+        most = years-known s y .0;
+        years-whole = years-long s y;
+        techs-whole = techs-long s t;
+        apps-whole = apps-long s n;
+        tech = apps-tech s n;
       }
-
-  -- the bids are held to the parts that were handed on
-  pub looks : {years techs apps : List ℕ} (recs : List ℕ) (n : ℕ)
-      → years ≡ part s countWidth (g .«pots_at») → techs ≡ part s (g .«technologies_at» + countWidth) (g .«applications_at») → apps ≡ part s (g .«applications_at» + countWidth) (g .«bids_at»)
-      → Looked (tablesOf years techs apps recs (withBids g n))
-  looks recs n y t m = rw (y, t, m) (facts4 .looked recs n)
 
   module _ {f : ℕ} (e : f ≡ countFault s (g .«bids_at») 0 mostBids) where
     pub bids-refused : (f ≡ 0 → ⊥) → Refused f (g .«bids_at») ≡ readBids s
@@ -287,16 +271,13 @@ module _ (s : List ℕ) {g : Sections} (h : readApps s ≡ Accepted g) where
         let a = goes s (toApps (roundOf s)) (afterApps s) h in
         next-refused s (a .0) (bids (roundOf s)) (Accepted (sectionsOf (roundOf s))) (λ x. x .«bids_at») (λ x. bidWidth) (a .1) refl e z
 
-    pub bids-read : f ≡ 0 → {n : ℕ} {years techs apps l : List ℕ} {r : Reading} → n ≡ le countWidth s (g .«bids_at»)
-        → years ≡ part s countWidth (g .«pots_at») → techs ≡ part s (g .«technologies_at» + countWidth) (g .«applications_at») → apps ≡ part s (g .«applications_at» + countWidth) (g .«bids_at»)
-        → l ≡ part s (g .«bids_at» + countWidth) (g .«bids_at» + countWidth + n * bidWidth)
-        → r ≡ bidsOf years techs apps l (g .«bids_at» + countWidth) (withBids g n) → r ≡ readBids s
+    pub bids-read : f ≡ 0 → {n : ℕ} {l : List ℕ} {r : Reading} → n ≡ le countWidth s (g .«bids_at»)
+        → l ≡ part s (g .«bids_at» + countWidth) (ends (g .«bids_at») n bidWidth) → r ≡ bidsOf s l (g .«bids_at» + countWidth) (withBids g n) → r ≡ readBids s
     unfolding readApps readBids bidsOf bidFault sevenOf eightOf nineOf sectionsOf roundOf sections
-    bids-read z {n} {l = l} p y t m q r =
+    bids-read z p q r =
         let a = goes s (toApps (roundOf s)) (afterApps s) h in
         next-read s (a .0) (bids (roundOf s)) (Accepted (sectionsOf (roundOf s))) (λ x. x .«bids_at») (λ x. bidWidth) (a .1) refl e
-        (λ x n l. bidsOf (part s countWidth (x .«pots_at»)) (part s (x .«technologies_at» + countWidth) (x .«applications_at»)) (part s (x .«applications_at» + countWidth) (x .«bids_at»)) l (x .«bids_at» + countWidth) (withBids x n)) refl z p q
-        (r ∙ (λ j. bidsOf (y j) (t j) (m j) l (g .«bids_at» + countWidth) (withBids g n)))
+        (λ x n next l. bidsOf s l (x .«bids_at» + countWidth) (withBids x n)) refl z p refl q r
 
 -- ---- after the last section
 

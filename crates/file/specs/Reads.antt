@@ -7,65 +7,27 @@ use Rattle.rules.specs.declared.Sections.{Sections}
 use Rattle.rules.specs.declared.Reading.{Reading}
 use Rattle.rules.specs.declared.Reading.the-variants.{Accepted}
 use Rattle.reading_laws.specs.Fault.{Table, judgesAll, years, pots, techs, apps, tables}
+use Rattle.layout.specs.Layout.{laidOut}
 use Rattle.records.specs.Records.{withYears}
 
--- ---- the sections so far, each with its own count and the place of the next one's
+-- ---- the sections so far: each brings its own count and, but for the last, the place of the next one's
 
-abbrev pub withPots : Sections → ℕ → Sections
-withPots g n = record {
-  years = g .years;
-  deliveries = g .deliveries;
-  pots = n;
-  technologies = 0;
-  applications = 0;
-  bids = 0;
-  «pots_at» = g .«pots_at»;
-  «technologies_at» = g .«pots_at» + countWidth + n * potWidth (g .years);
-  «applications_at» = 0;
-  «bids_at» = 0;
-}
+abbrev pub withPots : Sections → (n next : ℕ) → Sections
+withPots g n next = laidOut (g .years) (g .deliveries) n (g .technologies) (g .applications) (g .bids) (g .«pots_at») next (g .«applications_at») (g .«bids_at»)
 
-abbrev pub withTechs : Sections → ℕ → Sections
-withTechs g n = record {
-  years = g .years;
-  deliveries = g .deliveries;
-  pots = g .pots;
-  technologies = n;
-  applications = 0;
-  bids = 0;
-  «pots_at» = g .«pots_at»;
-  «technologies_at» = g .«technologies_at»;
-  «applications_at» = g .«technologies_at» + countWidth + n * techWidth (g .years);
-  «bids_at» = 0;
-}
+abbrev pub withTechs : Sections → (n next : ℕ) → Sections
+withTechs g n next = laidOut (g .years) (g .deliveries) (g .pots) n (g .applications) (g .bids) (g .«pots_at») (g .«technologies_at») next (g .«bids_at»)
 
-abbrev pub withApps : Sections → ℕ → Sections
-withApps g n = record {
-  years = g .years;
-  deliveries = g .deliveries;
-  pots = g .pots;
-  technologies = g .technologies;
-  applications = n;
-  bids = 0;
-  «pots_at» = g .«pots_at»;
-  «technologies_at» = g .«technologies_at»;
-  «applications_at» = g .«applications_at»;
-  «bids_at» = g .«applications_at» + countWidth + n * appWidth;
-}
+abbrev pub withApps : Sections → (n next : ℕ) → Sections
+withApps g n next = laidOut (g .years) (g .deliveries) (g .pots) (g .technologies) n (g .bids) (g .«pots_at») (g .«technologies_at») (g .«applications_at») next
 
-abbrev pub withBids : Sections → ℕ → Sections
-withBids g n = record {
-  years = g .years;
-  deliveries = g .deliveries;
-  pots = g .pots;
-  technologies = g .technologies;
-  applications = g .applications;
-  bids = n;
-  «pots_at» = g .«pots_at»;
-  «technologies_at» = g .«technologies_at»;
-  «applications_at» = g .«applications_at»;
-  «bids_at» = g .«bids_at»;
-}
+abbrev pub withBids : Sections → (n : ℕ) → Sections
+withBids g n =
+    laidOut (g .years) (g .deliveries) (g .pots) (g .technologies) (g .applications) n (g .«pots_at») (g .«technologies_at») (g .«applications_at») (g .«bids_at»)
+
+-- where a section's n records of a width end, after its count at `at`
+abbrev pub ends : (at n width : ℕ) → ℕ
+ends at n width = at + countWidth + n * width
 
 -- ---- the reading of the first sections: the first fault in them, or the sections so far
 
@@ -89,13 +51,13 @@ module _ (s : List ℕ) where
   afterYears = withYears (roundOf s .y) (roundOf s .d) countWidth
 
   abbrev pub afterPots : Sections
-  afterPots = withPots afterYears (roundOf s .p)
+  afterPots = withPots afterYears (roundOf s .p) (ends (afterYears .«pots_at») (roundOf s .p) (potWidth (roundOf s .y)))
 
   abbrev pub afterTechs : Sections
-  afterTechs = withTechs afterPots (roundOf s .t)
+  afterTechs = withTechs afterPots (roundOf s .t) (ends (afterPots .«technologies_at») (roundOf s .t) (techWidth (roundOf s .y)))
 
   abbrev pub afterApps : Sections
-  afterApps = withApps afterTechs (roundOf s .n)
+  afterApps = withApps afterTechs (roundOf s .n) (ends (afterTechs .«applications_at») (roundOf s .n) appWidth)
 
   unfoldable pub readYears : Reading
   readYears = judgesAll s (toYears (roundOf s)) (Accepted afterYears)

@@ -6,7 +6,7 @@ ghost use Rattle.rules.specs.Refusals.{countFault};
 pub fn count_fault(file: &[u8], at: usize, low: u64, high: u64) -> u64
     ensures { λ r. ⌜ r ≡ countFault (now (file .entry)) at low high ⌝ }
 {
-    if reader::left_at(file, at) < names::COUNT_WIDTH {
+    if reader::left(file, at) < names::COUNT_WIDTH {
         return names::ENDS_EARLY;
     }
     let n = reader::count_at(file, at);

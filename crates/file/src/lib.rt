@@ -18,7 +18,7 @@ fn ending(file: &[u8], done: Sections) -> Reading
     let at = done.bids_at;
     let start = at + names::COUNT_WIDTH;
     let end = start + done.bids * names::BID_WIDTH;
-    if reader::left_at(file, end) > 0 {
+    if reader::left(file, end) > 0 {
         return Reading::Refused {
             number: names::BYTES_AFTER,
             at: end,

@@ -3,6 +3,9 @@ ghost use mathlib.Core.Path.{_≡_};
 ghost use Rattle.rules.specs.declared.Reading.the-variants.{Accepted};
 ghost use Rattle.file.specs.Reads.{readYears, readPots, readTechs, readApps, readBids};
 use super::count::count_fault;
+use layout::parts;
+use layout::pot;
+use layout::technology;
 use reader::count_at;
 use reader::records_after;
 use records::applications::applications;
@@ -36,21 +39,11 @@ pub fn read_pots(file: &[u8], past: Sections) -> Reading
         return Reading::Refused { number: f, at };
     }
     let n = count_at(file, at) as usize;
-    let y = past.years;
     let start = at + names::COUNT_WIDTH;
-    let next = start + n * (names::BUDGET_WIDTH * y);
-    let done = Sections {
-        years: y,
-        deliveries: past.deliveries,
-        pots: n,
-        technologies: 0,
-        applications: 0,
-        bids: 0,
-        pots_at: at,
-        technologies_at: next,
-        applications_at: 0,
-        bids_at: 0,
-    };
+    let next = start + pot::place(past.years, n);
+    let mut done = past;
+    done.pots = n;
+    done.technologies_at = next;
     pots(records_after(file, at, next), start, done)
 }
 
@@ -65,21 +58,11 @@ pub fn read_technologies(file: &[u8], past: Sections) -> Reading
         return Reading::Refused { number: f, at };
     }
     let n = count_at(file, at) as usize;
-    let y = past.years;
     let start = at + names::COUNT_WIDTH;
-    let next = start + n * (names::TECH_HEAD + names::TECH_YEAR * y);
-    let done = Sections {
-        years: y,
-        deliveries: past.deliveries,
-        pots: past.pots,
-        technologies: n,
-        applications: 0,
-        bids: 0,
-        pots_at: past.pots_at,
-        technologies_at: at,
-        applications_at: next,
-        bids_at: 0,
-    };
+    let next = start + technology::place(past.years, n);
+    let mut done = past;
+    done.technologies = n;
+    done.applications_at = next;
     technologies(records_after(file, at, next), start, done)
 }
 
@@ -96,21 +79,11 @@ pub fn read_applications(file: &[u8], past: Sections) -> Reading
     let n = count_at(file, at) as usize;
     let start = at + names::COUNT_WIDTH;
     let next = start + n * names::APP_WIDTH;
-    let pots_at = past.pots_at;
-    let done = Sections {
-        years: past.years,
-        deliveries: past.deliveries,
-        pots: past.pots,
-        technologies: past.technologies,
-        applications: n,
-        bids: 0,
-        pots_at,
-        technologies_at: past.technologies_at,
-        applications_at: at,
-        bids_at: next,
-    };
+    let mut done = past;
+    done.applications = n;
+    done.bids_at = next;
     applications(
-        records_after(file, 0, pots_at),
+        parts::years(file, past),
         records_after(file, at, next),
         start,
         done,
@@ -130,27 +103,7 @@ pub fn read_bids(file: &[u8], past: Sections) -> Reading
     let n = count_at(file, at) as usize;
     let start = at + names::COUNT_WIDTH;
     let next = start + n * names::BID_WIDTH;
-    let pots_at = past.pots_at;
-    let technologies_at = past.technologies_at;
-    let applications_at = past.applications_at;
-    let done = Sections {
-        years: past.years,
-        deliveries: past.deliveries,
-        pots: past.pots,
-        technologies: past.technologies,
-        applications: past.applications,
-        bids: n,
-        pots_at,
-        technologies_at,
-        applications_at,
-        bids_at: at,
-    };
-    bids::bids(
-        records_after(file, 0, pots_at),
-        records_after(file, technologies_at, applications_at),
-        records_after(file, applications_at, at),
-        records_after(file, at, next),
-        start,
-        done,
-    )
+    let mut done = past;
+    done.bids = n;
+    bids::bids(file, records_after(file, at, next), start, done)
 }

@@ -20,6 +20,21 @@ applicationShown x = record { tech = x .technology; year = x .year; days = x .da
 abbrev pub bidShown : b.Bid → Bid
 bidShown x = record { app = x .application; year = x .year; days = x .days; capacity = x .capacity; price = x .price }
 
+-- the sections with these counts and places
+abbrev pub laidOut : (years deliveries pots technologies applications bids pots-at technologies-at applications-at bids-at : ℕ) → Sections
+laidOut years deliveries pots technologies applications bids pots-at technologies-at applications-at bids-at = record {
+  years = years;
+  deliveries = deliveries;
+  pots = pots;
+  technologies = technologies;
+  applications = applications;
+  bids = bids;
+  «pots_at» = pots-at;
+  «technologies_at» = technologies-at;
+  «applications_at» = applications-at;
+  «bids_at» = bids-at;
+}
+
 -- "Five sections stand in this order, each after its 2-byte count": the part of a file that each section's records occupy
 module _ (s : List ℕ) (sections : Sections) where
   abbrev pub yearsIn : List ℕ

@@ -28,7 +28,7 @@ pub fn part_to(file: &[u8], at: usize, next: usize) -> &[u8]
 }
 
 // How many bytes of a file are left at `at`.
-pub fn left_of(file: &[u8], at: usize) -> usize
+pub fn left(file: &[u8], at: usize) -> usize
     ensures { λ r. ⌜ r ≡ length (now (file .entry)) - at ⌝ }
 {
     if at < file.len() { file.len() - at } else { 0 }
@@ -69,13 +69,6 @@ pub fn section<'a>(r: Reader<'a>, next: usize) -> &'a [u8]
     part_to(r.file, r.at, next)
 }
 
-// How many bytes are left at the reader's place.
-pub fn left<'a>(r: Reader<'a>) -> usize
-    ensures { λ n. ⌜ n ≡ length (now (r .entry .file)) - r .entry .at ⌝ }
-{
-    left_of(r.file, r.at)
-}
-
 // ---- for callers with a plain slice and numbers
 
 // The count that stands at `at`.
@@ -92,11 +85,4 @@ pub fn records_after(file: &[u8], at: usize, next: usize) -> &[u8]
     ensures { λ r. ⌜ (now r ≡ part (now (file .entry)) (at + countWidth) next) × (length (now r) ≤ length (now (file .entry)) - (at + countWidth)) ⌝ }
 {
     section(past(placed(file, at), names::COUNT_WIDTH), next)
-}
-
-// How many bytes of a file are left at `at`, by way of a reader there.
-pub fn left_at(file: &[u8], at: usize) -> usize
-    ensures { λ r. ⌜ r ≡ length (now (file .entry)) - at ⌝ }
-{
-    left(placed(file, at))
 }

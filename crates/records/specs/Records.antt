@@ -7,21 +7,11 @@ use Rattle.rules.specs.Refusals.{scan, recordFault, yearFault, potFault, techFa
 use Rattle.rules.specs.declared.Sections.{Sections}
 use Rattle.rules.specs.declared.Reading.{Reading}
 use Rattle.rules.specs.declared.Reading.the-variants.{Accepted}
+use Rattle.layout.specs.Layout.{laidOut}
 
 -- the sections of a file of which the years are read: how many, d of them delivery years, from `base` on
 abbrev pub withYears : (n d base : ℕ) → Sections
-withYears n d base = record {
-  years = n;
-  deliveries = d;
-  pots = 0;
-  technologies = 0;
-  applications = 0;
-  bids = 0;
-  «pots_at» = base + n * yearWidth;
-  «technologies_at» = 0;
-  «applications_at» = 0;
-  «bids_at» = 0;
-}
+withYears n d base = laidOut n d 0 0 0 0 (base + n * yearWidth) 0 0 0
 
 -- ---- the records `recs`, which start at `base` of the file, in file order; `g` is the answer where nothing is wrong
 

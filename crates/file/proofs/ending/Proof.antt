@@ -15,7 +15,7 @@ add-end : tie.Need-add-end
 add-end c = omega (arith, facts5 _ (c .before .before .pre))
 
 returns : tie.Need-returns
-returns c = bytes-after _ (c .before .before .before .before .pre) (omega (arith, c .before .left-at .ensures, c .if1 .taken))
+returns c = bytes-after _ (c .before .before .before .before .pre) (omega (arith, c .before .left .ensures, c .if1 .taken))
 
 records-after-requires : tie.Need-records-after-requires
 records-after-requires c κs = omega (arith, facts5 _ (c .before .before .before .before .pre))
@@ -28,7 +28,8 @@ lowest-requires c κs =
 returns-2 : tie.Need-returns-2
 returns-2 c =
     let k = c .before .before in
-    lowest-read _ (k .before .before .before .before .pre) (omega (arith, k .before .left-at .ensures, k .if1 .left)) (c .before .records-after .ensures .0) (c .lowest .ensures)
+    lowest-read _ (k .before .before .before .before .pre) (omega (arith, k .before .left .ensures, k .if1 .left)) (c .before .records-after .ensures .0) (c .lowest .ensures)
 
 pub ending-spec : {M : Type 1} → statement M
-ending-spec = tie.close (tie.spec add-start mul-end add-end (λ c κs. search needs) returns records-after-requires lowest-requires returns-2)
+ending-spec =
+    tie.close (tie.spec add-start mul-end add-end (λ c κs. search needs) returns records-after-requires lowest-requires returns-2)

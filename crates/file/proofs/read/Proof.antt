@@ -38,5 +38,5 @@ ending-requires c κs = sym (c .before .before .before .read-bids .ensures) ∙ 
 pub read-spec : {M : Type 1} → statement M
 read-spec =
     tie.close (tie.spec (λ c κs. search needs) (λ c. search needs) (λ c. search needs) returns read-pots-requires (λ c. search needs) (λ c. search needs)
-    returns-2 read-technologies-requires (λ c. search needs) (λ c. search needs) returns-3 read-applications-requires (λ c. search needs) (λ c. search needs) returns-4
-    read-bids-requires (λ c. search needs) (λ c. search needs) returns-5 ending-requires (λ c. search needs))
+    returns-2 read-technologies-requires (λ c. search needs) (λ c. search needs) returns-3 read-applications-requires (λ c. search needs)
+    (λ c. search needs) returns-4 read-bids-requires (λ c. search needs) (λ c. search needs) returns-5 ending-requires (λ c. search needs))

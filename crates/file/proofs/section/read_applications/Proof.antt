@@ -26,20 +26,23 @@ add-start c = omega (arith, room c)
 add-next : tie.Need-add-next
 add-next c = omega (arith, room c)
 
-records-after-requires-2 : tie.Need-records-after-requires-2
-records-after-requires-2 c κs = omega (arith, room (c .before))
+years-requires : tie.Need-years-requires
+years-requires c κs = omega (arith, room c)
+
+records-after-requires : tie.Need-records-after-requires
+records-after-requires c κs = omega (arith, room (c .before))
 
 applications-requires : tie.Need-applications-requires
-applications-requires c κs = omega (arith, room (c .before .before), ap length (c .before .records-after .ensures .0))
+applications-requires c κs = omega (arith, room (c .before .before), ap length (c .before .years .ensures))
 
 returns-2 : tie.Need-returns-2
 returns-2 c =
     let k = c .before .before .before in
     let o = k .before in
-    apps-read _ (o .before .before .before .pre) (o .before .count-fault .ensures) (o .if1 .left) (k .count-at .ensures .0) (c .before .before .records-after .ensures .0)
-    (c .before .records-after2 .ensures .0) (c .applications .ensures)
+    apps-read _ (o .before .before .before .pre) (o .before .count-fault .ensures) (o .if1 .left) (k .count-at .ensures .0) (c .before .before .years .ensures)
+    (c .before .records-after .ensures .0) (c .applications .ensures)
 
 pub read-applications-spec : {M : Type 1} → statement M
 read-applications-spec =
-    tie.close (tie.spec (λ c κs. search needs) returns count-at-requires add-start (λ c. search needs) add-next (λ c κs. search needs) records-after-requires-2
+    tie.close (tie.spec (λ c κs. search needs) returns count-at-requires add-start (λ c. search needs) add-next years-requires records-after-requires
     applications-requires returns-2)

@@ -4,14 +4,14 @@ use lib.ListN.{length}
 use denote.Ref.{now}
 use Rattle.rules.specs.Names.{countWidth}
 use native.Mathlib.Omega.{arith}
-use Rattle.file.proofs.Laws.{counted, Facts4, facts4, looks, bids-refused, bids-read}
+use Rattle.file.proofs.Laws.{counted, tables-right, bids-refused, bids-read}
 use borrow.Author.Needs.{needs}
 use Rattle.file.proofs.section.read_bids.Statement.{statement}
 use Rattle.file.proofs.section.read_bids.Tie as tie
 
--- what is known once the count is accepted: the records start within the file
-room : (c : tie.After-count-at) → let p = c .before .before .before .before .args in (p .past .«bids_at» + countWidth ≤ length (now (p .file))) × Facts4 (now (p .file)) (p .past)
-room c = (counted _ _ _ _ (c .before .before .count-fault .ensures) (c .before .if1 .left) .0, facts4 _ (c .before .before .before .before .pre))
+-- once the count is accepted, the records start within the file
+room : (c : tie.After-count-at) → let p = c .before .before .before .before .args in p .past .«bids_at» + countWidth ≤ length (now (p .file))
+room c = counted _ _ _ _ (c .before .before .count-fault .ensures) (c .before .if1 .left) .0
 
 returns : tie.Need-returns
 returns c = bids-refused _ (c .before .before .before .pre) (c .before .count-fault .ensures) (c .if1 .taken)
@@ -25,30 +25,16 @@ add-start c = omega (arith, room c)
 add-next : tie.Need-add-next
 add-next c = omega (arith, room c)
 
-records-after-requires-2 : tie.Need-records-after-requires-2
-records-after-requires-2 c κs = omega (arith, room (c .before))
-
-records-after-requires-3 : tie.Need-records-after-requires-3
-records-after-requires-3 c κs = omega (arith, room (c .before .before))
-
-records-after-requires-4 : tie.Need-records-after-requires-4
-records-after-requires-4 c κs = omega (arith, room (c .before .before .before))
+records-after-requires : tie.Need-records-after-requires
+records-after-requires c κs = omega (arith, room c)
 
 bids-requires : tie.Need-bids-requires
-bids-requires c κs =
-    let k = c .before .before .before .before in (
-      looks _ (k .before .before .before .before .pre) _ (k .count-at .result) (c .before .before .before .records-after .ensures .0) (c .before .before .records-after2 .ensures .0) (c .before .records-after3 .ensures .0),
-      omega (arith, room k),
-    )
+bids-requires c κs = let k = c .before in (tables-right _ (c .before .before .before .before .before .pre) (k .count-at .result), omega (arith, room k))
 
 returns-2 : tie.Need-returns-2
-returns-2 c =
-    let k = c .before .before .before .before .before in
-    let o = k .before in
-    bids-read _ (o .before .before .before .pre) (o .before .count-fault .ensures) (o .if1 .left) (k .count-at .ensures .0) (c .before .before .before .before .records-after .ensures .0)
-    (c .before .before .before .records-after2 .ensures .0) (c .before .before .records-after3 .ensures .0) (c .before .records-after4 .ensures .0) (c .bids .ensures)
+returns-2 c = bids-read _ (c .before .before .before .before .before .before .pre) (c .before .before .before .before .count-fault .ensures) (c .before .before .before .if1 .left) (c .before .before .count-at .ensures .0) (c .before .records-after .ensures .0) (c .bids .ensures)
 
 pub read-bids-spec : {M : Type 1} → statement M
 read-bids-spec =
-    tie.close (tie.spec (λ c κs. search needs) returns count-at-requires add-start (λ c. search needs) add-next (λ c κs. search needs) records-after-requires-2
-    records-after-requires-3 records-after-requires-4 bids-requires returns-2)
+    tie.close (tie.spec (λ c κs. search needs) returns count-at-requires add-start (λ c. search needs) add-next records-after-requires bids-requires
+    returns-2)

@@ -30,4 +30,5 @@ returns-2 c =
 
 pub read-years-spec : {M : Type 1} → statement M
 read-years-spec =
-    tie.close (tie.spec (λ c κs. search needs) returns count-at-requires (λ c. search needs) (λ c. search needs) (λ c κs. search needs) years-requires returns-2)
+    tie.close (tie.spec (λ c κs. search needs) returns count-at-requires (λ c. search needs) (λ c. search needs) (λ c κs. search needs) years-requires
+    returns-2)
