@@ -1,12 +1,20 @@
--- `rows::admin_of` meets its contract: the number stands in the technology's record, where the year's figures are.
+-- `rows::admin_of` meets its contract: the number is read in the part that its section occupies.
 use borrow.Author.Needs.{needs}
-use Rattle.rows.proofs.Laws.{read-at}
+use native.Mathlib.Omega.{arith}
+use mathlib.Core.Path.{ap}
+use lib.ListN.{length}
+use Rattle.rules.specs.File.{techAt}
+use Rattle.layout.proofs.Laws.{read-in}
+use Rattle.rows.proofs.Laws.{tech-room}
 use Rattle.rows.proofs.admin_of.Statement.{statement}
 use Rattle.rows.proofs.admin_of.Tie as tie
 
+admin-requires : tie.Need-admin-requires
+admin-requires c κs = (omega (arith, tech-room _ (c .before .before .pre .0 .sound) _ (c .before .before .pre .1), ap length (c .technologies .ensures)), c .before .before .pre .2)
+
 returns : tie.Need-returns
-returns c = read-at 4 _ _ (c .before .tech-place .ensures .0) (c .le32 .ensures .0)
+returns c = read-in (λ l. techAt (c .before .before .before .args .sections .years) l (c .before .before .before .args .t) .admin (c .before .before .before .args .y)) (c .before .technologies .ensures) (c .admin .ensures .0)
 
 pub admin-of-spec : {M : Type 1} → statement M
 admin-of-spec =
-    tie.close (tie.spec (λ c κs. search needs) (λ c. search needs) (λ c. search needs) (λ c. search needs) (λ c κs. search needs) returns)
+    tie.close (tie.spec (λ c κs. search needs) admin-requires returns)

@@ -1,13 +1,20 @@
--- `rows::pot_of` meets its contract: the number stands at the start of the technology's record.
+-- `rows::pot_of` meets its contract: the number is read in the part that its section occupies.
 use borrow.Author.Needs.{needs}
-use mathlib.Core.Path.{ap, _∙_}
-use Rattle.rules.specs.Bytes.{le}
+use native.Mathlib.Omega.{arith}
+use mathlib.Core.Path.{ap}
+use lib.ListN.{length}
+use Rattle.rules.specs.File.{techAt}
+use Rattle.layout.proofs.Laws.{read-in}
+use Rattle.rows.proofs.Laws.{tech-room}
 use Rattle.rows.proofs.pot_of.Statement.{statement}
 use Rattle.rows.proofs.pot_of.Tie as tie
 
+pot-requires : tie.Need-pot-requires
+pot-requires c κs = omega (arith, tech-room _ (c .before .before .pre .0 .sound) _ (c .before .before .pre .1), ap length (c .technologies .ensures))
+
 returns : tie.Need-returns
-returns c = c .le16 .ensures .0 ∙ ap (le 2 _) (c .before .tech-place .ensures .0)
+returns c = read-in (λ l. techAt (c .before .before .before .args .sections .years) l (c .before .before .before .args .t) .pot) (c .before .technologies .ensures) (c .pot .ensures .0)
 
 pub pot-of-spec : {M : Type 1} → statement M
 pot-of-spec =
-    tie.close (tie.spec (λ c κs. search needs) (λ c κs. search needs) returns)
+    tie.close (tie.spec (λ c κs. search needs) pot-requires returns)
