@@ -5,36 +5,28 @@ use mathlib.Core.Bool.{Bool, true, false}
 use mathlib.Core.List.{List, [], _∷_}
 use native.Mathlib.Numerals.{add-one}
 use native.Mathlib.Omega.{arith}
-use native.Mathlib.Nat.{add-zero, le-antisymm, mul-le-mul, mul-le-mul-right}
+use native.Mathlib.Nat.{add-zero, le-antisymm, mul-le-mul-right}
 use lib.ListN.{length, getD, set, take, drop, length-set, getD-replicate}
 use lib.Seq.{getD-drop, getD-set-same, getD-set-other}
 use lib.Dec.{eqb}
 use borrow.Author.Tests.{eqb-true, eqb-false, eq-eqb, ne-eqb}
-use Rattle.rules.specs.Names.{mostYears, mostPots, potWidth, mostNumbers}
+use Rattle.rules.specs.Names.{mostYears, potWidth, mostNumbers}
 use Rattle.rules.specs.Lists.{pick, sift, below}
-use Rattle.rules.specs.Bytes.{le, part}
-use Rattle.rules.specs.File.{Round, Bid, appAt, budgetAt}
-use Rattle.rules.specs.Round.{mine, enters}
+use Rattle.rules.specs.Bytes.{part}
+use Rattle.rules.specs.File.{Round, App, Bid, appAt, budgetAt}
+use Rattle.rules.specs.Round.{bidOf, mine, enters}
 use Rattle.pot_laws.specs.Lists.{case}
 use Rattle.reading_laws.specs.Reading.{Sound}
-use Rattle.sheet.specs.Sheet.{absent, entered, spare, rowStanding, entrantAt, entrants, inAuction, rowPlace, figurePlace, figuresPlace, sheetLength, figuresAt}
-use Rattle.rows.specs.Rows.{numbered, standingOf, rowNumbers, figureNumbers, figuresIn}
-use Rattle.rows.proofs.Laws.{read-at, figure-blank, figure-own}
+use Rattle.layout.specs.Layout.{Room}
+use Rattle.sheet.specs.Sheet.{entrantsAt, absent, entered, spare, rowStanding, entrantAt, entrants, inAuction, rowPlace, figurePlace, figuresPlace, sheetLength, figuresAt}
+use Rattle.rows.specs.Rows.{standingOf, rowNumbers, figureNumbers, figuresIn}
+use Rattle.rows.proofs.Laws.{figure-blank, figure-own}
 use Rattle.fill.specs.Fill.{BlankFigures, Stands, Kept, Rest, Put, Figured, RowsRight, FiguresRight, AllFigures, LimitsRight, FiguresOf, FiguresWritten, Entered}
 
 -- ---- the record of a pot
 
-pub pot-place-most : (y p : ℕ) → y ≤ mostYears → p < mostPots → p * potWidth y ≤ 3 * potWidth 8
-pot-place-most y p h l =
-    let a : p ≤ 3 = omega arith in
-    let b : potWidth y ≤ potWidth 8 = omega arith in
-    mul-le-mul a b
-
-pub pot-room : (R : Round) → Sound R → (p : ℕ) → p < R .p → p * potWidth (R .y) + potWidth (R .y) ≤ length (R .pots)
+pub pot-room : (R : Round) → Sound R → (p : ℕ) → p < R .p → Room (R .pots) (potWidth (R .y)) p
 pot-room R S p h = omega (arith, S .pots-whole, mul-le-mul-right {m = suc p} (potWidth (R .y)) h)
-
-pub budget-read : (y : ℕ) (pots : List ℕ) (p i : ℕ) {at x : ℕ} → at ≡ p * potWidth y → x ≡ le 8 pots (at + 8 * i) → x ≡ budgetAt y pots p i
-budget-read y pots p i e h = read-at 8 pots (8 * i) e h
 
 -- a part of a file of bytes has bytes
 take-byte : (n : ℕ) (s : List ℕ) → ((i : ℕ) → getD s i 0 < 256) → (i : ℕ) → getD (take n s) i 0 < 256
@@ -70,6 +62,10 @@ put-more v n at {s} {t} p h =
 pub and-next : (P : ℕ → Type 0) (n : ℕ) → ((k : ℕ) → k < n → P k) → P n → (k : ℕ) → k < n + 1 → P k
 and-next P n f p k h = case (eqb k n) (λ t. subst P (sym (eqb-true k n t)) p) (λ t. let d = eqb-false k n t in f k (let l : k < n = omega (arith, d) in l))
 
+-- at the end of a loop all have been seen to
+pub all-of : (P : ℕ → Type 0) {n i : ℕ} → P i → i ≤ n → n ≤ i → P n
+all-of P p h l = subst P (le-antisymm h l) p
+
 -- what stands before a place stays
 stays : (s t v : List ℕ) (place at : ℕ) → Stands v s at → Kept place s t → at + length v ≤ place → Stands v t at
 stays s t v place at f k h j l = k (at + j) (omega arith) ∙ f j l
@@ -86,34 +82,37 @@ module _ (R : Round) (p k : ℕ) {v : List ℕ} where
       (λ j l. stays s t (rowNumbers R p j) (rowPlace k) (rowPlace j) (f j l) (q .kept) (omega arith))
       (put-stands (rowPlace k) e q)
 
-pub figures-more : (years techs : List ℕ) (y t : ℕ) (x : Bid) (k i : ℕ) {v s u : List ℕ} → Figured years techs y t x k i s → v ≡ figuresIn years techs y t x i
-    → Put v (length v) (figurePlace k i) s u → Figured years techs y t x k (i + 1) u
+pub figures-more : (R : Round) (t : ℕ) (b : Bid) (k y : ℕ) {v s u : List ℕ} → Figured R t b k y s → v ≡ figuresIn R t b y
+    → Put v (length v) (figurePlace k y) s u → Figured R t b k (y + 1) u
 unfolding figuresIn
-figures-more years techs y t x k i {v} {s} {u} f e q =
-    and-next (λ i. Stands (figuresIn years techs y t x i) u (figurePlace k i)) i
-    (λ j l. stays s u (figuresIn years techs y t x j) (figurePlace k i) (figurePlace k j) (f j l) (q .kept) (omega arith))
-    (put-stands (figurePlace k i) e q)
+figures-more R t b k y {v} {s} {u} f e q =
+    and-next (λ i. Stands (figuresIn R t b i) u (figurePlace k i)) y
+    (λ j l. stays s u (figuresIn R t b j) (figurePlace k y) (figurePlace k j) (f j l) (q .kept) (omega arith))
+    (put-stands (figurePlace k y) e q)
 
 -- those of a bid of the pot are right
-pub figures-own : (R : Round) (p k : ℕ) {x : Bid} {t : ℕ} (s : List ℕ) → mine R p k ≡ true → x ≡ numbered (R .techs) (R .apps) (R .bids) (R .y) (R .b) k
-    → t ≡ appAt (R .apps) (x .app) .tech → Figured (R .years) (R .techs) (R .y) t x k (R .y) s → FiguresRight R p k (R .y) s
-figures-own R p k s m en et f i l = subst (λ (v : List ℕ). Stands v s (figurePlace k i)) (figure-own R p k (sym m) refl en et i l refl) (f i l)
+pub figures-own : (R : Round) (p k : ℕ) {x : Bid} {a : App} (s : List ℕ) → mine R p k ≡ true → x ≡ bidOf R k → a ≡ appAt (R .apps) (x .app)
+    → Figured R (a .tech) x k (R .y) s → FiguresRight R p k (R .y) s
+figures-own R p k s m ex ea f y l = subst (λ (v : List ℕ). Stands v s (figurePlace k y)) (figure-own R p k (sym m) refl ex ea y l refl) (f y l)
 
-pub limits-more : (y : ℕ) (pots : List ℕ) (p i : ℕ) (s : List ℕ) {x : ℕ} → i < length s → LimitsRight y pots p i s → x ≡ budgetAt y pots p i → LimitsRight y pots p (i + 1) (set s i x)
-limits-more y pots p i s {x} h f e =
-    and-next (λ k. getD (set s i x) k 0 ≡ budgetAt y pots p k) i
-    (λ j l. getD-set-other s i j x 0 (λ z. omega arith) ∙ f j l)
-    (getD-set-same s i x 0 h ∙ e)
+pub limits-more : (years : ℕ) (pots : List ℕ) (p y : ℕ) (s : List ℕ) {x : ℕ} → y < length s → LimitsRight years pots p y s → x ≡ budgetAt years pots p y
+    → LimitsRight years pots p (y + 1) (set s y x)
+limits-more years pots p y s {x} h f e =
+    and-next (λ k. getD (set s y x) k 0 ≡ budgetAt years pots p k) y
+    (λ j l. getD-set-other s y j x 0 (λ z. omega arith) ∙ f j l)
+    (getD-set-same s y x 0 h ∙ e)
+
+-- all of them, read in the part that the pots occupy
+pub limits-all : (R : Round) (p : ℕ) {y : ℕ} {pots : List ℕ} (s : List ℕ) → pots ≡ R .pots → y ≤ R .y → R .y ≤ y → LimitsRight (R .y) pots p y s
+    → LimitsRight (R .y) (R .pots) p (R .y) s
+limits-all R p {pots = pots} s e h l f =
+    subst (λ (x : List ℕ). LimitsRight (R .y) x p (R .y) s) e (all-of (λ n. LimitsRight (R .y) pots p n s) f h l)
 
 pub rest-set : (n i : ℕ) (s t : List ℕ) (x : ℕ) → i < n → Rest n s t → Rest n s (set t i x)
 rest-set n i s t x h f j l = getD-set-other t i j x 0 (λ z. omega arith) ∙ f j l
 
 pub kept-set : (n i : ℕ) (s t : List ℕ) (x : ℕ) → n ≤ i → Kept n s t → Kept n s (set t i x)
 kept-set n i s t x h f j l = getD-set-other t i j x 0 (λ z. omega arith) ∙ f j l
-
--- at the end of a loop all have been seen to
-pub all-of : (P : ℕ → Type 0) {n i : ℕ} → P i → i ≤ n → n ≤ i → P n
-all-of P p h l = subst P (le-antisymm h l) p
 
 -- ---- bids of other pots
 
@@ -180,10 +179,10 @@ done-all R p {m} {k} {s} {t} e f h l d =
 -- ---- the bids that enter
 
 -- what is past the first n does not matter
-entrants-set : (s : List ℕ) (n i x : ℕ) → 8 + n ≤ i → entrants (set s i x) n ≡ entrants s n
+entrants-set : (s : List ℕ) (n i x : ℕ) → entrantsAt + n ≤ i → entrants (set s i x) n ≡ entrants s n
 unfolding entrants entrantAt
 entrants-set s zero i x h = refl
-entrants-set s (suc n) i x h = rw (getD-set-other s i (8 + n) x 0 (λ e. let z : ⊥ = omega arith in z), entrants-set s n i x (omega arith))
+entrants-set s (suc n) i x h = rw (getD-set-other s i (entrantsAt + n) x 0 (λ e. let z : ⊥ = omega arith in z), entrants-set s n i x (omega arith))
 
 -- a row of t is that of s
 row-same : (s t : List ℕ) (k : ℕ) → Rest figuresAt s t → rowStanding t k ≡ rowStanding s k
@@ -194,7 +193,7 @@ row-same s t k f = f (rowPlace k) (omega arith)
 pub record Entering (s : List ℕ) (k n : ℕ) (t : List ℕ) : Type 0 where
   pub few : n ≤ k
   pub right : entrants t n ≡ sift (inAuction s) (below k)
-  pub kept : Kept 8 s t
+  pub kept : Kept entrantsAt s t
   pub rest : Rest figuresAt s t
   pub same : length t ≡ sheetLength
 
@@ -203,22 +202,22 @@ unfolding entrants
 entering-none s h = record { few = omega arith; right = refl; kept = λ j l. refl; rest = λ j l. refl; same = h }
 
 module _ (s : List ℕ) (k n : ℕ) {t : List ℕ} (E : Entering s k n t) {q : ℕ} (e : q ≡ rowStanding t k) where
-  pub entering-hit : {g : List ℕ} {m : ℕ} → k < 320 → q ≡ 1 → g ≡ set t (8 + n) k → m ≡ n + 1 → Entering s (k + 1) m g
+  pub entering-hit : {g : List ℕ} {m : ℕ} → k < mostNumbers → q ≡ entered → g ≡ set t (entrantsAt + n) k → m ≡ n + 1 → Entering s (k + 1) m g
   entering-hit {g} {m} h z eg em = rw (eg, em) (record {
     few = omega (arith, E .few);
-    right = rw (add-one n, add-one k, eq-eqb (rowStanding s k) 1 (sym (row-same s t k (E .rest)) ∙ sym e ∙ z)) listed;
-    kept = kept-set 8 (8 + n) s t k (omega arith) (E .kept);
-    rest = rest-set figuresAt (8 + n) s t k (omega (arith, E .few)) (E .rest);
-    same = length-set t (8 + n) k ∙ E .same;
+    right = rw (add-one n, add-one k, eq-eqb (rowStanding s k) entered (sym (row-same s t k (E .rest)) ∙ sym e ∙ z)) listed;
+    kept = kept-set entrantsAt (entrantsAt + n) s t k (omega arith) (E .kept);
+    rest = rest-set figuresAt (entrantsAt + n) s t k (omega (arith, E .few)) (E .rest);
+    same = length-set t (entrantsAt + n) k ∙ E .same;
   })
     where
-      listed : entrants (set t (8 + n) k) (suc n) ≡ k ∷ sift (inAuction s) (below k)
-      listed = unfold entrants entrantAt in rw (getD-set-same t (8 + n) k 0 (omega (arith, E .few, E .same)), entrants-set t n (8 + n) k (omega arith), E .right)
+      listed : entrants (set t (entrantsAt + n) k) (suc n) ≡ k ∷ sift (inAuction s) (below k)
+      listed = unfold entrants entrantAt in rw (getD-set-same t (entrantsAt + n) k 0 (omega (arith, E .few, E .same)), entrants-set t n (entrantsAt + n) k (omega arith), E .right)
 
-  pub entering-miss : {g : List ℕ} {m : ℕ} → (q ≡ 1 → ⊥) → g ≡ t → m ≡ n → Entering s (k + 1) m g
+  pub entering-miss : {g : List ℕ} {m : ℕ} → (q ≡ entered → ⊥) → g ≡ t → m ≡ n → Entering s (k + 1) m g
   entering-miss z eg em = rw (eg, em) (record {
     few = omega (arith, E .few);
-    right = rw (add-one k, ne-eqb (rowStanding s k) 1 (λ d. z (e ∙ row-same s t k (E .rest) ∙ d))) (E .right);
+    right = rw (add-one k, ne-eqb (rowStanding s k) entered (λ d. z (e ∙ row-same s t k (E .rest) ∙ d))) (E .right);
     kept = E .kept;
     rest = E .rest;
     same = E .same;

@@ -8,7 +8,7 @@ use native.Mathlib.Nat.{add-zero, zero-mul, mul-zero}
 use lib.ListN.{length, getD, List·getD-eq-default, getD-replicate}
 use lib.Dec.{eqb, ltb}
 use borrow.Author.Tests.{lt-ltb, ltb-true, ltb-false}
-use Rattle.rules.specs.Names.{mostYears, mostApps, mostDeliveries, highestPrice, highestBudget, whole, longYear, largestCapacity, mostNumbers}
+use Rattle.rules.specs.Names.{mostYears, mostApps, mostDeliveries, highestPrice, highestBudget, whole, longYear, largestCapacity, mostNumbers, dayHours}
 use Rattle.rules.specs.Lists.{pick, sift, below}
 use Rattle.rules.specs.Bytes.{le}
 use Rattle.rules.specs.Value.{exactParts, hoursOf, pound, mostEnergy}
@@ -33,7 +33,7 @@ pub record Written (R : Round) (p : ℕ) (sheet : List ℕ) (n : ℕ) : Type 0 w
   pub entered : entrants sheet n ≡ sift (inAuction sheet) (below (R .b + R .n))
 
 -- from the steps of the filling
-pub written : {R : Round} {p m n : ℕ} {s t u v w : List ℕ} → m ≡ R .b + R .n → R .y ≤ mostYears → RowsWritten R p s t → FiguresWritten R p t u → LimitsWritten (R .y) (R .pots) p u v → Entered m v w n
+pub written : {R : Round} {p m n : ℕ} {s t u v w : List ℕ} → m ≡ R .b + R .n → R .y ≤ mostYears → RowsWritten R p s t → FiguresWritten R p t u → LimitsWritten R p u v → Entered m v w n
     → length w ≡ sheetLength → Written R p w n
 unfolding rowNumbers figureNumbers
 written {R} {p} {m} {n} {s} {t} {u} {v} {w} em hy A B C D l = record {
@@ -214,7 +214,7 @@ two-bytes : (s : List ℕ) (at : ℕ) → ((i : ℕ) → getD s i 0 < 256) → l
 unfolding le
 two-bytes s at h = omega (arith, h at, h (at + 1))
 
-hours-most : (y d first days : ℕ) → first ≤ longYear → days ≤ longYear → hoursOf y d first days ≤ 24 * longYear
+hours-most : (y d first days : ℕ) → first ≤ longYear → days ≤ longYear → hoursOf y d first days ≤ dayHours * longYear
 unfolding hoursOf
 hours-most y d first days h l = case (ltb y d) (λ t. rw t (omega arith)) (λ t. rw t (case (eqb y d) (λ u. rw u (omega arith)) (λ u. rw u (omega arith))))
 

@@ -7,7 +7,7 @@ use Rattle.rules.specs.Names.{mostNumbers}
 use Rattle.rules.specs.Lists.{sift, below}
 use Rattle.rules.specs.File.{Round, Bid, budgetAt}
 use Rattle.sheet.specs.declared.Size.{Size}
-use Rattle.sheet.specs.Sheet.{figuresAt, rowsAt, entrants, inAuction, entrantsAt}
+use Rattle.sheet.specs.Sheet.{entrantsAt, figuresAt, rowsAt, figuresWidth, rowPlace, figuresPlace, figurePlace, entrants, inAuction}
 use Rattle.rows.specs.Rows.{rowNumbers, figureNumbers, figuresIn}
 
 -- the numbers v stand at a place of s
@@ -36,22 +36,22 @@ pub record Put (v : List ℕ) (n at : ℕ) (s t : List ℕ) : Type 0 where
   pub rest : Rest (at + n) s t
   pub same : length t ≡ length s
 
--- the figures of a bid of technology t stand at the place of bid k, for the first n years
-abbrev pub Figured : (years techs : List ℕ) (y t : ℕ) (x : Bid) (k n : ℕ) → List ℕ → Type 0
-Figured years techs y t x k n sheet = (i : ℕ) → i < n → Stands (figuresIn years techs y t x i) sheet (figuresAt + k * 24 + i * 3)
+-- the figures of bid b, of technology t, stand at the place of bid k, for the first n years
+abbrev pub Figured : Round → (t : ℕ) → Bid → (k n : ℕ) → List ℕ → Type 0
+Figured R t b k n sheet = (y : ℕ) → y < n → Stands (figuresIn R t b y) sheet (figurePlace k y)
 
 -- the rows of the first n bids of pot p are right; the figures of bid k in the first n years; those of the first n bids; the first n limits
 abbrev pub RowsRight : Round → (p n : ℕ) → List ℕ → Type 0
-RowsRight R p n sheet = (k : ℕ) → k < n → Stands (rowNumbers R p k) sheet (rowsAt + k * 6)
+RowsRight R p n sheet = (k : ℕ) → k < n → Stands (rowNumbers R p k) sheet (rowPlace k)
 
 abbrev pub FiguresRight : Round → (p k n : ℕ) → List ℕ → Type 0
-FiguresRight R p k n sheet = (i : ℕ) → i < n → Stands (figureNumbers R p k i) sheet (figuresAt + k * 24 + i * 3)
+FiguresRight R p k n sheet = (y : ℕ) → y < n → Stands (figureNumbers R p k y) sheet (figurePlace k y)
 
 abbrev pub AllFigures : Round → (p n : ℕ) → List ℕ → Type 0
 AllFigures R p n sheet = (k : ℕ) → k < n → FiguresRight R p k (R .y) sheet
 
-abbrev pub LimitsRight : (y : ℕ) (pots : List ℕ) (p n : ℕ) → List ℕ → Type 0
-LimitsRight y pots p n sheet = (i : ℕ) → i < n → getD sheet i 0 ≡ budgetAt y pots p i
+abbrev pub LimitsRight : (years : ℕ) (pots : List ℕ) (p n : ℕ) → List ℕ → Type 0
+LimitsRight years pots p n sheet = (y : ℕ) → y < n → getD sheet y 0 ≡ budgetAt years pots p y
 
 -- ---- from s to t: the rows of all bids were written; the figures of one bid, and of all; the limits; the first n of m bids that enter. Nothing else was changed
 pub record RowsWritten (R : Round) (p : ℕ) (s t : List ℕ) : Type 0 where
@@ -60,21 +60,21 @@ pub record RowsWritten (R : Round) (p : ℕ) (s t : List ℕ) : Type 0 where
 
 pub record FiguresOf (R : Round) (p k : ℕ) (s t : List ℕ) : Type 0 where
   pub right : FiguresRight R p k (R .y) t
-  pub kept : Kept (figuresAt + k * 24) s t
-  pub rest : Rest (figuresAt + k * 24 + 24) s t
+  pub kept : Kept (figuresPlace k) s t
+  pub rest : Rest (figuresPlace k + figuresWidth) s t
 
 pub record FiguresWritten (R : Round) (p : ℕ) (s t : List ℕ) : Type 0 where
   pub right : AllFigures R p (R .b + R .n) t
   pub rest : Rest rowsAt s t
 
-pub record LimitsWritten (y : ℕ) (pots : List ℕ) (p : ℕ) (s t : List ℕ) : Type 0 where
-  pub right : LimitsRight y pots p y t
+pub record LimitsWritten (R : Round) (p : ℕ) (s t : List ℕ) : Type 0 where
+  pub right : LimitsRight (R .y) (R .pots) p (R .y) t
   pub rest : Rest entrantsAt s t
 
 pub record Entered (m : ℕ) (s t : List ℕ) (n : ℕ) : Type 0 where
   pub few : n ≤ m
   pub right : entrants t n ≡ sift (inAuction s) (below m)
-  pub kept : Kept 8 s t
+  pub kept : Kept entrantsAt s t
   pub rest : Rest figuresAt s t
 
 -- the size of a round's sheet, where n bids enter

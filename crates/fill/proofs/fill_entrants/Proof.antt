@@ -1,4 +1,5 @@
 -- `fill::fill_entrants` meets its contract. After k turns the first k bids have been looked at.
+use borrow.Author.Needs.{needs}
 use Prim.Native.Nat.{_≤_, _-_}
 use native.Mathlib.Omega.{arith}
 use mathlib.Core.Logic.{⊎-elim}
@@ -39,5 +40,5 @@ returns c = let inv = c .before .loop .inv in (entering-done _ (inv .0) (c .loop
 
 pub fill-entrants-spec : {M : Type 1} → statement M
 fill-entrants-spec =
-    tie.close (tie.spec Inv-loop μ-loop loop-holds standing-requires add-sheet (λ c. omega arith) element-write-sheet (λ c. omega arith)
-    (λ c. omega arith) (λ c. omega arith) loop-again returns)
+    tie.close (tie.spec Inv-loop μ-loop loop-holds standing-requires add-sheet (λ c. search needs) element-write-sheet (λ c. search needs)
+    (λ c. search needs) (λ c. search needs) loop-again returns)

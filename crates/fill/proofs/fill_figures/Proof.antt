@@ -1,10 +1,12 @@
 -- `fill::fill_figures` meets its contract. After k turns the figures of the first k bids are right, and those after them are blank yet.
+use borrow.Author.Needs.{needs}
 use Prim.Native.Nat.{_≤_, _<_, _-_}
 use mathlib.Core.Path.{_≡_, refl, ap, _∙_}
 use lib.ListN.{length}
 use native.Mathlib.Omega.{arith}
 use mathlib.Core.Logic.{⊎-elim}
 use denote.Ref.{now}
+use Rattle.rules.specs.Names.{mostNumbers}
 use Rattle.sheet.specs.Sheet.{sheetLength}
 use Rattle.rows.specs.Rows.{roundIn}
 use Rattle.fill.proofs.Laws.{Done, done-none, done-own, done-other, done-all, of-pot, of-another}
@@ -12,10 +14,10 @@ use Rattle.fill.proofs.fill_figures.Statement.{statement}
 use Rattle.fill.proofs.fill_figures.Tie as tie
 
 abbrev Inv-loop : tie.InvT-loop
-Inv-loop file z pot sheet₀ m k₀ sheet k = (k ≤ m) × (length sheet ≡ sheetLength) × Done (roundIn file z) pot k sheet₀ sheet
+Inv-loop file sections p sheet₀ m k₀ sheet k = (k ≤ m) × (length sheet ≡ sheetLength) × Done (roundIn file sections) p k sheet₀ sheet
 
 abbrev μ-loop : tie.MeasureT-loop
-μ-loop file z pot sheet₀ m k₀ sheet k = m - k
+μ-loop file sections p sheet₀ m k₀ sheet k = m - k
 
 loop-holds : tie.Need-loop-holds Inv-loop μ-loop
 loop-holds c = (omega arith, c .before .before .pre .0 .1, done-none _ _ _)
@@ -28,7 +30,7 @@ fill-years-requires c κs =
     let pre = c .before .before .before .before .before .before .before .before .pre in
     let S = pre .0 .0 .sound in
     let inv = c .before .before .before .before .before .loop .inv in
-    let small : c .before .before .before .before .before .loop .k < 320 = omega (arith, c .before .before .before .before .loop-test .taken, S .bids-few, S .apps-few) in (
+    let small : c .before .before .before .before .before .loop .k < mostNumbers = omega (arith, c .before .before .before .before .loop-test .taken, S .bids-few, S .apps-few) in (
       (pre .0 .0, inv .1),
       of-pot _ _ _ (now (c .before .before .before .before .before .before .before .before .args .sheet)) (c .before .before .before .before .before .loop .sheet) small (pre .1 .0) (λ j h. inv .2 .rest j (omega (arith, c .before .before .before .before .loop-test .taken, S .bids-few, S .apps-few))) (c .before .before .standing .ensures) (c .before .if1 .taken),
     )
@@ -38,7 +40,7 @@ loop-again c =
     let pre = c .before .before .before .before .before .before .before .pre in
     let S = pre .0 .0 .sound in
     let inv = c .before .before .before .before .loop .inv in
-    let few : c .before .before .before .before .loop .k < 320 = omega (arith, c .before .before .before .loop-test .taken, S .bids-few, S .apps-few) in (
+    let few : c .before .before .before .before .loop .k < mostNumbers = omega (arith, c .before .before .before .loop-test .taken, S .bids-few, S .apps-few) in (
       omega (arith, c .before .before .before .loop-test .taken),
       ⊎-elim (λ w. ap length (w .3) ∙ w .2 .ensures .1) (λ w. ap length (w .1) ∙ inv .1) (c .if1 .came),
       ⊎-elim (λ w. done-own _ _ _ (inv .2) (w .3) (S .years-most) (w .2 .ensures .0))
@@ -55,5 +57,5 @@ returns c =
 
 pub fill-figures-spec : {M : Type 1} → statement M
 fill-figures-spec =
-    tie.close (tie.spec Inv-loop μ-loop (λ c. omega arith) loop-holds standing-requires fill-years-requires (λ c. omega arith) (λ c. omega arith)
+    tie.close (tie.spec Inv-loop μ-loop (λ c. search needs) loop-holds standing-requires fill-years-requires (λ c. search needs) (λ c. search needs)
     loop-again returns)

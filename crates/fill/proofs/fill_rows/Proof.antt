@@ -1,4 +1,5 @@
 -- `fill::fill_rows` meets its contract. After k turns the first k rows are right.
+use borrow.Author.Needs.{needs}
 use Prim.Native.Nat.{_≤_, _-_}
 use native.Mathlib.Omega.{arith}
 use mathlib.Core.Path.{_≡_, refl, _∙_}
@@ -14,10 +15,11 @@ use Rattle.fill.proofs.fill_rows.Statement.{statement}
 use Rattle.fill.proofs.fill_rows.Tie as tie
 
 abbrev Inv-loop : tie.InvT-loop
-Inv-loop file z pot sheet₀ k₀ sheet k = (k ≤ mostNumbers) × (length sheet ≡ sheetLength) × RowsRight (roundIn file z) pot k sheet × Kept rowsAt sheet₀ sheet
+Inv-loop file sections p sheet₀ k₀ sheet k =
+    (k ≤ mostNumbers) × (length sheet ≡ sheetLength) × RowsRight (roundIn file sections) p k sheet × Kept rowsAt sheet₀ sheet
 
 abbrev μ-loop : tie.MeasureT-loop
-μ-loop file z pot sheet₀ k₀ sheet k = mostNumbers - k
+μ-loop file sections p sheet₀ k₀ sheet k = mostNumbers - k
 
 loop-holds : tie.Need-loop-holds Inv-loop μ-loop
 loop-holds c = (omega arith, c .before .pre .1, λ k h. absurd (omega arith), λ j h. refl)
@@ -40,11 +42,11 @@ loop-again c =
 returns : tie.Need-returns Inv-loop μ-loop
 returns c =
     let a = c .before .before .before .args in
-    let R = roundIn (now (a .file)) (a .z) in
+    let R = roundIn (now (a .file)) (a .sections) in
     let l = c .before .loop in
-    (record { right = all-of (λ n. RowsRight R (a .pot) n (l .sheet)) (l .inv .2) (l .inv .0) (c .loop-test .left); kept = l .inv .3 }, l .inv .1)
+    (record { right = all-of (λ n. RowsRight R (a .p) n (l .sheet)) (l .inv .2) (l .inv .0) (c .loop-test .left); kept = l .inv .3 }, l .inv .1)
 
 pub fill-rows-spec : {M : Type 1} → statement M
 fill-rows-spec =
-    tie.close (tie.spec Inv-loop μ-loop loop-holds row-requires (λ c. omega arith) (λ c. omega arith) slice-aggregate-put put-requires (λ c. omega arith) (λ c. omega arith)
-    loop-again returns)
+    tie.close (tie.spec Inv-loop μ-loop loop-holds row-requires (λ c. search needs) (λ c. search needs) slice-aggregate-put put-requires
+    (λ c. search needs) (λ c. search needs) loop-again returns)

@@ -1,4 +1,5 @@
 -- `fill::put` meets its contract. After j turns the first j numbers stand at the place.
+use borrow.Author.Needs.{needs}
 use Prim.Native.Nat.{_≤_, _-_}
 use native.Mathlib.Omega.{arith}
 use mathlib.Core.Path.{_≡_}
@@ -29,5 +30,5 @@ returns c = let e : c .before .loop .j ≡ length (now (c .before .before .args 
 
 pub put-spec : {M : Type 1} → statement M
 put-spec =
-    tie.close (tie.spec Inv-loop μ-loop loop-holds (λ c. omega arith) (λ c. omega arith) (λ c. omega arith) (λ c. omega arith) element-write-sheet
-    (λ c. omega arith) (λ c. omega arith) loop-again returns)
+    tie.close (tie.spec Inv-loop μ-loop loop-holds (λ c. search needs) (λ c. search needs) (λ c. search needs) (λ c. search needs) element-write-sheet
+    (λ c. search needs) (λ c. search needs) loop-again returns)
