@@ -9,6 +9,10 @@ use Rattle.rules.specs.declared.Sections.{Sections}
 use Rattle.layout.specs.declared.application.Application as a
 use Rattle.layout.specs.declared.bid.Bid as b
 
+-- a place past every byte of every round file
+abbrev pub beyond : ℕ
+beyond = 7867
+
 -- record i, of those of this width, stands whole in the part that they occupy
 abbrev pub Room : (recs : List ℕ) (width i : ℕ) → Type 0
 Room recs width i = i * width + width ≤ length recs

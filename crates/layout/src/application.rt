@@ -1,8 +1,9 @@
 // An application's record: "technology 2, year 2, first-year days 2, draw 2, capacity 4, declared cost 8". Nothing reads the declared cost but
 // the tables for people.
 ghost use mathlib.Core.Path.{_≡_};
-ghost use Prim.Native.Nat.{_<_};
+ghost use Prim.Native.Nat.{_+_, _*_, _<_};
 ghost use Rattle.rules.specs.Names.{appWidth};
+ghost use Rattle.rules.specs.Bytes.{le};
 ghost use Rattle.rules.specs.File.{appAt};
 ghost use Rattle.layout.specs.Layout.{Room, applicationShown};
 
@@ -46,4 +47,12 @@ pub fn draw(recs: &[u8], a: usize) -> u64
     ensures { λ r. ⌜ (r ≡ appAt (now (recs .entry)) a .draw) × (r < 65536) ⌝ }
 {
     fields::le16(recs, a * names::APP_WIDTH + DRAW)
+}
+
+// The declared cost of application a.
+pub fn declared_cost(recs: &[u8], a: usize) -> u64
+    requires { ⌜ Room (now recs) appWidth a ⌝ }
+    ensures { λ r. ⌜ r ≡ le 8 (now (recs .entry)) (a * appWidth + 12) ⌝ }
+{
+    fields::le64(recs, a * names::APP_WIDTH + DECLARED_COST)
 }

@@ -1,158 +1,185 @@
-// The five tables of an accepted file. A place is that of a count or of a record, and each record is read from its own place on.
+// The five tables of an accepted file, each over the part of the file that its section occupies.
+ghost use Prim.Native.Nat.{_*_, _≤_, _<_};
+ghost use lib.ListN.{length};
+ghost use Rattle.rules.specs.Names.{yearWidth, potWidth, techWidth, appWidth, bidWidth};
+ghost use Rattle.layout.specs.Layout.{Room};
+ghost use Rattle.rows.specs.Rows.{Held};
 use super::text::factor;
 use super::text::field;
 use super::text::hundredths;
-use super::text::number;
 use super::text::thousandths;
 use super::text::word;
-use places::eight;
-use places::four;
-use places::on;
-use places::two;
+use layout::application;
+use layout::bid;
+use layout::parts;
+use layout::pot;
+use layout::technology;
+use layout::year;
 use rules::Sections;
 
-// Year i: days 2, kind 2, TLM 2.
-fn year(file: &[u8], i: u64, at: usize) {
-    field(b"  ", i);
-    field(b"     ", two(file, at));
-    if two(file, on(at, 2)) == names::DELIVERY {
+fn year_line(recs: &[u8], y: usize)
+    requires { ⌜ Room (now recs) yearWidth y ⌝ }
+{
+    field(b"  ", y as u64);
+    field(b"     ", year::days(recs, y));
+    if year::kind(recs, y) == names::DELIVERY {
         word(b"   delivery   ");
     } else {
         word(b"   valuation  ");
     }
-    factor(b"", two(file, on(at, 4)));
+    factor(b"", year::tlm(recs, y));
     word(b"\n");
 }
 
-fn years(file: &[u8], n: u64, count: usize) {
+fn years(recs: &[u8], n: usize)
+    requires { ⌜ n * yearWidth ≤ length (now recs) ⌝ }
+{
     word(b"years\n  year  days  kind       TLM\n");
-    let mut at = on(count, names::COUNT_WIDTH);
-    let mut i: u64 = 0;
-    while i < n {
-        year(file, i, at);
-        at = on(at, names::YEAR_WIDTH);
-        i += 1;
+    let mut y: usize = 0;
+    while y < n {
+        year_line(recs, y);
+        y += 1;
     }
 }
 
-// A pot's budgets, 8 for each of y years, and the place after them.
-fn budgets(file: &[u8], y: u64, start: usize) -> usize {
-    let mut at = start;
-    let mut k: u64 = 0;
-    while k < y {
-        if k > 0 {
-            word(b",");
-        }
-        field(b" ", eight(file, at));
-        at = on(at, names::BUDGET_WIDTH);
-        k += 1;
+// The budget of pot p in year y, after a comma but for the first.
+fn budget(recs: &[u8], years: usize, p: usize, y: usize)
+    requires { ⌜ Room (now recs) (potWidth years) p × (y < years) ⌝ }
+{
+    if y > 0 {
+        word(b",");
     }
-    at
+    field(b" ", pot::budget(recs, years, p, y));
 }
 
-fn pots(file: &[u8], y: u64, n: u64, count: usize) {
+fn budgets(recs: &[u8], years: usize, p: usize)
+    requires { ⌜ Room (now recs) (potWidth years) p ⌝ }
+{
+    let mut y: usize = 0;
+    while y < years {
+        budget(recs, years, p, y);
+        y += 1;
+    }
+}
+
+fn pot_line(recs: &[u8], years: usize, p: usize)
+    requires { ⌜ Room (now recs) (potWidth years) p ⌝ }
+{
+    field(b"  pot ", p as u64);
+    word(b": budgets");
+    budgets(recs, years, p);
+    word(b"\n");
+}
+
+fn pots(recs: &[u8], years: usize, n: usize)
+    requires { ⌜ n * potWidth years ≤ length (now recs) ⌝ }
+{
     word(b"pots\n");
-    let mut at = on(count, names::COUNT_WIDTH);
-    let mut i: u64 = 0;
-    while i < n {
-        field(b"  pot ", i);
-        word(b": budgets");
-        at = budgets(file, y, at);
-        word(b"\n");
-        i += 1;
+    let mut p: usize = 0;
+    while p < n {
+        pot_line(recs, years, p);
+        p += 1;
     }
 }
 
-// A technology in year k: administrative price 4, reference price 4, load factor 2.
-fn technology_year(file: &[u8], k: u64, at: usize) {
-    field(b"    year ", k);
-    thousandths(b": administrative ", four(file, at));
-    thousandths(b", reference ", four(file, on(at, 4)));
-    factor(b", load factor ", two(file, on(at, 8)));
+// Technology t in year y.
+fn technology_year(recs: &[u8], years: usize, t: usize, y: usize)
+    requires { ⌜ Room (now recs) (techWidth years) t × (y < years) ⌝ }
+{
+    field(b"    year ", y as u64);
+    thousandths(b": administrative ", technology::admin(recs, years, t, y));
+    thousandths(b", reference ", technology::reference(recs, years, t, y));
+    factor(b", load factor ", technology::load(recs, years, t, y));
     word(b"\n");
 }
 
-// A technology in each of y years, and the place after it.
-fn technology_years(file: &[u8], y: u64, start: usize) -> usize {
-    let mut at = start;
-    let mut k: u64 = 0;
-    while k < y {
-        technology_year(file, k, at);
-        at = on(at, names::TECH_YEAR);
+fn technology_years(recs: &[u8], years: usize, t: usize)
+    requires { ⌜ Room (now recs) (techWidth years) t ⌝ }
+{
+    let mut y: usize = 0;
+    while y < years {
+        technology_year(recs, years, t, y);
+        y += 1;
+    }
+}
+
+fn technology_lines(recs: &[u8], years: usize, t: usize)
+    requires { ⌜ Room (now recs) (techWidth years) t ⌝ }
+{
+    field(b"  technology ", t as u64);
+    field(b": pot ", technology::pot(recs, years, t) as u64);
+    factor(b", RQM ", technology::rqm(recs, years, t));
+    word(b"\n");
+    technology_years(recs, years, t);
+}
+
+fn technologies(recs: &[u8], years: usize, n: usize)
+    requires { ⌜ n * techWidth years ≤ length (now recs) ⌝ }
+{
+    word(b"technologies\n");
+    let mut t: usize = 0;
+    while t < n {
+        technology_lines(recs, years, t);
+        t += 1;
+    }
+}
+
+fn application_line(recs: &[u8], a: usize)
+    requires { ⌜ Room (now recs) appWidth a ⌝ }
+{
+    let x = application::read(recs, a);
+    field(b"  application ", a as u64);
+    field(b": technology ", x.technology as u64);
+    field(b", year ", x.year as u64);
+    field(b", first-year days ", x.days);
+    field(b", draw ", x.draw);
+    hundredths(b", ", x.capacity);
+    field(b" MW, declared cost ", application::declared_cost(recs, a));
+    word(b"\n");
+}
+
+fn applications(recs: &[u8], n: usize)
+    requires { ⌜ n * appWidth ≤ length (now recs) ⌝ }
+{
+    word(b"applications\n");
+    let mut a: usize = 0;
+    while a < n {
+        application_line(recs, a);
+        a += 1;
+    }
+}
+
+fn bid_line(recs: &[u8], k: usize)
+    requires { ⌜ Room (now recs) bidWidth k ⌝ }
+{
+    let x = bid::read(recs, k);
+    field(b"  bid ", k as u64);
+    field(b": application ", x.application as u64);
+    field(b", year ", x.year as u64);
+    field(b", first-year days ", x.days);
+    hundredths(b", ", x.capacity);
+    thousandths(b" MW, at ", x.price);
+    word(b"\n");
+}
+
+fn bids(recs: &[u8], n: usize)
+    requires { ⌜ n * bidWidth ≤ length (now recs) ⌝ }
+{
+    word(b"bids\n");
+    let mut k: usize = 0;
+    while k < n {
+        bid_line(recs, k);
         k += 1;
     }
-    at
 }
 
-// Technology i: pot 2, RQM 2, then its years; and the place after it.
-fn technology(file: &[u8], y: u64, i: u64, at: usize) -> usize {
-    field(b"  technology ", i);
-    field(b": pot ", two(file, at));
-    factor(b", RQM ", two(file, on(at, 2)));
-    word(b"\n");
-    technology_years(file, y, on(at, names::TECH_HEAD))
-}
-
-fn technologies(file: &[u8], y: u64, n: u64, count: usize) {
-    word(b"technologies\n");
-    let mut at = on(count, names::COUNT_WIDTH);
-    let mut i: u64 = 0;
-    while i < n {
-        at = technology(file, y, i, at);
-        i += 1;
-    }
-}
-
-// Application i: technology 2, year 2, first-year days 2, draw 2, capacity 4, declared cost 8.
-fn application(file: &[u8], i: u64, at: usize) {
-    field(b"  application ", i);
-    field(b": technology ", two(file, at));
-    field(b", year ", two(file, on(at, 2)));
-    field(b", first-year days ", two(file, on(at, 4)));
-    field(b", draw ", two(file, on(at, 6)));
-    hundredths(b", ", four(file, on(at, 8)));
-    field(b" MW, declared cost ", eight(file, on(at, 12)));
-    word(b"\n");
-}
-
-fn applications(file: &[u8], n: u64, count: usize) {
-    word(b"applications\n");
-    let mut at = on(count, names::COUNT_WIDTH);
-    let mut i: u64 = 0;
-    while i < n {
-        application(file, i, at);
-        at = on(at, names::APP_WIDTH);
-        i += 1;
-    }
-}
-
-// Bid i: application 2, year 2, first-year days 2, capacity 4, price 4.
-fn bid(file: &[u8], i: u64, at: usize) {
-    field(b"  bid ", i);
-    field(b": application ", two(file, at));
-    field(b", year ", two(file, on(at, 2)));
-    field(b", first-year days ", two(file, on(at, 4)));
-    hundredths(b", ", four(file, on(at, 6)));
-    thousandths(b" MW, at ", four(file, on(at, 10)));
-    word(b"\n");
-}
-
-fn bids(file: &[u8], n: u64, count: usize) {
-    word(b"bids\n");
-    let mut at = on(count, names::COUNT_WIDTH);
-    let mut i: u64 = 0;
-    while i < n {
-        bid(file, i, at);
-        at = on(at, names::BID_WIDTH);
-        i += 1;
-    }
-}
-
-pub fn sections(file: &[u8], z: Sections) {
-    let y = z.years as u64;
-    years(file, y, 0);
-    pots(file, y, z.pots as u64, z.pots_at);
-    technologies(file, y, z.technologies as u64, z.technologies_at);
-    applications(file, z.applications as u64, z.applications_at);
-    bids(file, z.bids as u64, z.bids_at);
+pub fn print(file: &[u8], sections: Sections)
+    requires { ⌜ Held (now file) sections ⌝ }
+{
+    years(parts::years(file, sections), sections.years);
+    pots(parts::pots(file, sections), sections.years, sections.pots);
+    let techs = parts::technologies(file, sections);
+    technologies(techs, sections.years, sections.technologies);
+    applications(parts::applications(file, sections), sections.applications);
+    bids(parts::bids(file, sections), sections.bids);
 }

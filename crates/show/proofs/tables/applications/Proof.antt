@@ -1,17 +1,17 @@
--- `show::tables::applications` is safe and ends: what is left of the records grows less. Assumes nothing.
-use Prim.Native.Nat.{_-_}
+-- `show::tables::applications` is safe and ends: each record stands in the part. Assumes nothing.
+use Prim.Native.Nat.{_≤_, _-_}
 use native.Mathlib.Omega.{arith}
 use borrow.Author.Needs.{needs}
 use Rattle.show.proofs.tables.applications.Statement.{statement}
 use Rattle.show.proofs.tables.applications.Tie as tie
 
 abbrev Inv-loop : tie.InvT-loop
-Inv-loop file n count at₀ i₀ at i = Unit {0}
+Inv-loop recs n a₀ a = a ≤ n
 
 abbrev μ-loop : tie.MeasureT-loop
-μ-loop file n count at₀ i₀ at i = n - i
+μ-loop recs n a₀ a = n - a
 
 pub applications-spec : {M : Type 1} → statement M
 applications-spec =
-    tie.close
-    (tie.spec Inv-loop μ-loop (λ c. search needs) (λ c κs. search needs) (λ c κs. search needs) (λ c. tt) (λ c κs. search needs) (λ c κs. search needs) (λ c. omega arith) (λ c. omega arith) (λ c. tt) (λ c. tt))
+    tie.close (tie.spec Inv-loop μ-loop (λ c. search needs) (λ c κs. search needs) (λ c. search needs) (λ c κs. search needs) (λ c. search needs)
+    (λ c. search needs) (λ c. search needs) (λ c. search needs))

@@ -1,17 +1,22 @@
--- `show::tables::pots` is safe and ends: what is left of the records grows less. Assumes nothing.
-use Prim.Native.Nat.{_-_}
+-- `show::tables::pots` is safe and ends: each record stands in the part. Assumes nothing.
+use Prim.Native.Nat.{suc, _≤_, _-_}
 use native.Mathlib.Omega.{arith}
+use native.Mathlib.Nat.{mul-le-mul-right}
 use borrow.Author.Needs.{needs}
+use Rattle.rules.specs.Names.{potWidth}
 use Rattle.show.proofs.tables.pots.Statement.{statement}
 use Rattle.show.proofs.tables.pots.Tie as tie
 
 abbrev Inv-loop : tie.InvT-loop
-Inv-loop file y n count at₀ i₀ t8 t9 t10 at i = Unit {0}
+Inv-loop recs years n p₀ p = p ≤ n
 
 abbrev μ-loop : tie.MeasureT-loop
-μ-loop file y n count at₀ i₀ t8 t9 t10 at i = n - i
+μ-loop recs years n p₀ p = n - p
+
+pot-line-requires : tie.Need-pot-line-requires Inv-loop μ-loop
+pot-line-requires c κs = omega (arith, c .before .before .before .before .before .pre, mul-le-mul-right {m = suc (c .before .loop .p)} (potWidth (c .before .before .before .before .before .args .years)) (c .loop-test .taken))
 
 pub pots-spec : {M : Type 1} → statement M
 pots-spec =
-    tie.close
-    (tie.spec Inv-loop μ-loop (λ c. search needs) (λ c κs. search needs) (λ c κs. search needs) (λ c. tt) (λ c. search needs) (λ c κs. search needs) (λ c. search needs) (λ c κs. search needs) (λ c κs. search needs) (λ c. search needs) (λ c κs. search needs) (λ c. omega arith) (λ c. omega arith) (λ c. tt) (λ c. tt))
+    tie.close (tie.spec Inv-loop μ-loop (λ c. search needs) (λ c κs. search needs) (λ c. search needs) pot-line-requires (λ c. search needs)
+    (λ c. search needs) (λ c. search needs) (λ c. search needs))
