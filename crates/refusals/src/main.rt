@@ -1,20 +1,10 @@
-// Says in one line which record of the round file on standard input broke which rule; prints nothing where the file is accepted. No
-// round file is longer than 7,866 bytes.
-ghost use mathlib.Core.Path.{_≡_};
-ghost use lib.ListN.{length};
-
+// Says in one line which record of the round file on standard input broke which rule; prints nothing where the file is accepted.
 mod rule;
 mod whose;
 
 use libc::STDIN_FILENO;
 use libc::STDOUT_FILENO;
 use rules::Reading;
-
-fn blank_file() -> [u8; 7867]
-    ensures { λ r. ⌜ 7867 ≡ length r ⌝ }
-{
-    [0; 7867]
-}
 
 fn refused(file: &[u8], number: u64, at: usize) {
     io::write_all(STDOUT_FILENO, b"refused: ");
@@ -38,7 +28,7 @@ fn explain(file: &[u8]) {
 }
 
 fn main() {
-    let mut file = blank_file();
+    let mut file = layout::blank_file();
     let n = io::read_full(STDIN_FILENO, &mut file);
     explain(&file[..n]);
 }

@@ -1,15 +1,11 @@
 // The count or record that stands at an offset of a refused file. The counts before the fault are right, and they say where each section
 // stands; a count that the file does not have is 0.
-ghost use Prim.Native.Nat.{_+_, _*_, _<_};
+ghost use Prim.Native.Nat.{_<_};
+use layout::pot;
+use layout::technology;
 use libc::STDOUT_FILENO;
+use places::count;
 use places::on;
-
-// The count at `at`.
-fn count(file: &[u8], at: usize) -> usize
-    ensures { λ r. ⌜ r < 65536 ⌝ }
-{
-    places::two(file, at) as usize
-}
 
 // The place after a section whose count, at `at`, is n.
 fn after(at: usize, n: usize, width: usize) -> usize
@@ -49,28 +45,28 @@ fn of_offers(file: &[u8], fourth: usize, at: usize) {
     told(fifth, at, names::BID_WIDTH, b"bid", b"bids");
 }
 
-// A pot, or what follows, where there are y years and the pots' count is at `second`.
-fn of_pots(file: &[u8], y: usize, second: usize, at: usize)
-    requires { ⌜ y < 65536 ⌝ }
+// A pot, or what follows, in a file of so many years whose count of pots is at `second`.
+fn of_pots(file: &[u8], years: usize, second: usize, at: usize)
+    requires { ⌜ years < 65536 ⌝ }
 {
-    let pot = names::BUDGET_WIDTH * y;
-    let tech = names::TECH_HEAD + names::TECH_YEAR * y;
-    let third = after(second, count(file, second), pot);
+    let pot_width = pot::width(years);
+    let third = after(second, count(file, second), pot_width);
     if at < third {
-        return told(second, at, pot, b"pot", b"pots");
+        return told(second, at, pot_width, b"pot", b"pots");
     }
-    let fourth = after(third, count(file, third), tech);
+    let technology_width = technology::width(years);
+    let fourth = after(third, count(file, third), technology_width);
     if at < fourth {
-        return told(third, at, tech, b"technology", b"technologies");
+        return told(third, at, technology_width, b"technology", b"technologies");
     }
     of_offers(file, fourth, at);
 }
 
 pub fn record(file: &[u8], at: usize) {
-    let y = count(file, 0);
-    let second = after(0, y, names::YEAR_WIDTH);
+    let years = count(file, 0);
+    let second = after(0, years, names::YEAR_WIDTH);
     if at < second {
         return told(0, at, names::YEAR_WIDTH, b"year", b"years");
     }
-    of_pots(file, y, second, at);
+    of_pots(file, years, second, at);
 }

@@ -9,4 +9,5 @@ mul-on : tie.Need-mul-on
 mul-on c = let a = c .before .args in omega (arith, few-bytes 65536 1000000 (a .n) (a .width) (omega arith) (omega arith))
 
 pub after-spec : {M : Type 1} → statement M
-after-spec = tie.close (tie.spec (λ c κs. search needs) mul-on (λ c κs. search needs) (λ c. search needs))
+after-spec =
+    tie.close (tie.spec (λ c κs. search needs) mul-on (λ c κs. search needs) (λ c. search needs))
