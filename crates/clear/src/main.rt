@@ -1,15 +1,8 @@
-// Prints the listing of the round file on standard input. No round file is longer than 7,866 bytes, and no reading goes past that
-// place, so a longer input is refused for what stands in its first 7,867 bytes.
+// Prints the listing of the round file on standard input.
 ghost use mathlib.Core.Path.{_≡_};
 ghost use lib.ListN.{length};
 use libc::STDIN_FILENO;
 use libc::STDOUT_FILENO;
-
-fn blank_file() -> [u8; 7867]
-    ensures { λ r. ⌜ 7867 ≡ length r ⌝ }
-{
-    [0; 7867]
-}
 
 fn blank_text() -> [u8; 21600]
     ensures { λ r. ⌜ 21600 ≡ length r ⌝ }
@@ -18,7 +11,7 @@ fn blank_text() -> [u8; 21600]
 }
 
 fn main() {
-    let mut file = blank_file();
+    let mut file = layout::blank_file();
     let n = io::read_full(STDIN_FILENO, &mut file);
     let mut text = blank_text();
     let m = round::list(&file[..n], &mut text);

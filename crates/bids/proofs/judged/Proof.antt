@@ -30,7 +30,10 @@ loop-holds c =
     (omega arith, omega arith, refl, refl, s .pre .1 .1, s .pre .1 .2, rw (sub-zero (s .args .done .bids)))
 
 bid-fault-requires : tie.Need-bid-fault-requires Inv-loop μ-loop
-bid-fault-requires c κs = let v = c .before .before .before .loop .inv in (c .before .before .before .before .before .before .before .before .pre .0, (v .1, v .4, v .5))
+bid-fault-requires c κs =
+    let loop = c .before .before .before .loop in
+    let pre = c .before .before .before .before .before .before .before .before .pre in
+    let v = loop .inv in (pre .0, (v .1, v .4, v .5))
 
 same-length : tie.Need-same-length Inv-loop μ-loop
 same-length c = c .before .before .before .before .before .loop .inv .2
@@ -55,11 +58,16 @@ loop-less c = search needs
 
 loop-again : tie.Need-loop-again Inv-loop μ-loop
 loop-again c =
-    let e = c .before .before .before .before .accept .ensures in
-    let v = c .before .before .before .before .before .before .before .before .before .before .before .before .loop .inv in
-    let z = sym (c .before .before .before .before .before .before .before .before .bid-fault .ensures) ∙ c .before .before .before .before .before .before .before .if1 .left in
+    let accept = c .before .before .before .before .accept in
+    let loop = c .before .before .before .before .before .before .before .before .before .before .before .before .loop in
+    let bid-fault = c .before .before .before .before .before .before .before .before .bid-fault in
+    let if1 = c .before .before .before .before .before .before .before .if1 in
+    let latest = c .before .before .before .latest in
+    let e = accept .ensures in
+    let v = loop .inv in
+    let z = sym (bid-fault .ensures) ∙ if1 .left in
     let w = no-fault _ _ (bidFault _) _ z .0 in
-    (omega arith, omega arith, c .before .before .before .latest .given ∙ v .2, c .before .previous .given ∙ v .3, e .0, e .1, goes-on _ _ _ _ _ _ (v .6) (omega arith) z)
+    (omega arith, omega arith, latest .given ∙ v .2, c .before .previous .given ∙ v .3, e .0, e .1, goes-on _ _ _ _ _ _ (v .6) (omega arith) z)
 
 same-length-3 : tie.Need-same-length-3 Inv-loop μ-loop
 same-length-3 c = c .before .loop .inv .2

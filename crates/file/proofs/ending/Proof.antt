@@ -28,7 +28,8 @@ lowest-requires c κs =
 returns-2 : tie.Need-returns-2
 returns-2 c =
     let k = c .before .before in
-    lowest-read _ (k .before .before .before .before .pre) (omega (arith, k .before .left .ensures, k .if1 .left)) (c .before .records-after .ensures .0) (c .lowest .ensures)
+    lowest-read _ (k .before .before .before .before .pre) (omega (arith, k .before .left .ensures, k .if1 .left))
+    (c .before .records-after .ensures .0) (c .lowest .ensures)
 
 pub ending-spec : {M : Type 1} → statement M
 ending-spec =

@@ -17,26 +17,37 @@ fill-figures-requires c κs =
     ((c .before .before .before .before .pre .0 .0, rows .1), (rows .0 .right, λ j h. rows .0 .kept j h ∙ c .before .before .before .before .pre .1 .1 j))
 
 fill-limits-requires : tie.Need-fill-limits-requires
-fill-limits-requires c κs = (c .before .before .before .before .before .before .pre .0 .0, c .before .before .before .before .before .before .pre .0 .1, c .before .fill-figures .ensures .1)
+fill-limits-requires c κs =
+    let pre = c .before .before .before .before .before .before .pre in
+    (pre .0 .0, pre .0 .1, c .before .fill-figures .ensures .1)
 
 add-m : tie.Need-add-m
-add-m c = omega (arith, c .before .before .before .before .before .before .before .before .pre .0 .0 .sound .bids-few, c .before .before .before .before .before .before .before .before .pre .0 .0 .sound .apps-few)
+add-m c =
+    let pre = c .before .before .before .before .before .before .before .before .pre in
+    omega (arith, pre .0 .0 .sound .bids-few, pre .0 .0 .sound .apps-few)
 
 fill-entrants-requires : tie.Need-fill-entrants-requires
-fill-entrants-requires c κs = (omega (arith, c .before .before .before .before .before .before .before .before .before .pre .0 .0 .sound .bids-few, c .before .before .before .before .before .before .before .before .before .pre .0 .0 .sound .apps-few), c .before .before .fill-limits .ensures .1)
+fill-entrants-requires c κs =
+    let pre = c .before .before .before .before .before .before .before .before .before .pre in
+    (omega (arith, pre .0 .0 .sound .bids-few, pre .0 .0 .sound .apps-few), c .before .before .fill-limits .ensures .1)
 
 returns : tie.Need-returns
 returns c =
     let a = c .before .before .before .before .before .before .before .before .before .before .args in
+    let pre = c .before .before .before .before .before .before .before .before .before .before .pre in
+    let fill-rows = c .before .before .before .before .before .before .before .fill-rows in
+    let fill-figures = c .before .before .before .before .before .fill-figures in
+    let fill-limits = c .before .before .before .fill-limits in
+    let shared-slice-known = c .before .before .before .before .before .before .before .before .before .shared-slice-known in
     let s = now (a .file) in
     let z = a .sections in
     let R = roundIn s z in
-    let S = c .before .before .before .before .before .before .before .before .before .before .pre .0 .0 .sound in
-    let w = written refl (S .years-most) (c .before .before .before .before .before .before .before .fill-rows .ensures .0) (c .before .before .before .before .before .fill-figures .ensures .0) (c .before .before .before .fill-limits .ensures .0) (c .fill-entrants .ensures .0)
+    let S = pre .0 .0 .sound in
+    let w = written refl (S .years-most) (fill-rows .ensures .0) (fill-figures .ensures .0) (fill-limits .ensures .0) (c .fill-entrants .ensures .0)
     (c .fill-entrants .ensures .1) in
-    let bytes = c .before .before .before .before .before .before .before .before .before .shared-slice-known .given in
+    let bytes = shared-slice-known .given in
     let byte = part-byte s (z .«applications_at» + countWidth) (z .«bids_at») (λ i. omega (arith, bytes i)) in
-    ((shows R S (a .p) w, ready R S (a .p) byte (c .before .before .before .before .before .before .before .before .before .before .pre .0 .1) w), refl)
+    ((shows R S (a .p) w, ready R S (a .p) byte (pre .0 .1) w), refl)
 
 pub fill-spec : {M : Type 1} → statement M
 fill-spec =

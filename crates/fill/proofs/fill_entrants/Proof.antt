@@ -20,17 +20,28 @@ standing-requires : tie.Need-standing-requires Inv-loop μ-loop
 standing-requires c κs = omega (arith, c .before .loop-test .taken, c .before .before .before .pre .0)
 
 add-sheet : tie.Need-add-sheet Inv-loop μ-loop
-add-sheet c = omega (arith, c .before .before .before .before .loop .inv .1, c .before .before .before .loop-test .taken, c .before .before .before .before .before .pre .0)
+add-sheet c =
+    let loop = c .before .before .before .before .loop in
+    let loop-test = c .before .before .before .loop-test in
+    let pre = c .before .before .before .before .before .pre in
+    omega (arith, loop .inv .1, loop-test .taken, pre .0)
 
 element-write-sheet : tie.Need-element-write-sheet Inv-loop μ-loop
-element-write-sheet c = omega (arith, c .before .before .before .before .loop .inv .1, c .before .before .before .loop-test .taken, c .before .before .before .before .before .pre .0)
+element-write-sheet c =
+    let loop = c .before .before .before .before .loop in
+    let loop-test = c .before .before .before .loop-test in
+    let pre = c .before .before .before .before .before .pre in
+    omega (arith, loop .inv .1, loop-test .taken, pre .0)
 
 loop-again : tie.Need-loop-again Inv-loop μ-loop
 loop-again c =
-    let inv = c .before .before .before .before .loop .inv in (
-      omega (arith, c .before .before .before .loop-test .taken),
+    let loop = c .before .before .before .before .loop in
+    let loop-test = c .before .before .before .loop-test in
+    let pre = c .before .before .before .before .before .pre in
+    let inv = loop .inv in (
+      omega (arith, loop-test .taken),
       ⊎-elim (λ w. omega (arith, inv .1, w .2)) (λ w. omega (arith, inv .1, w .2)) (c .if1 .came),
-      ⊎-elim (λ w. entering-hit _ _ _ (inv .2) (c .before .standing .ensures) (omega (arith, c .before .before .before .loop-test .taken, c .before .before .before .before .before .pre .0)) (w .0 .taken) (w .1) (w .2))
+      ⊎-elim (λ w. entering-hit _ _ _ (inv .2) (c .before .standing .ensures) (omega (arith, loop-test .taken, pre .0)) (w .0 .taken) (w .1) (w .2))
           (λ w. entering-miss _ _ _ (inv .2) (c .before .standing .ensures) (w .0 .left) (w .1) (w .2))
           (c .if1 .came),
     )

@@ -23,29 +23,40 @@ loop-holds : tie.Need-loop-holds Inv-loop μ-loop
 loop-holds c = (omega arith, c .before .before .pre .0 .1, done-none _ _ _)
 
 standing-requires : tie.Need-standing-requires Inv-loop μ-loop
-standing-requires c κs = let p = c .before .before .before .before .before .pre in omega (arith, c .before .loop-test .taken, p .0 .0 .sound .bids-few, p .0 .0 .sound .apps-few)
+standing-requires c κs =
+    let p = c .before .before .before .before .before .pre in
+    omega (arith, c .before .loop-test .taken, p .0 .0 .sound .bids-few, p .0 .0 .sound .apps-few)
 
 fill-years-requires : tie.Need-fill-years-requires Inv-loop μ-loop
 fill-years-requires c κs =
     let pre = c .before .before .before .before .before .before .before .before .pre in
+    let loop = c .before .before .before .before .before .loop in
+    let loop-test = c .before .before .before .before .loop-test in
+    let a = c .before .before .before .before .before .before .before .before .args in
     let S = pre .0 .0 .sound in
-    let inv = c .before .before .before .before .before .loop .inv in
-    let small : c .before .before .before .before .before .loop .k < mostNumbers = omega (arith, c .before .before .before .before .loop-test .taken, S .bids-few, S .apps-few) in (
+    let inv = loop .inv in
+    let small : loop .k < mostNumbers = omega (arith, loop-test .taken, S .bids-few, S .apps-few) in (
       (pre .0 .0, inv .1),
-      of-pot _ _ _ (now (c .before .before .before .before .before .before .before .before .args .sheet)) (c .before .before .before .before .before .loop .sheet) small (pre .1 .0) (λ j h. inv .2 .rest j (omega (arith, c .before .before .before .before .loop-test .taken, S .bids-few, S .apps-few))) (c .before .before .standing .ensures) (c .before .if1 .taken),
+      of-pot _ _ _ (now (a .sheet)) (loop .sheet) small (pre .1 .0)
+          (λ j h. inv .2 .rest j (omega (arith, loop-test .taken, S .bids-few, S .apps-few))) (c .before .before .standing .ensures)
+          (c .before .if1 .taken),
     )
 
 loop-again : tie.Need-loop-again Inv-loop μ-loop
 loop-again c =
     let pre = c .before .before .before .before .before .before .before .pre in
+    let loop = c .before .before .before .before .loop in
+    let loop-test = c .before .before .before .loop-test in
+    let a = c .before .before .before .before .before .before .before .args in
     let S = pre .0 .0 .sound in
-    let inv = c .before .before .before .before .loop .inv in
-    let few : c .before .before .before .before .loop .k < mostNumbers = omega (arith, c .before .before .before .loop-test .taken, S .bids-few, S .apps-few) in (
-      omega (arith, c .before .before .before .loop-test .taken),
+    let inv = loop .inv in
+    let few : loop .k < mostNumbers = omega (arith, loop-test .taken, S .bids-few, S .apps-few) in (
+      omega (arith, loop-test .taken),
       ⊎-elim (λ w. ap length (w .3) ∙ w .2 .ensures .1) (λ w. ap length (w .1) ∙ inv .1) (c .if1 .came),
       ⊎-elim (λ w. done-own _ _ _ (inv .2) (w .3) (S .years-most) (w .2 .ensures .0))
           (λ w. done-other _ _ _ (inv .2) (w .1) few (S .years-most) (pre .1 .1)
-          (of-another _ _ _ (now (c .before .before .before .before .before .before .before .args .sheet)) (c .before .before .before .before .loop .sheet) few (pre .1 .0) (λ j h. inv .2 .rest j (omega (arith, few))) (c .before .standing .ensures) (w .0 .left)))
+          (of-another _ _ _ (now (a .sheet)) (loop .sheet) few (pre .1 .0) (λ j h. inv .2 .rest j (omega (arith, few)))
+          (c .before .standing .ensures) (w .0 .left)))
           (c .if1 .came),
     )
 

@@ -23,24 +23,32 @@ loop-holds : tie.Need-loop-holds Inv-loop μ-loop
 loop-holds c = (omega arith, c .before .before .pre .2, λ i h. absurd (omega arith), λ j h. refl)
 
 budget-requires : tie.Need-budget-requires Inv-loop μ-loop
-budget-requires c κs = (omega (arith, pot-room _ (c .before .before .before .before .pre .0 .sound) _ (c .before .before .before .before .pre .1), ap length (c .before .before .pots .ensures)), c .loop-test .taken)
+budget-requires c κs =
+    let pre = c .before .before .before .before .pre in
+    (omega (arith, pot-room _ (pre .0 .sound) _ (pre .1), ap length (c .before .before .pots .ensures)), c .loop-test .taken)
 
 element-write-sheet : tie.Need-element-write-sheet Inv-loop μ-loop
 element-write-sheet c = omega (arith, c .before .loop-test .taken, c .before .before .before .before .before .pre .0 .sound .years-most)
 
 loop-again : tie.Need-loop-again Inv-loop μ-loop
 loop-again c =
-    let small = c .before .before .before .before .before .pre .0 .sound .years-most in (
+    let pre = c .before .before .before .before .before .pre in
+    let a = c .before .before .before .before .before .args in
+    let small = pre .0 .sound .years-most in (
       omega arith,
       simp length-set (c .before .before .loop .inv .1),
-      limits-more _ _ _ _ (c .before .before .loop .sheet) (omega (arith, c .before .before .loop .inv .1, c .before .loop-test .taken, small)) (c .before .before .loop .inv .2) (c .budget .ensures),
-      rest-set entrantsAt _ (now (c .before .before .before .before .before .args .sheet)) (c .before .before .loop .sheet) (c .budget .result) (omega (arith, c .before .loop-test .taken, small)) (c .before .before .loop .inv .3),
+      limits-more _ _ _ _ (c .before .before .loop .sheet) (omega (arith, c .before .before .loop .inv .1, c .before .loop-test .taken, small))
+          (c .before .before .loop .inv .2) (c .budget .ensures),
+      rest-set entrantsAt _ (now (a .sheet)) (c .before .before .loop .sheet) (c .budget .result)
+          (omega (arith, c .before .loop-test .taken, small)) (c .before .before .loop .inv .3),
     )
 
 returns : tie.Need-returns Inv-loop μ-loop
 returns c =
-    let R = roundIn (now (c .before .before .before .before .args .file)) (c .before .before .before .before .args .sections) in
-    let right = limits-all R _ (c .before .loop .sheet) (c .before .before .pots .ensures) (c .before .loop .inv .0) (c .loop-test .left) (c .before .loop .inv .2) in
+    let a = c .before .before .before .before .args in
+    let R = roundIn (now (a .file)) (a .sections) in
+    let right = limits-all R _ (c .before .loop .sheet) (c .before .before .pots .ensures) (c .before .loop .inv .0) (c .loop-test .left)
+    (c .before .loop .inv .2) in
     (record { right = right; rest = c .before .loop .inv .3 }, c .before .loop .inv .1)
 
 pub fill-limits-spec : {M : Type 1} → statement M

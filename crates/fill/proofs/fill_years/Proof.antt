@@ -31,15 +31,21 @@ bid-of-requires : tie.Need-bid-of-requires Inv-loop μ-loop
 bid-of-requires c κs = (c .before .pre .0 .0, mine-in _ _ _ (sym (c .before .pre .1)) refl)
 
 application-of-requires : tie.Need-application-of-requires Inv-loop μ-loop
-application-of-requires c κs = (c .before .before .pre .0 .0, good _ (c .before .before .pre .0 .0 .sound) _ (mine-in _ _ _ (sym (c .before .before .pre .1)) refl) (c .bid-of .ensures) .app)
+application-of-requires c κs = (
+  c .before .before .pre .0 .0,
+  good _ (c .before .before .pre .0 .0 .sound) _ (mine-in _ _ _ (sym (c .before .before .pre .1)) refl)
+      (c .bid-of .ensures) .app,
+)
 
 loop-holds : tie.Need-loop-holds Inv-loop μ-loop
 loop-holds c = (omega arith, c .before .before .before .pre .0 .1, λ i h. absurd (omega arith), λ j h. refl, λ j h. refl)
 
 figure-requires : tie.Need-figure-requires Inv-loop μ-loop
 figure-requires c κs =
-    let p = c .before .before .before .before .before .pre .0 .0 in
-    let g = good _ (p .sound) _ (mine-in _ _ _ (sym (c .before .before .before .before .before .pre .1)) refl) (c .before .before .before .bid-of .ensures) in
+    let pre = c .before .before .before .before .before .pre in
+    let bid-of = c .before .before .before .bid-of in
+    let p = pre .0 .0 in
+    let g = good _ (p .sound) _ (mine-in _ _ _ (sym (pre .1)) refl) (bid-of .ensures) in
     ((p, its-tech _ (p .sound) _ (g .app) (c .before .before .application-of .ensures), c .loop-test .taken), (g .days, g .capacity))
 
 -- bid k is one of the numbers
@@ -47,24 +53,33 @@ few : {file : List ℕ} {sections : Sections} (p k : ℕ) → Held file sections
 few p k h m = omega (arith, h .sound .bids-few, h .sound .apps-few, mine-in _ p k (sym m) refl)
 
 mul-put : tie.Need-mul-put Inv-loop μ-loop
-mul-put c = omega (arith, few _ _ (c .before .before .before .before .before .before .before .pre .0 .0) (c .before .before .before .before .before .before .before .pre .1))
+mul-put c =
+    let pre = c .before .before .before .before .before .before .before .pre in
+    omega (arith, few _ _ (pre .0 .0) (pre .1))
 
 add-put : tie.Need-add-put Inv-loop μ-loop
-add-put c = omega (arith, few _ _ (c .before .before .before .before .before .before .before .pre .0 .0) (c .before .before .before .before .before .before .before .pre .1))
+add-put c =
+    let pre = c .before .before .before .before .before .before .before .pre in
+    omega (arith, few _ _ (pre .0 .0) (pre .1))
 
 mul-put-2 : tie.Need-mul-put-2 Inv-loop μ-loop
 mul-put-2 c = omega (arith, c .before .before .before .before .before .before .before .pre .0 .0 .sound .years-most, c .before .before .loop-test .taken)
 
 add-put-2 : tie.Need-add-put-2 Inv-loop μ-loop
-add-put-2 c = omega (arith, c .before .before .loop-test .taken, c .before .before .before .before .before .before .before .pre .0 .0 .sound .years-most, few _ _ (c .before .before .before .before .before .before .before .pre .0 .0) (c .before .before .before .before .before .before .before .pre .1))
+add-put-2 c =
+    let pre = c .before .before .before .before .before .before .before .pre in
+    omega (arith, c .before .before .loop-test .taken, pre .0 .0 .sound .years-most, few _ _ (pre .0 .0) (pre .1))
 
 slice-aggregate-put : tie.Need-slice-aggregate-put Inv-loop μ-loop
 slice-aggregate-put c = figure-length _ _ _ _ (c .before .before .figure .ensures)
 
 put-requires : tie.Need-put-requires Inv-loop μ-loop
 put-requires c κs =
+    let loop-test = c .before .before .before .loop-test in
+    let pre = c .before .before .before .before .before .before .before .before .pre in
+    let loop = c .before .before .before .before .loop in
     let three = figure-length _ _ _ _ (c .before .before .figure .ensures) in
-    (omega (arith, three, c .before .before .before .loop-test .taken, c .before .before .before .before .before .before .before .before .pre .0 .0 .sound .years-most, few _ _ (c .before .before .before .before .before .before .before .before .pre .0 .0) (c .before .before .before .before .before .before .before .before .pre .1)), c .before .before .before .before .loop .inv .1)
+    (omega (arith, three, loop-test .taken, pre .0 .0 .sound .years-most, few _ _ (pre .0 .0) (pre .1)), loop .inv .1)
 
 loop-again : tie.Need-loop-again Inv-loop μ-loop
 loop-again c =
@@ -80,13 +95,16 @@ loop-again c =
 returns : tie.Need-returns Inv-loop μ-loop
 returns c =
     let a = c .before .before .before .before .before .args in
+    let bid-of = c .before .before .before .bid-of in
+    let pre = c .before .before .before .before .before .pre in
     let R = roundIn (now (a .file)) (a .sections) in
-    let all = all-of (λ n. Figured R (c .before .before .application-of .result .technology) (bidShown (c .before .before .before .bid-of .result)) (a .k) n (c .before .loop .sheet)) (c .before .loop .inv .2) (c .before .loop .inv .0)
+    let all = all-of (λ n. Figured R (c .before .before .application-of .result .technology) (bidShown (bid-of .result)) (a .k) n
+    (c .before .loop .sheet)) (c .before .loop .inv .2) (c .before .loop .inv .0)
     (c .loop-test .left) in (
       record {
-        right = figures-own R (a .p) (a .k) (c .before .loop .sheet) (c .before .before .before .before .before .pre .1) (c .before .before .before .bid-of .ensures) (c .before .before .application-of .ensures) all;
+        right = figures-own R (a .p) (a .k) (c .before .loop .sheet) (pre .1) (bid-of .ensures) (c .before .before .application-of .ensures) all;
         kept = c .before .loop .inv .3;
-        rest = λ j h. c .before .loop .inv .4 j (omega (arith, c .before .loop .inv .0, c .before .before .before .before .before .pre .0 .0 .sound .years-most));
+        rest = λ j h. c .before .loop .inv .4 j (omega (arith, c .before .loop .inv .0, pre .0 .0 .sound .years-most));
       },
       c .before .loop .inv .1,
     )

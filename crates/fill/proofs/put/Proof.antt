@@ -23,7 +23,9 @@ element-write-sheet : tie.Need-element-write-sheet Inv-loop μ-loop
 element-write-sheet c = omega (arith, c .before .loop-test .taken, c .before .before .before .pre .0)
 
 loop-again : tie.Need-loop-again Inv-loop μ-loop
-loop-again c = (omega arith, put-more _ _ _ (c .before .before .loop .inv .1) (omega (arith, c .before .loop-test .taken, c .before .before .before .pre .0, c .before .before .before .pre .1)))
+loop-again c =
+    let pre = c .before .before .before .pre in
+    (omega arith, put-more _ _ _ (c .before .before .loop .inv .1) (omega (arith, c .before .loop-test .taken, pre .0, pre .1)))
 
 returns : tie.Need-returns Inv-loop μ-loop
 returns c = let e : c .before .loop .j ≡ length (now (c .before .before .args .v)) = omega arith in rw (← e) (c .before .loop .inv .1)

@@ -10,10 +10,20 @@ use Rattle.rows.proofs.admin_of.Statement.{statement}
 use Rattle.rows.proofs.admin_of.Tie as tie
 
 admin-requires : tie.Need-admin-requires
-admin-requires c κs = (omega (arith, tech-room _ (c .before .before .pre .0 .sound) _ (c .before .before .pre .1), ap length (c .technologies .ensures)), c .before .before .pre .2)
+admin-requires c κs = (
+  omega (
+    arith,
+    tech-room _ (c .before .before .pre .0 .sound) _ (c .before .before .pre .1),
+    ap length
+        (c .technologies .ensures),
+  ),
+  c .before .before .pre .2,
+)
 
 returns : tie.Need-returns
-returns c = read-in (λ l. techAt (c .before .before .before .args .sections .years) l (c .before .before .before .args .t) .admin (c .before .before .before .args .y)) (c .before .technologies .ensures) (c .admin .ensures .0)
+returns c =
+    let a = c .before .before .before .args in
+    read-in (λ l. techAt (a .sections .years) l (a .t) .admin (a .y)) (c .before .technologies .ensures) (c .admin .ensures .0)
 
 pub admin-of-spec : {M : Type 1} → statement M
 admin-of-spec =

@@ -6,8 +6,12 @@ use Rattle.rows.proofs.automatic.Tie as tie
 
 admin-of-requires : tie.Need-admin-of-requires
 admin-of-requires c κs =
-    let S = c .before .before .pre .0 .sound in
-    (c .before .before .pre .0, its-tech _ S _ (c .before .before .pre .1) (c .application-of .ensures), its-year _ S _ (c .before .before .pre .1) (c .application-of .ensures))
+    let S = c .before .before .pre .0 .sound in (
+      c .before .before .pre .0,
+      its-tech _ S _ (c .before .before .pre .1) (c .application-of .ensures),
+      its-year _ S _ (c .before .before .pre .1)
+          (c .application-of .ensures),
+    )
 
 returns : tie.Need-returns
 returns c = automatic-is _ _ (c .before .application-of .ensures) (c .admin-of .ensures)

@@ -14,7 +14,9 @@ read-requires : tie.Need-read-requires
 read-requires c κs = omega (arith, c .before .before .before .before .pre .0 .sound .bids-whole, c .before .if1 .taken, ap length (c .bids .ensures))
 
 returns : tie.Need-returns
-returns c = c .read .ensures ∙ ap (λ (l : List ℕ). bidAt l (c .before .before .before .before .before .args .k)) (c .before .bids .ensures) ∙ sym (bid-own _ _ (c .before .before .if1 .taken))
+returns c =
+    let a = c .before .before .before .before .before .args in
+    c .read .ensures ∙ ap (λ (l : List ℕ). bidAt l (a .k)) (c .before .bids .ensures) ∙ sym (bid-own _ _ (c .before .before .if1 .taken))
 
 automatic-requires : tie.Need-automatic-requires
 automatic-requires c κs = (c .before .before .before .before .pre .0, omega (arith, c .before .before .before .before .pre .1, c .before .if1 .left))

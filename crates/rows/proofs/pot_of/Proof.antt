@@ -13,7 +13,9 @@ pot-requires : tie.Need-pot-requires
 pot-requires c κs = omega (arith, tech-room _ (c .before .before .pre .0 .sound) _ (c .before .before .pre .1), ap length (c .technologies .ensures))
 
 returns : tie.Need-returns
-returns c = read-in (λ l. techAt (c .before .before .before .args .sections .years) l (c .before .before .before .args .t) .pot) (c .before .technologies .ensures) (c .pot .ensures .0)
+returns c =
+    let a = c .before .before .before .args in
+    read-in (λ l. techAt (a .sections .years) l (a .t) .pot) (c .before .technologies .ensures) (c .pot .ensures .0)
 
 pub pot-of-spec : {M : Type 1} → statement M
 pot-of-spec =

@@ -9,17 +9,26 @@ bid-of-requires : tie.Need-bid-of-requires
 bid-of-requires c κs = (c .before .before .before .pre, mine-in _ _ _ (c .before .mine .ensures) (c .if1 .taken))
 
 application-of-requires : tie.Need-application-of-requires
-application-of-requires c κs = (c .before .before .before .before .pre, good _ (c .before .before .before .before .pre .sound) _ (mine-in _ _ _ (c .before .before .mine .ensures) (c .before .if1 .taken)) (c .bid-of .ensures) .app)
+application-of-requires c κs =
+    let pre = c .before .before .before .before .pre in
+    (pre, good _ (pre .sound) _ (mine-in _ _ _ (c .before .before .mine .ensures) (c .before .if1 .taken)) (c .bid-of .ensures) .app)
 
 admin-of-requires : tie.Need-admin-of-requires
 admin-of-requires c κs =
-    let S = c .before .before .before .before .before .before .pre .sound in
-    let g = good _ S _ (mine-in _ _ _ (c .before .before .before .before .mine .ensures) (c .before .before .before .if1 .taken)) (c .before .before .bid-of .ensures) in
-    (c .before .before .before .before .before .before .pre, its-tech _ S _ (g .app) (c .before .application-of .ensures), omega (arith, g .year, S .few))
+    let pre = c .before .before .before .before .before .before .pre in
+    let mine = c .before .before .before .before .mine in
+    let if1 = c .before .before .before .if1 in
+    let S = pre .sound in
+    let g = good _ S _ (mine-in _ _ _ (mine .ensures) (if1 .taken)) (c .before .before .bid-of .ensures) in
+    (pre, its-tech _ S _ (g .app) (c .before .application-of .ensures), omega (arith, g .year, S .few))
 
 returns : tie.Need-returns
 returns c =
-    row-own _ _ _ (c .before .before .before .before .before .mine .ensures) (c .before .before .before .before .if1 .taken) (c .before .before .before .bid-of .ensures) (c .before .before .application-of .ensures) (c .before .standing .ensures) (c .admin-of .ensures)
+    let mine = c .before .before .before .before .before .mine in
+    let if1 = c .before .before .before .before .if1 in
+    let bid-of = c .before .before .before .bid-of in
+    row-own _ _ _ (mine .ensures) (if1 .taken) (bid-of .ensures) (c .before .before .application-of .ensures) (c .before .standing .ensures)
+    (c .admin-of .ensures)
 
 returns-2 : tie.Need-returns-2
 returns-2 c = row-blank _ _ _ (c .before .mine .ensures) (c .if1 .left)

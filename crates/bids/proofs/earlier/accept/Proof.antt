@@ -6,10 +6,14 @@ use Rattle.bids.proofs.earlier.accept.Tie as tie
 
 returns : tie.Need-returns
 returns c =
+    let application = c .before .before .before .before .application in
     let w = c .before .before .before .before .before .before .before in
     let s = w .before .before in
-    let p = s .before .before .before .before .before .pre .1 in
-    (latest-next _ _ _ _ (p .0) (c .before .before .before .before .application .ensures .0) (c .before .before .put2 .ensures), previous-next _ _ _ _ (p .1) (s .start .ensures) (w .put .ensures))
+    let p = s .before .before .before .before .before .pre .1 in (
+      latest-next _ _ _ _ (p .0) (application .ensures .0) (c .before .before .put2 .ensures),
+      previous-next _ _ _ _ (p .1) (s .start .ensures)
+          (w .put .ensures),
+    )
 
 pub accept-spec : {M : Type 1} → statement M
 accept-spec =

@@ -36,16 +36,21 @@ add-of-year : tie.Need-add-of-year Inv-loop μ-loop
 add-of-year c = omega (arith, c .before .before .before .before .before .loop .inv .years-few)
 
 next-requires : tie.Need-next-requires Inv-loop μ-loop
-next-requires c κs = let p = c .before .before .before .before .before .before .before .before .before .before .pre in (omega (arith, c .before .before .before .before .before .loop .inv .within), p .0, p .1 .1)
+next-requires c κs =
+    let p = c .before .before .before .before .before .before .before .before .before .before .pre in
+    let loop = c .before .before .before .before .before .loop in
+    (omega (arith, loop .inv .within), p .0, p .1 .1)
 
 loop-less : tie.Need-loop-less Inv-loop μ-loop
 loop-less c = omega (arith, c .next .ensures .within)
 
 loop-again : tie.Need-loop-again Inv-loop μ-loop
 loop-again c =
+    let if1 = c .before .before .before .if1 in
     let p = c .before .before .before .before in
     let l = p .before .before in
-    walk-on _ _ _ _ _ _ (l .loop .inv) (omega arith) (c .next .ensures) (p .same-price .ensures) (c .before .before .before .if1 .left) (c .before .before .same-app .ensures) (c .before .same-year .ensures)
+    walk-on _ _ _ _ _ _ (l .loop .inv) (omega arith) (c .next .ensures) (p .same-price .ensures) (if1 .left) (c .before .before .same-app .ensures)
+    (c .before .same-year .ensures)
 
 returns-2 : tie.Need-returns-2 Inv-loop μ-loop
 returns-2 c = nine-counted _ _ _ _ _ (c .before .before .loop .inv) (c .before .loop-test .left) (c .nine .ensures)

@@ -13,7 +13,9 @@ use Rattle.bids.proofs.lowest.eleven.Statement.{statement}
 use Rattle.bids.proofs.lowest.eleven.Tie as tie
 
 abbrev Inv-loop : tie.InvT-loop
-Inv-loop recs n i price k₀ k = (k ≤ n) × ((j : ℕ) → j < k → (bidAt recs j .app ≡ bidAt recs i .app) × (bidAt recs j .year ≡ bidAt recs i .year) → bidAt recs i .price ≤ bidAt recs j .price)
+Inv-loop recs n i price k₀ k = (k ≤ n) ×
+    ((j : ℕ) → j < k → (bidAt recs j .app ≡ bidAt recs i .app) ×
+    (bidAt recs j .year ≡ bidAt recs i .year) → bidAt recs i .price ≤ bidAt recs j .price)
 
 abbrev μ-loop : tie.MeasureT-loop
 μ-loop recs n i price k₀ k = n - k
@@ -27,10 +29,18 @@ loop-holds c = (omega arith, λ j l. absurd (not-suc-le-zero l))
 
 returns-2 : tie.Need-returns-2 Inv-loop μ-loop
 unfolding elevenOf
-returns-2 c = let y = c .before .before .before in sym (given-yes _ _ _ (λ h. omega (arith, h (y .before .before .loop .k) (omega arith) (is-one _ (y .same-year .ensures .0) (c .before .before .if2 .taken)))))
+returns-2 c =
+    let y = c .before .before .before in sym
+    (given-yes _ _ _
+    (λ h. omega (arith, h (y .before .before .loop .k) (omega arith) (is-one _ (y .same-year .ensures .0) (c .before .before .if2 .taken)))))
 
 loop-again : tie.Need-loop-again Inv-loop μ-loop
-loop-again c = let y = c .before in (omega arith, below-more _ _ (y .before .before .loop .inv .1) (λ h. ⊎-elim (λ v. omega (arith, v)) (λ v. absurd (not-one _ (y .same-year .ensures .0) (v .left) h)) (c .if2 .came)))
+loop-again c =
+    let y = c .before in (
+      omega arith,
+      below-more _ _ (y .before .before .loop .inv .1)
+          (λ h. ⊎-elim (λ v. omega (arith, v)) (λ v. absurd (not-one _ (y .same-year .ensures .0) (v .left) h)) (c .if2 .came)),
+    )
 
 returns-3 : tie.Need-returns-3 Inv-loop μ-loop
 unfolding elevenOf

@@ -22,10 +22,14 @@ loop-holds : tie.Need-loop-holds Inv-loop μ-loop
 loop-holds c = (omega arith, back-none _ _ _ _ _ _)
 
 loop-again : tie.Need-loop-again Inv-loop μ-loop
-loop-again c = let l = c .before .before .before .loop in (omega arith, back-at-fault _ _ _ _ _ _ _ _ (l .inv .1) (omega arith) (omega arith) (c .before .eleven .ensures) (c .if1 .taken))
+loop-again c =
+    let l = c .before .before .before .loop in
+    (omega arith, back-at-fault _ _ _ _ _ _ _ _ (l .inv .1) (omega arith) (omega arith) (c .before .eleven .ensures) (c .if1 .taken))
 
 loop-again-2 : tie.Need-loop-again-2 Inv-loop μ-loop
-loop-again-2 c = let l = c .before .before .before .loop in (omega arith, back-passed _ _ _ _ _ _ _ _ (l .inv .1) (omega arith) (omega arith) (c .before .eleven .ensures) (c .if1 .left))
+loop-again-2 c =
+    let l = c .before .before .before .loop in
+    (omega arith, back-passed _ _ _ _ _ _ _ _ (l .inv .1) (omega arith) (omega arith) (c .before .eleven .ensures) (c .if1 .left))
 
 returns : tie.Need-returns Inv-loop μ-loop
 unfolding lowestOf

@@ -15,10 +15,15 @@ returns c = sym (given-no _ _ _ (λ h. omega (arith, ap (λ (b : Bid). b .app) (
 
 returns-2 : tie.Need-returns-2
 unfolding sevenOf
-returns-2 c = sym (given-no _ _ _ (λ h. omega (arith, ap (λ (b : Bid). b .year) (c .before .before .before .before .before .before .read .ensures), h .1 .0)))
+returns-2 c =
+    let read = c .before .before .before .before .before .before .read in
+    sym (given-no _ _ _ (λ h. omega (arith, ap (λ (b : Bid). b .year) (read .ensures), h .1 .0)))
 
 returns-3 : tie.Need-returns-3
-returns-3 c = rest-asked _ _ _ _ (c .held .ensures) (c .before .before .before .before .before .before .before .read .ensures) (c .before .before .before .before .if1 .left) (c .before .if2 .left)
+returns-3 c =
+    let read = c .before .before .before .before .before .before .before .read in
+    let if1 = c .before .before .before .before .if1 in
+    rest-asked _ _ _ _ (c .held .ensures) (read .ensures) (if1 .left) (c .before .if2 .left)
 
 pub seven-spec : {M : Type 1} → statement M
 seven-spec =

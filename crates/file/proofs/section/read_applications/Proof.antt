@@ -11,7 +11,8 @@ use Rattle.file.proofs.section.read_applications.Statement.{statement}
 use Rattle.file.proofs.section.read_applications.Tie as tie
 
 -- what is known once the count is accepted: the records start within the file
-room : (c : tie.After-count-at) → let p = c .before .before .before .before .args in (p .past .«applications_at» + countWidth ≤ length (now (p .file))) × Facts3 (now (p .file)) (p .past)
+room : (c : tie.After-count-at) → let p = c .before .before .before .before .args in
+    (p .past .«applications_at» + countWidth ≤ length (now (p .file))) × Facts3 (now (p .file)) (p .past)
 room c = (counted _ _ _ _ (c .before .before .count-fault .ensures) (c .before .if1 .left) .0, facts3 _ (c .before .before .before .before .pre))
 
 returns : tie.Need-returns
@@ -39,7 +40,8 @@ returns-2 : tie.Need-returns-2
 returns-2 c =
     let k = c .before .before .before in
     let o = k .before in
-    apps-read _ (o .before .before .before .pre) (o .before .count-fault .ensures) (o .if1 .left) (k .count-at .ensures .0) (c .before .before .years .ensures)
+    apps-read _ (o .before .before .before .pre) (o .before .count-fault .ensures) (o .if1 .left) (k .count-at .ensures .0)
+    (c .before .before .years .ensures)
     (c .before .records-after .ensures .0) (c .applications .ensures)
 
 pub read-applications-spec : {M : Type 1} → statement M

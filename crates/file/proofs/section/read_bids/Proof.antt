@@ -32,7 +32,11 @@ bids-requires : tie.Need-bids-requires
 bids-requires c κs = let k = c .before in (tables-right _ (c .before .before .before .before .before .pre) (k .count-at .result), omega (arith, room k))
 
 returns-2 : tie.Need-returns-2
-returns-2 c = bids-read _ (c .before .before .before .before .before .before .pre) (c .before .before .before .before .count-fault .ensures) (c .before .before .before .if1 .left) (c .before .before .count-at .ensures .0) (c .before .records-after .ensures .0) (c .bids .ensures)
+returns-2 c =
+    let pre = c .before .before .before .before .before .before .pre in
+    let count-fault = c .before .before .before .before .count-fault in
+    let if1 = c .before .before .before .if1 in
+    bids-read _ (pre) (count-fault .ensures) (if1 .left) (c .before .before .count-at .ensures .0) (c .before .records-after .ensures .0) (c .bids .ensures)
 
 pub read-bids-spec : {M : Type 1} → statement M
 read-bids-spec =

@@ -44,7 +44,8 @@ returns-2 : tie.Need-returns-2
 returns-2 c =
     let k = c .before .before .before in
     let o = k .before in
-    pots-read _ (o .before .before .before .pre) (o .before .count-fault .ensures) (o .if1 .left) (k .count-at .ensures .0) (c .before .before .place .ensures)
+    pots-read _ (o .before .before .before .pre) (o .before .count-fault .ensures) (o .if1 .left) (k .count-at .ensures .0)
+    (c .before .before .place .ensures)
     (c .before .records-after .ensures .0) (c .pots .ensures)
 
 pub read-pots-spec : {M : Type 1} → statement M

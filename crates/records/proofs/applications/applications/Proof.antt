@@ -17,7 +17,8 @@ use Rattle.records.proofs.applications.applications.Tie as tie
 abbrev Inv-loop : tie.InvT-loop
 Inv-loop year-recs recs base done deliveries technologies n a₀ a =
     (a ≤ n) × (a * appWidth ≤ length recs)
-    × (scan (recordFault recs appWidth (appFault year-recs deliveries technologies recs)) appWidth base a (n - a) (Accepted done) ≡ appsOf year-recs recs base done)
+    × (scan (recordFault recs appWidth (appFault year-recs deliveries technologies recs)) appWidth base a (n - a)
+    (Accepted done) ≡ appsOf year-recs recs base done)
 
 abbrev μ-loop : tie.MeasureT-loop
 μ-loop year-recs recs base done deliveries technologies n a₀ a = n - a

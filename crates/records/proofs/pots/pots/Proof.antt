@@ -28,7 +28,9 @@ unfolding potsOf
 loop-holds c = (omega arith, omega arith, rw (sub-zero (c .before .args .done .pots)))
 
 returns : tie.Need-returns Inv-loop μ-loop
-returns c = placed _ _ (c .place .ensures) (at-fault _ _ _ _ _ _ (c .before .before .before .before .loop .inv .2) (omega arith) (c .before .before .pot-fault .ensures) (c .before .if1 .taken))
+returns c =
+    let loop = c .before .before .before .before .loop in
+    placed _ _ (c .place .ensures) (at-fault _ _ _ _ _ _ (loop .inv .2) (omega arith) (c .before .before .pot-fault .ensures) (c .before .if1 .taken))
 
 loop-again : tie.Need-loop-again Inv-loop μ-loop
 loop-again c =

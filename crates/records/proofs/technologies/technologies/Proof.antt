@@ -18,7 +18,8 @@ use Rattle.records.proofs.technologies.technologies.Tie as tie
 abbrev Inv-loop : tie.InvT-loop
 Inv-loop recs base done years deliveries pots n t₀ t =
     (t ≤ n) × (t * techWidth years ≤ length recs)
-    × (scan (recordFault recs (techWidth years) (techFault years deliveries pots recs)) (techWidth years) base t (n - t) (Accepted done) ≡ techsOf recs base done)
+    × (scan (recordFault recs (techWidth years) (techFault years deliveries pots recs)) (techWidth years) base t (n - t)
+    (Accepted done) ≡ techsOf recs base done)
 
 abbrev μ-loop : tie.MeasureT-loop
 μ-loop recs base done years deliveries pots n t₀ t = n - t
@@ -28,7 +29,9 @@ unfolding techsOf
 loop-holds c = (omega arith, omega arith, rw (sub-zero (c .before .args .done .technologies)))
 
 returns : tie.Need-returns Inv-loop μ-loop
-returns c = placed _ _ (c .place .ensures) (at-fault _ _ _ _ _ _ (c .before .before .before .before .loop .inv .2) (omega arith) (c .before .before .tech-fault .ensures) (c .before .if1 .taken))
+returns c =
+    let loop = c .before .before .before .before .loop in
+    placed _ _ (c .place .ensures) (at-fault _ _ _ _ _ _ (loop .inv .2) (omega arith) (c .before .before .tech-fault .ensures) (c .before .if1 .taken))
 
 loop-again : tie.Need-loop-again Inv-loop μ-loop
 loop-again c =

@@ -33,7 +33,8 @@ returns : tie.Need-returns Inv-loop μ-loop
 returns c = at-fault _ yearWidth _ _ _ _ (c .before .before .before .loop .inv .4) (omega arith) (c .before .year-fault .ensures) (c .if1 .taken)
 
 -- after a year with no fault
-whole : (c : tie.Else1 Inv-loop μ-loop) → let l = c .before .before .before in l .loop .y * yearWidth + yearWidth ≤ length (now (l .before .before .args .recs))
+whole : (c : tie.Else1 Inv-loop μ-loop) → let l = c .before .before .before in l .loop .y * yearWidth + yearWidth ≤ length
+    (now (l .before .before .args .recs))
 whole c = no-fault _ yearWidth (yearFault _) _ (sym (c .before .year-fault .ensures) ∙ c .if1 .left) .0
 
 right : (c : tie.Else1 Inv-loop μ-loop) → let l = c .before .before .before in YearRight (now (l .before .before .args .recs)) (l .loop .y)

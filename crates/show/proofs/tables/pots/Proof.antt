@@ -14,7 +14,10 @@ abbrev μ-loop : tie.MeasureT-loop
 μ-loop recs years n p₀ p = n - p
 
 pot-line-requires : tie.Need-pot-line-requires Inv-loop μ-loop
-pot-line-requires c κs = omega (arith, c .before .before .before .before .before .pre, mul-le-mul-right {m = suc (c .before .loop .p)} (potWidth (c .before .before .before .before .before .args .years)) (c .loop-test .taken))
+pot-line-requires c κs =
+    let pre = c .before .before .before .before .before .pre in
+    let a = c .before .before .before .before .before .args in
+    omega (arith, pre, mul-le-mul-right {m = suc (c .before .loop .p)} (potWidth (a .years)) (c .loop-test .taken))
 
 pub pots-spec : {M : Type 1} → statement M
 pots-spec =

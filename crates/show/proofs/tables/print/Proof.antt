@@ -13,13 +13,19 @@ pots-requires-2 : tie.Need-pots-requires-2
 pots-requires-2 c κs = omega (arith, c .before .before .before .before .pre .sound .pots-whole, ap length (c .pots .ensures))
 
 technologies-requires-2 : tie.Need-technologies-requires-2
-technologies-requires-2 c κs = omega (arith, c .before .before .before .before .before .before .pre .sound .techs-whole, ap length (c .technologies .ensures))
+technologies-requires-2 c κs =
+    let pre = c .before .before .before .before .before .before .pre in
+    omega (arith, pre .sound .techs-whole, ap length (c .technologies .ensures))
 
 applications-requires-2 : tie.Need-applications-requires-2
-applications-requires-2 c κs = omega (arith, c .before .before .before .before .before .before .before .before .pre .sound .apps-whole, ap length (c .applications .ensures))
+applications-requires-2 c κs =
+    let pre = c .before .before .before .before .before .before .before .before .pre in
+    omega (arith, pre .sound .apps-whole, ap length (c .applications .ensures))
 
 bids-requires-2 : tie.Need-bids-requires-2
-bids-requires-2 c κs = omega (arith, c .before .before .before .before .before .before .before .before .before .before .pre .sound .bids-whole, ap length (c .bids .ensures))
+bids-requires-2 c κs =
+    let pre = c .before .before .before .before .before .before .before .before .before .before .pre in
+    omega (arith, pre .sound .bids-whole, ap length (c .bids .ensures))
 
 pub print-spec : {M : Type 1} → statement M
 print-spec =

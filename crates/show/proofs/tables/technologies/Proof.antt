@@ -14,7 +14,10 @@ abbrev μ-loop : tie.MeasureT-loop
 μ-loop recs years n t₀ t = n - t
 
 technology-lines-requires : tie.Need-technology-lines-requires Inv-loop μ-loop
-technology-lines-requires c κs = omega (arith, c .before .before .before .before .before .pre, mul-le-mul-right {m = suc (c .before .loop .t)} (techWidth (c .before .before .before .before .before .args .years)) (c .loop-test .taken))
+technology-lines-requires c κs =
+    let pre = c .before .before .before .before .before .pre in
+    let a = c .before .before .before .before .before .args in
+    omega (arith, pre, mul-le-mul-right {m = suc (c .before .loop .t)} (techWidth (a .years)) (c .loop-test .taken))
 
 pub technologies-spec : {M : Type 1} → statement M
 technologies-spec =
