@@ -50,7 +50,9 @@ put-more v n at {s} {t} p h =
     record {
       inside = λ j i. case (eqb j n)
           (λ e. let q = eqb-true j n e in rw (q) (getD-set-same t (at + n) (getD v n 0) 0 l))
-          (λ e. let q = eqb-false j n e in getD-set-other t (at + n) (at + j) (getD v n 0) 0 (λ z. q (omega arith)) ∙ p .inside j (let d : j < n = omega (arith, q) in d));
+          (λ e.
+          let q = eqb-false j n e in
+          getD-set-other t (at + n) (at + j) (getD v n 0) 0 (λ z. q (omega arith)) ∙ p .inside j (let d : j < n = omega (arith, q) in d));
       kept = λ j i. getD-set-other t (at + n) j (getD v n 0) 0 (λ z. omega arith) ∙ p .kept j i;
       rest = λ j i. getD-set-other t (at + n) j (getD v n 0) 0 (λ z. omega arith) ∙ p .rest j (omega arith);
       same = length-set t (at + n) (getD v n 0) ∙ p .same;
@@ -127,7 +129,8 @@ missing true false e = absurd (omega arith)
 missing false enter e = refl
 
 -- whether bid k is of the pot, by its standing in a sheet t that has the rows of s
-module _ (R : Round) (p k : ℕ) (s t : List ℕ) {q : ℕ} (h : k < mostNumbers) (f : RowsRight R p mostNumbers s) (same : Rest (rowPlace k) s t) (e : q ≡ rowStanding t k) where
+module _ (R : Round) (p k : ℕ) (s t : List ℕ) {q : ℕ} (h : k < mostNumbers) (f : RowsRight R p mostNumbers s) (same : Rest (rowPlace k) s t)
+    (e : q ≡ rowStanding t k) where
   standing-at : q ≡ standingOf R p k
   unfolding rowStanding rowNumbers
   standing-at = e ∙ same (rowPlace k) (omega arith) ∙ ap (λ (i : ℕ). getD s i 0) (sym (add-zero (rowPlace k))) ∙ f k h 0 (omega arith)
@@ -171,10 +174,11 @@ module _ (R : Round) (p k : ℕ) {s t : List ℕ} (d : Done R p k s t) where
     rest = λ j q. d .rest j (omega arith);
   }
 
-pub done-all : (R : Round) (p : ℕ) {m k : ℕ} {s t : List ℕ} → m ≡ R .b + R .n → m ≤ mostNumbers → k ≤ m → m ≤ k → Done R p k s t → FiguresWritten R p s t
-done-all R p {m} {k} {s} {t} e f h l d =
+pub done-all : (R : Round) (p : ℕ) {m k : ℕ} {s t : List ℕ} → m ≡ R .b + R .n → m ≤ mostNumbers → k ≤ m → m ≤ k → Done R p k s t → length t ≡ sheetLength
+    → FiguresWritten R p s t
+done-all R p {m} {k} {s} {t} e f h l d long =
     let q : k ≡ R .b + R .n = omega arith in
-    record { right = subst (λ (n : ℕ). AllFigures R p n t) q (d .right); rest = λ j g. d .rest j (omega arith) }
+    record { right = subst (λ (n : ℕ). AllFigures R p n t) q (d .right); rest = λ j g. d .rest j (omega arith); long = long }
 
 -- ---- the bids that enter
 
@@ -212,7 +216,9 @@ module _ (s : List ℕ) (k n : ℕ) {t : List ℕ} (E : Entering s k n t) {q : �
   })
     where
       listed : entrants (set t (entrantsAt + n) k) (suc n) ≡ k ∷ sift (inAuction s) (below k)
-      listed = unfold entrants entrantAt in rw (getD-set-same t (entrantsAt + n) k 0 (omega (arith, E .few, E .same)), entrants-set t n (entrantsAt + n) k (omega arith), E .right)
+      listed =
+          unfold entrants entrantAt in
+          rw (getD-set-same t (entrantsAt + n) k 0 (omega (arith, E .few, E .same)), entrants-set t n (entrantsAt + n) k (omega arith), E .right)
 
   pub entering-miss : {g : List ℕ} {m : ℕ} → (q ≡ entered → ⊥) → g ≡ t → m ≡ n → Entering s (k + 1) m g
   entering-miss z eg em = rw (eg, em) (record {
@@ -229,4 +235,5 @@ entering-done s {m} {k} {n} {t} h l E = record {
   right = E .right ∙ ap (λ (i : ℕ). sift (inAuction s) (below i)) (le-antisymm h l);
   kept = E .kept;
   rest = E .rest;
+  long = E .same;
 }

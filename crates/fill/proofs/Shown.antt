@@ -33,15 +33,19 @@ pub record Written (R : Round) (p : ℕ) (sheet : List ℕ) (n : ℕ) : Type 0 w
   pub entered : entrants sheet n ≡ sift (inAuction sheet) (below (R .b + R .n))
 
 -- from the steps of the filling
-pub written : {R : Round} {p m n : ℕ} {s t u v w : List ℕ} → m ≡ R .b + R .n → R .y ≤ mostYears → RowsWritten R p s t → FiguresWritten R p t u → LimitsWritten R p u v → Entered m v w n
-    → length w ≡ sheetLength → Written R p w n
+pub written : {R : Round} {p m n : ℕ} {s t u v w : List ℕ} → m ≡ R .b + R .n → R .y ≤ mostYears → RowsWritten R p s t → FiguresWritten R p t u
+    → LimitsWritten R p u v → Entered m v w n → Written R p w n
 unfolding rowNumbers figureNumbers
-written {R} {p} {m} {n} {s} {t} {u} {v} {w} em hy A B C D l = record {
-  length-is = l;
-  rows-right = λ k h j g. D .rest (rowPlace k + j) (omega arith) ∙ C .rest (rowPlace k + j) (omega arith) ∙ B .rest (rowPlace k + j) (omega arith) ∙ A .right k h j g;
+written {R} {p} {m} {n} {s} {t} {u} {v} {w} em hy A B C D = record {
+  length-is = D .long;
+  rows-right = λ k h j g.
+      D .rest (rowPlace k + j) (omega arith) ∙ C .rest (rowPlace k + j) (omega arith) ∙ B .rest (rowPlace k + j) (omega arith) ∙ A .right k h j g;
   figures-right = λ k h i f j g. D .rest (figurePlace k i + j) (omega arith) ∙ C .rest (figurePlace k i + j) (omega arith) ∙ B .right k h i f j g;
   limits-right = λ i h. D .kept i (omega arith) ∙ C .right i h;
-  entered = D .right ∙ sift-same (inAuction v) (inAuction w) (below m) (λ k i. sym (ap (λ (x : ℕ). eqb x entered) (same k))) ∙ ap (λ (i : ℕ). sift (inAuction w) (below i)) em;
+  entered =
+      D .right
+      ∙ sift-same (inAuction v) (inAuction w) (below m) (λ k i. sym (ap (λ (x : ℕ). eqb x entered) (same k)))
+      ∙ ap (λ (i : ℕ). sift (inAuction w) (below i)) em;
 }
   where
     same : (k : ℕ) → rowStanding w k ≡ rowStanding v k

@@ -7,7 +7,7 @@ use Rattle.rules.specs.Names.{mostNumbers}
 use Rattle.rules.specs.Lists.{sift, below}
 use Rattle.rules.specs.File.{Round, Bid, budgetAt}
 use Rattle.sheet.specs.declared.Size.{Size}
-use Rattle.sheet.specs.Sheet.{entrantsAt, figuresAt, rowsAt, figuresWidth, rowPlace, figuresPlace, figurePlace, entrants, inAuction}
+use Rattle.sheet.specs.Sheet.{sheetLength, entrantsAt, figuresAt, rowsAt, figuresWidth, rowPlace, figuresPlace, figurePlace, entrants, inAuction}
 use Rattle.rows.specs.Rows.{rowNumbers, figureNumbers, figuresIn}
 
 -- the numbers v stand at a place of s
@@ -53,29 +53,35 @@ AllFigures R p n sheet = (k : ℕ) → k < n → FiguresRight R p k (R .y) sheet
 abbrev pub LimitsRight : (years : ℕ) (pots : List ℕ) (p n : ℕ) → List ℕ → Type 0
 LimitsRight years pots p n sheet = (y : ℕ) → y < n → getD sheet y 0 ≡ budgetAt years pots p y
 
--- ---- from s to t: the rows of all bids were written; the figures of one bid, and of all; the limits; the first n of m bids that enter. Nothing else was changed
+-- ---- from s to t: the rows of all bids were written; the figures of one bid, and of all; the limits; the first n of m bids that enter.
+-- Nothing else was changed, and t is as long as a sheet
 pub record RowsWritten (R : Round) (p : ℕ) (s t : List ℕ) : Type 0 where
   pub right : RowsRight R p mostNumbers t
   pub kept : Kept rowsAt s t
+  pub long : length t ≡ sheetLength
 
 pub record FiguresOf (R : Round) (p k : ℕ) (s t : List ℕ) : Type 0 where
   pub right : FiguresRight R p k (R .y) t
   pub kept : Kept (figuresPlace k) s t
   pub rest : Rest (figuresPlace k + figuresWidth) s t
+  pub long : length t ≡ sheetLength
 
 pub record FiguresWritten (R : Round) (p : ℕ) (s t : List ℕ) : Type 0 where
   pub right : AllFigures R p (R .b + R .n) t
   pub rest : Rest rowsAt s t
+  pub long : length t ≡ sheetLength
 
 pub record LimitsWritten (R : Round) (p : ℕ) (s t : List ℕ) : Type 0 where
   pub right : LimitsRight (R .y) (R .pots) p (R .y) t
   pub rest : Rest entrantsAt s t
+  pub long : length t ≡ sheetLength
 
 pub record Entered (m : ℕ) (s t : List ℕ) (n : ℕ) : Type 0 where
   pub few : n ≤ m
   pub right : entrants t n ≡ sift (inAuction s) (below m)
   pub kept : Kept entrantsAt s t
   pub rest : Rest figuresAt s t
+  pub long : length t ≡ sheetLength
 
 -- the size of a round's sheet, where n bids enter
 abbrev pub sizeOf : Round → ℕ → Size

@@ -29,7 +29,7 @@ fn put(sheet: &mut Sheet, at: usize, v: &[u64])
 // The rows of all bids. Those of other pots are zeros, and so are those after the last bid.
 fn fill_rows(file: &[u8], sections: Sections, p: usize, sheet: &mut Sheet)
     requires { ⌜ Held (now file) sections × (length (now sheet) ≡ sheetLength) ⌝ }
-    ensures { λ _. ⌜ RowsWritten (roundIn (now (file .entry)) sections) p (now (sheet .entry)) (now (sheet .exit)) × (length (now (sheet .exit)) ≡ sheetLength) ⌝ }
+    ensures { λ _. ⌜ RowsWritten (roundIn (now (file .entry)) sections) p (now (sheet .entry)) (now (sheet .exit)) ⌝ }
 {
     let mut k: usize = 0;
     while k < sheet::BIDS {
@@ -43,7 +43,7 @@ fn fill_rows(file: &[u8], sections: Sections, p: usize, sheet: &mut Sheet)
 fn fill_years(file: &[u8], sections: Sections, p: usize, k: usize, sheet: &mut Sheet)
     requires { ⌜ Held (now file) sections × (length (now sheet) ≡ sheetLength) ⌝ }
     requires { ⌜ mine (roundIn (now file) sections) p k ≡ true ⌝ }
-    ensures { λ _. ⌜ FiguresOf (roundIn (now (file .entry)) sections) p k (now (sheet .entry)) (now (sheet .exit)) × (length (now (sheet .exit)) ≡ sheetLength) ⌝ }
+    ensures { λ _. ⌜ FiguresOf (roundIn (now (file .entry)) sections) p k (now (sheet .entry)) (now (sheet .exit)) ⌝ }
 {
     let years = sections.years;
     let bid = rows::bid_of(file, sections, k);
@@ -65,7 +65,7 @@ fn fill_years(file: &[u8], sections: Sections, p: usize, k: usize, sheet: &mut S
 fn fill_figures(file: &[u8], sections: Sections, p: usize, sheet: &mut Sheet)
     requires { ⌜ Held (now file) sections × (length (now sheet) ≡ sheetLength) ⌝ }
     requires { ⌜ RowsRight (roundIn (now file) sections) p mostNumbers (now sheet) × BlankFigures (now sheet) ⌝ }
-    ensures { λ _. ⌜ FiguresWritten (roundIn (now (file .entry)) sections) p (now (sheet .entry)) (now (sheet .exit)) × (length (now (sheet .exit)) ≡ sheetLength) ⌝ }
+    ensures { λ _. ⌜ FiguresWritten (roundIn (now (file .entry)) sections) p (now (sheet .entry)) (now (sheet .exit)) ⌝ }
 {
     let m = sections.bids + sections.applications;
     let mut k: usize = 0;
@@ -80,7 +80,7 @@ fn fill_figures(file: &[u8], sections: Sections, p: usize, sheet: &mut Sheet)
 // The limits: the budgets of pot p.
 fn fill_limits(file: &[u8], sections: Sections, p: usize, sheet: &mut Sheet)
     requires { ⌜ Held (now file) sections × (p < sections .pots) × (length (now sheet) ≡ sheetLength) ⌝ }
-    ensures { λ _. ⌜ LimitsWritten (roundIn (now (file .entry)) sections) p (now (sheet .entry)) (now (sheet .exit)) × (length (now (sheet .exit)) ≡ sheetLength) ⌝ }
+    ensures { λ _. ⌜ LimitsWritten (roundIn (now (file .entry)) sections) p (now (sheet .entry)) (now (sheet .exit)) ⌝ }
 {
     let recs = parts::pots(file, sections);
     let years = sections.years;
@@ -94,7 +94,7 @@ fn fill_limits(file: &[u8], sections: Sections, p: usize, sheet: &mut Sheet)
 // The bids that enter the auction, among the first m, and how many these are.
 fn fill_entrants(m: usize, sheet: &mut Sheet) -> usize
     requires { ⌜ (m ≤ mostNumbers) × (length (now sheet) ≡ sheetLength) ⌝ }
-    ensures { λ r. ⌜ Entered m (now (sheet .entry)) (now (sheet .exit)) r × (length (now (sheet .exit)) ≡ sheetLength) ⌝ }
+    ensures { λ r. ⌜ Entered m (now (sheet .entry)) (now (sheet .exit)) r ⌝ }
 {
     let mut n: usize = 0;
     let mut k: usize = 0;

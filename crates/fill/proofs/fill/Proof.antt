@@ -13,13 +13,14 @@ use Rattle.fill.proofs.fill.Tie as tie
 
 fill-figures-requires : tie.Need-fill-figures-requires
 fill-figures-requires c κs =
+    let pre = c .before .before .before .before .pre in
     let rows = c .before .fill-rows .ensures in
-    ((c .before .before .before .before .pre .0 .0, rows .1), (rows .0 .right, λ j h. rows .0 .kept j h ∙ c .before .before .before .before .pre .1 .1 j))
+    ((pre .0 .0, rows .long), (rows .right, λ j h. rows .kept j h ∙ pre .1 .1 j))
 
 fill-limits-requires : tie.Need-fill-limits-requires
 fill-limits-requires c κs =
     let pre = c .before .before .before .before .before .before .pre in
-    (pre .0 .0, pre .0 .1, c .before .fill-figures .ensures .1)
+    (pre .0 .0, pre .0 .1, c .before .fill-figures .ensures .long)
 
 add-m : tie.Need-add-m
 add-m c =
@@ -29,7 +30,7 @@ add-m c =
 fill-entrants-requires : tie.Need-fill-entrants-requires
 fill-entrants-requires c κs =
     let pre = c .before .before .before .before .before .before .before .before .before .pre in
-    (omega (arith, pre .0 .0 .sound .bids-few, pre .0 .0 .sound .apps-few), c .before .before .fill-limits .ensures .1)
+    (omega (arith, pre .0 .0 .sound .bids-few, pre .0 .0 .sound .apps-few), c .before .before .fill-limits .ensures .long)
 
 returns : tie.Need-returns
 returns c =
@@ -43,8 +44,7 @@ returns c =
     let z = a .sections in
     let R = roundIn s z in
     let S = pre .0 .0 .sound in
-    let w = written refl (S .years-most) (fill-rows .ensures .0) (fill-figures .ensures .0) (fill-limits .ensures .0) (c .fill-entrants .ensures .0)
-    (c .fill-entrants .ensures .1) in
+    let w = written refl (S .years-most) (fill-rows .ensures) (fill-figures .ensures) (fill-limits .ensures) (c .fill-entrants .ensures) in
     let bytes = shared-slice-known .given in
     let byte = part-byte s (z .«applications_at» + countWidth) (z .«bids_at») (λ i. omega (arith, bytes i)) in
     ((shows R S (a .p) w, ready R S (a .p) byte (pre .0 .1) w), refl)

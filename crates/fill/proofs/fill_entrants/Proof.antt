@@ -47,7 +47,7 @@ loop-again c =
     )
 
 returns : tie.Need-returns Inv-loop μ-loop
-returns c = let inv = c .before .loop .inv in (entering-done _ (inv .0) (c .loop-test .left) (inv .2), inv .2 .same)
+returns c = let inv = c .before .loop .inv in entering-done _ (inv .0) (c .loop-test .left) (inv .2)
 
 pub fill-entrants-spec : {M : Type 1} → statement M
 fill-entrants-spec =

@@ -52,8 +52,8 @@ loop-again c =
     let inv = loop .inv in
     let few : loop .k < mostNumbers = omega (arith, loop-test .taken, S .bids-few, S .apps-few) in (
       omega (arith, loop-test .taken),
-      ⊎-elim (λ w. ap length (w .3) ∙ w .2 .ensures .1) (λ w. ap length (w .1) ∙ inv .1) (c .if1 .came),
-      ⊎-elim (λ w. done-own _ _ _ (inv .2) (w .3) (S .years-most) (w .2 .ensures .0))
+      ⊎-elim (λ w. ap length (w .3) ∙ w .2 .ensures .long) (λ w. ap length (w .1) ∙ inv .1) (c .if1 .came),
+      ⊎-elim (λ w. done-own _ _ _ (inv .2) (w .3) (S .years-most) (w .2 .ensures))
           (λ w. done-other _ _ _ (inv .2) (w .1) few (S .years-most) (pre .1 .1)
           (of-another _ _ _ (now (a .sheet)) (loop .sheet) few (pre .1 .0) (λ j h. inv .2 .rest j (omega (arith, few)))
           (c .before .standing .ensures) (w .0 .left)))
@@ -64,7 +64,7 @@ returns : tie.Need-returns Inv-loop μ-loop
 returns c =
     let S = c .before .before .before .before .pre .0 .0 .sound in
     let inv = c .before .loop .inv in
-    (done-all _ _ refl (omega (arith, S .bids-few, S .apps-few)) (inv .0) (c .loop-test .left) (inv .2), inv .1)
+    done-all _ _ refl (omega (arith, S .bids-few, S .apps-few)) (inv .0) (c .loop-test .left) (inv .2) (inv .1)
 
 pub fill-figures-spec : {M : Type 1} → statement M
 fill-figures-spec =

@@ -47,9 +47,9 @@ returns : tie.Need-returns Inv-loop μ-loop
 returns c =
     let a = c .before .before .before .before .args in
     let R = roundIn (now (a .file)) (a .sections) in
-    let right = limits-all R _ (c .before .loop .sheet) (c .before .before .pots .ensures) (c .before .loop .inv .0) (c .loop-test .left)
-    (c .before .loop .inv .2) in
-    (record { right = right; rest = c .before .loop .inv .3 }, c .before .loop .inv .1)
+    let l = c .before .loop in
+    let right = limits-all R _ (l .sheet) (c .before .before .pots .ensures) (l .inv .0) (c .loop-test .left) (l .inv .2) in
+    record { right = right; rest = l .inv .3; long = l .inv .1 }
 
 pub fill-limits-spec : {M : Type 1} → statement M
 fill-limits-spec =

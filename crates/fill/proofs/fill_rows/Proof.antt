@@ -44,7 +44,8 @@ returns c =
     let a = c .before .before .before .args in
     let R = roundIn (now (a .file)) (a .sections) in
     let l = c .before .loop in
-    (record { right = all-of (λ n. RowsRight R (a .p) n (l .sheet)) (l .inv .2) (l .inv .0) (c .loop-test .left); kept = l .inv .3 }, l .inv .1)
+    let right = all-of (λ n. RowsRight R (a .p) n (l .sheet)) (l .inv .2) (l .inv .0) (c .loop-test .left) in
+    record { right = right; kept = l .inv .3; long = l .inv .1 }
 
 pub fill-rows-spec : {M : Type 1} → statement M
 fill-rows-spec =

@@ -98,16 +98,15 @@ returns c =
     let bid-of = c .before .before .before .bid-of in
     let pre = c .before .before .before .before .before .pre in
     let R = roundIn (now (a .file)) (a .sections) in
-    let all = all-of (λ n. Figured R (c .before .before .application-of .result .technology) (bidShown (bid-of .result)) (a .k) n
-    (c .before .loop .sheet)) (c .before .loop .inv .2) (c .before .loop .inv .0)
-    (c .loop-test .left) in (
-      record {
-        right = figures-own R (a .p) (a .k) (c .before .loop .sheet) (pre .1) (bid-of .ensures) (c .before .before .application-of .ensures) all;
-        kept = c .before .loop .inv .3;
-        rest = λ j h. c .before .loop .inv .4 j (omega (arith, c .before .loop .inv .0, pre .0 .0 .sound .years-most));
-      },
-      c .before .loop .inv .1,
-    )
+    let l = c .before .loop in
+    let t = c .before .before .application-of .result .technology in
+    let all = all-of (λ n. Figured R t (bidShown (bid-of .result)) (a .k) n (l .sheet)) (l .inv .2) (l .inv .0) (c .loop-test .left) in
+    record {
+      right = figures-own R (a .p) (a .k) (l .sheet) (pre .1) (bid-of .ensures) (c .before .before .application-of .ensures) all;
+      kept = l .inv .3;
+      rest = λ j h. l .inv .4 j (omega (arith, l .inv .0, pre .0 .0 .sound .years-most));
+      long = l .inv .1;
+    }
 
 pub fill-years-spec : {M : Type 1} → statement M
 fill-years-spec =
