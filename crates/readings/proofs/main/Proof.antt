@@ -1,36 +1,34 @@
--- `readings::main` is safe and ends. The measure is the number of turns that are left.
--- Nothing has to hold from turn to turn, so the invariant is `Unit {0}`, the fact that says nothing, which `tt` shows.
--- Assumes nothing.
+-- `readings::main` is safe and ends: each file is within the room that is lent. The measure is the number of turns that are left. Assumes nothing.
+use Prim.Native.Nat.{_≤_}
+use mathlib.Core.Path.{_≡_, subst}
 use native.Mathlib.Omega.{arith}
+use lib.ListN.{length, length-take}
+use borrow.Author.Needs.{needs}
+use Rattle.cases.specs.Cases.{room, Within}
 use Rattle.readings.proofs.main.Statement.{statement}
 use Rattle.readings.proofs.main.Tie as tie
 
 abbrev Inv-loop : tie.InvT-loop
-Inv-loop turns₀ turns = Unit {0}
+Inv-loop file₀ turns₀ file turns = room ≡ length file
 
 abbrev μ-loop : tie.MeasureT-loop
-μ-loop turns₀ turns = turns
-
-loop-holds : tie.Need-loop-holds Inv-loop μ-loop
-loop-holds c = tt
-
-next-requires : tie.Need-next-requires Inv-loop μ-loop
-next-requires c κs = tt
-
-sub-turns : tie.Need-sub-turns Inv-loop μ-loop
-sub-turns c = omega arith
-
-loop-less : tie.Need-loop-less Inv-loop μ-loop
-loop-less c = omega arith
-
-loop-again : tie.Need-loop-again Inv-loop μ-loop
-loop-again c = tt
+μ-loop file₀ turns₀ file turns = turns
 
 returns : tie.Need-returns Inv-loop μ-loop
 returns c = tt
+
+array-share-prefix-file : tie.Need-array-share-prefix-file Inv-loop μ-loop
+unfolding Within
+array-share-prefix-file c = omega (arith, subst Within (c .before .got .given .1) (c .before .before .before .before .next .ensures))
+
+slice-aggregate-read : tie.Need-slice-aggregate-read Inv-loop μ-loop
+slice-aggregate-read c = simp length-take (omega (arith, array-share-prefix-file (c .before)))
 
 returns-2 : tie.Need-returns-2 Inv-loop μ-loop
 returns-2 c = tt
 
 pub main-spec : {M : Type 1} → statement M
-main-spec = tie.close (tie.spec Inv-loop μ-loop loop-holds next-requires sub-turns loop-less loop-again returns returns-2)
+main-spec =
+    tie.close (tie.spec Inv-loop μ-loop (λ c κs. search needs) (λ c. search needs) (λ c. search needs) (λ c κs. search needs) (λ c. search needs)
+    (λ c. search needs) returns array-share-prefix-file slice-aggregate-read (λ c κs. search needs) (λ c κs. search needs) (λ c. search needs)
+    (λ c. search needs) (λ c. search needs) returns-2)
