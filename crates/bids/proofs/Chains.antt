@@ -39,7 +39,8 @@ free-more recs a r k f n = record {
 }
 
 -- what a link tells: of bid k, where it is of the application; and of the application
-pub free-next : (recs previous : List ℕ) (i k a : ℕ) {r : ℕ} → Previous recs previous i → k < i → bidAt recs k .app ≡ a → r ≡ getD previous k k → Free recs a r k
+pub free-next : (recs previous : List ℕ) (i k a : ℕ) {r : ℕ} → Previous recs previous i → k < i → bidAt recs k .app ≡ a → r ≡ getD previous k k
+    → Free recs a r k
 free-next recs previous i k a {r} b h e p = subst (λ (x : ℕ). Free recs x r k) e (subst (λ (x : ℕ). Free recs (bidAt recs k .app) x k) (sym p) (b .each k h))
 
 pub free-first : (recs latest : List ℕ) (i b : ℕ) {a r : ℕ} → Latest recs latest i → a ≡ b → r ≡ getD latest a i → Free recs b r i
@@ -47,7 +48,8 @@ free-first recs latest i b {a} {r} l e p = subst (λ (x : ℕ). Free recs x r i)
 
 -- ---- bid i is accepted
 
-pub latest-next : (recs latest : List ℕ) (i a : ℕ) {l : List ℕ} → Latest recs latest i → a ≡ bidAt recs i .app → l ≡ set latest a (i + 1) → Latest recs l (i + 1)
+pub latest-next : (recs latest : List ℕ) (i a : ℕ) {l : List ℕ} → Latest recs latest i → a ≡ bidAt recs i .app → l ≡ set latest a (i + 1)
+    → Latest recs l (i + 1)
 latest-next recs latest i a f e p = rw p (record { each = λ b. at b (decLt b (length latest)) (ℕ-discrete b a) })
   where
     at : (b : ℕ) → Dec (b < length latest) → Dec (b ≡ a) → Free recs b (getD (set latest a (i + 1)) b (i + 1)) (i + 1)
@@ -128,7 +130,8 @@ walk-start recs i left f = record {
   prices = λ j h l e. f .none j h l (e .0);
 }
 
-pub walk-on : (recs : List ℕ) (i left r of-app of-year : ℕ) {p n m : ℕ} → Walked recs i left of-app of-year → 0 < left → Free recs (bidAt recs i .app) r (left - 1)
+pub walk-on : (recs : List ℕ) (i left r of-app of-year : ℕ) {p n m : ℕ} → Walked recs i left of-app of-year → 0 < left
+    → Free recs (bidAt recs i .app) r (left - 1)
     → p ≡ given (samePrice? recs (left - 1) i) 1 0 → (p ≡ 1 → ⊥)
     → (n ≡ given (sameApp? (alone recs i) (left - 1) i) 1 0) × (n ≤ 1) → (m ≡ given (sameYear? (alone recs i) (left - 1) i) 1 0) × (m ≤ 1)
     → Walked recs i r (of-app + n) (of-year + m)
@@ -141,11 +144,13 @@ walk-on recs i left r of-app of-year w h f p z n m = record {
   prices = λ j a b e. at j a b e (decLt j left) (ℕ-discrete j (left - 1));
 }
   where
-    at : (j : ℕ) → r ≤ j → j < i → (bidAt recs j .app ≡ bidAt recs i .app) × (bidAt recs j .price ≡ bidAt recs i .price) → Dec (j < left) → Dec (j ≡ left - 1) → ⊥
+    at : (j : ℕ) → r ≤ j → j < i → (bidAt recs j .app ≡ bidAt recs i .app) × (bidAt recs j .price ≡ bidAt recs i .price) → Dec (j < left)
+        → Dec (j ≡ left - 1) → ⊥
     at j a b e (no l) q = w .prices j (omega arith) b e
     at j a b e (yes l) (no q) = f .none j a (omega arith) (e .0)
     at j a b e (yes l) (yes q) =
-        not-one (samePrice? recs (left - 1) i) p z (subst (λ (x : ℕ). (bidAt recs x .app ≡ bidAt recs i .app) × (bidAt recs x .price ≡ bidAt recs i .price)) q e)
+        not-one (samePrice? recs (left - 1) i) p z
+        (subst (λ (x : ℕ). (bidAt recs x .app ≡ bidAt recs i .app) × (bidAt recs x .price ≡ bidAt recs i .price)) q e)
 
 -- an earlier bid of the application is at the price
 pub eight-found : (recs : List ℕ) (i k : ℕ) {p : ℕ} → k < i → p ≡ given (samePrice? recs k i) 1 0 → p ≡ 1

@@ -26,14 +26,16 @@ held-is s g b ey et ea e p q l =
     e ∙ (λ j. judgeOf b (p′ j) (q′ j) (l′ j))
 
 -- the application is in the file and the year a delivery year: the rest of rule 7 is asked
-pub rest-asked : (s recs : List ℕ) (g : Sections) (i : ℕ) {r : ℕ} {b : Bid} → r ≡ heldOf s g b → b ≡ bidAt recs i → b .app < g .applications → b .year < g .deliveries
+pub rest-asked : (s recs : List ℕ) (g : Sections) (i : ℕ) {r : ℕ} {b : Bid} → r ≡ heldOf s g b → b ≡ bidAt recs i → b .app < g .applications
+    → b .year < g .deliveries
     → r ≡ sevenOf (tablesOf s recs g) i
 unfolding heldOf judgeOf sevenOf
 rest-asked s recs g i e p l h =
     e ∙ ap (heldOf s g) p ∙ same-rule _ _ _ (λ w. (rw p at l, (rw p at h, w))) (λ w. w .1 .1)
 
 -- the technology of an application that was read
-pub tech-known : (s : List ℕ) (g : Sections) {a : App} (n : ℕ) {apps : List ℕ} → TablesRight s g → apps ≡ applicationsIn s g → a ≡ appAt apps n → n < g .applications
+pub tech-known : (s : List ℕ) (g : Sections) {a : App} (n : ℕ) {apps : List ℕ} → TablesRight s g → apps ≡ applicationsIn s g → a ≡ appAt apps n
+    → n < g .applications
     → a .tech < g .technologies
 tech-known s g n T ea p l = rw (p ∙ ap (λ (x : List ℕ). appAt x n) ea) (T .tech n l)
 

@@ -24,7 +24,8 @@ use Rattle.file.specs.Reads.{ends, withPots, withTechs, withApps, withBi
 -- ---- a section by its count and its records
 
 -- the count at `at` was judged and has no fault
-pub counted : (s : List ℕ) (at low high : ℕ) {f : ℕ} → f ≡ countFault s at low high → f ≡ 0 → (at + countWidth ≤ length s) × ((low ≤ le countWidth s at) × (le countWidth s at ≤ high))
+pub counted : (s : List ℕ) (at low high : ℕ) {f : ℕ} → f ≡ countFault s at low high → f ≡ 0
+    → (at + countWidth ≤ length s) × ((low ≤ le countWidth s at) × (le countWidth s at ≤ high))
 unfolding countFault
 counted s at low high e z =
     let a = holds _ _ _ (sym e ∙ z) (λ q. omega arith) in
@@ -40,7 +41,8 @@ pub whole : (s : List ℕ) (a e : ℕ) {l : List ℕ} → l ≡ part s a e → a
 whole s a e q h k = ap length q ∙ part-length s a e h k
 
 -- A section T after those that are right. The sections so far are g, and are to be h; `at` and `width` say where T's count stands, and how wide its records are
-module _ (s : List ℕ) {Ts : List Table} (a : AllRight s Ts) (T : Table) (q : Reading) (at width : Sections → ℕ) {g h : Sections} (i : g ≡ h) (here : at h ≡ T .at)
+module _ (s : List ℕ) {Ts : List Table} (a : AllRight s Ts) (T : Table) (q : Reading) (at width : Sections → ℕ) {g h : Sections} (i : g ≡ h)
+    (here : at h ≡ T .at)
     {f : ℕ} (e : f ≡ countFault s (at g) (T .low) (T .high)) where
   fault-is : f ≡ countIs s T
   fault-is = e ∙ ap (λ (x : Sections). countFault s (at x) (T .low) (T .high)) i ∙ ap (λ (x : ℕ). countFault s x (T .low) (T .high)) here
@@ -57,7 +59,8 @@ module _ (s : List ℕ) {Ts : List Table} (a : AllRight s Ts) (T : Table) (q : R
   pub next-read : (F : Sections → (n next : ℕ) → List ℕ → Reading)
       → F h (le countWidth s (at h)) (ends (at h) (le countWidth s (at h)) (width h)) (part s (at h + countWidth) (ends (at h) (le countWidth s (at h)) (width h)))
       ≡ scan (recordIs s T) (T .width) (T .at + countWidth) 0 (says s T) q
-      → f ≡ 0 → {n next : ℕ} {l : List ℕ} {r : Reading} → n ≡ le countWidth s (at g) → next ≡ ends (at g) n (width g) → l ≡ part s (at g + countWidth) next → r ≡ F g n next l
+      → f ≡ 0 → {n next : ℕ} {l : List ℕ} {r : Reading} → n ≡ le countWidth s (at g) → next ≡ ends (at g) n (width g)
+      → l ≡ part s (at g + countWidth) next → r ≡ F g n next l
       → r ≡ judgesAll s Ts (judges s T q)
   unfolding section
   next-read F same z {n} p m l r =
@@ -98,7 +101,8 @@ module _ (s : List ℕ) where
   unfolding roundOf sections
   apps-known r = known s (apps (roundOf s)) r refl
 
-  bids-known : Right s (bids (roundOf s)) → (roundOf s .b ≤ mostBids) × (endAt (roundOf s .y) (roundOf s .p) (roundOf s .t) (roundOf s .n) (roundOf s .b) ≤ length s)
+  bids-known : Right s (bids (roundOf s))
+      → (roundOf s .b ≤ mostBids) × (endAt (roundOf s .y) (roundOf s .p) (roundOf s .t) (roundOf s .n) (roundOf s .b) ≤ length s)
   unfolding roundOf sections
   bids-known r = known s (bids (roundOf s)) r refl
 
@@ -113,7 +117,8 @@ module _ (s : List ℕ) {f : ℕ} (e : f ≡ countFault s 0 1 mostYears) where
       → r ≡ yearsOf l n countWidth → r ≡ readYears s
   unfolding readYears yearsOf roundOf sections
   years-read z p q r =
-      next-read s none (years (roundOf s)) (Accepted (afterYears s)) (λ x. 0) (λ x. yearWidth) {g = afterYears s} refl refl e (λ x n next l. yearsOf l n countWidth) refl z p refl q r
+      next-read s none (years (roundOf s)) (Accepted (afterYears s)) (λ x. 0) (λ x. yearWidth) {g = afterYears s} refl refl e
+      (λ x n next l. yearsOf l n countWidth) refl z p refl q r
 
 -- ---- the pots, after the years
 
@@ -175,7 +180,8 @@ module _ (s : List ℕ) {g : Sections} (h : readPots s ≡ Accepted g) where
     techs-read z p m q r =
         let a = goes s (toPots (roundOf s)) (afterPots s) h in
         next-read s (a .0) (techs (roundOf s)) (Accepted (afterTechs s)) (λ x. x .«technologies_at») (λ x. techWidth (x .years)) (a .1) refl e
-        (λ x n next l. techsOf l (x .«technologies_at» + countWidth) (withTechs x n next)) refl z p (ap (λ (x : ℕ). g .«technologies_at» + countWidth + x) m) q r
+        (λ x n next l. techsOf l (x .«technologies_at» + countWidth) (withTechs x n next)) refl z p
+        (ap (λ (x : ℕ). g .«technologies_at» + countWidth + x) m) q r
 
 -- ---- the applications, after the technologies
 
@@ -302,7 +308,8 @@ module _ (s : List ℕ) {g : Sections} (h : readBids s ≡ Accepted g) where
       sym (faulty s (after (a .0) (omega arith) refl e))
 
   -- 11: there are none, and the lowest bids are asked
-  pub lowest-read : {l : List ℕ} {r : Reading} → length s ≤ g .«bids_at» + countWidth + g .bids * bidWidth → l ≡ part s (g .«bids_at» + countWidth) (g .«bids_at» + countWidth + g .bids * bidWidth)
+  pub lowest-read : {l : List ℕ} {r : Reading} → length s ≤ g .«bids_at» + countWidth + g .bids * bidWidth
+      → l ≡ part s (g .«bids_at» + countWidth) (g .«bids_at» + countWidth + g .bids * bidWidth)
       → r ≡ lowestOf l (g .«bids_at» + countWidth) g → r ≡ reading s
   unfolding readBids reading judged lowestOf elevenOf roundOf sections sectionsOf
   lowest-read l q r =

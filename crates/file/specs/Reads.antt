@@ -23,7 +23,8 @@ withApps g n next = laidOut (g .years) (g .deliveries) (g .pots) (g .technologie
 
 abbrev pub withBids : Sections → (n : ℕ) → Sections
 withBids g n =
-    laidOut (g .years) (g .deliveries) (g .pots) (g .technologies) (g .applications) n (g .«pots_at») (g .«technologies_at») (g .«applications_at») (g .«bids_at»)
+    laidOut (g .years) (g .deliveries) (g .pots) (g .technologies) (g .applications) n (g .«pots_at») (g .«technologies_at») (g .«applications_at»)
+    (g .«bids_at»)
 
 -- where a section's n records of a width end, after its count at `at`
 abbrev pub ends : (at n width : ℕ) → ℕ

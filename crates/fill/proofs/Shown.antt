@@ -150,7 +150,8 @@ module _ (R : Round) (S : Sound R) (p : ℕ) {sheet : List ℕ} {n : ℕ} (W : W
   unfolding sheetCost costOf exactParts
   cost-in k price z h l =
       rw (admin-is k, reference-is k z h l, energy-is k z h l, share-is k z h l)
-      (same-parts (min price (rowOf R p k .admin) - rowOf R p k .reference z) (rowOf R p k .load z) (energyOf (R .years) (rowOf R p k .bid) z) (whole - yearAt (R .years) z .tlm) (rowOf R p k .rqm))
+      (same-parts (min price (rowOf R p k .admin) - rowOf R p k .reference z) (rowOf R p k .load z) (energyOf (R .years) (rowOf R p k .bid) z)
+      (whole - yearAt (R .years) z .tlm) (rowOf R p k .rqm))
 
   cost-beyond : (k price z : ℕ) → R .b + R .n ≤ k → sheetCost sheet k price z ≡ costOf (R .years) (rowOf R p k) price z
   unfolding sheetCost costOf rowOf
@@ -249,14 +250,16 @@ module _ (R : Round) (S : Sound R) (p : ℕ) (bytes : (i : ℕ) → getD (R .app
   unfolding energyOf
   energy-in k z h =
       let b = bounded k in
-      energy-most (b .load z h) (hours-most z (rowOf R p k .bid .year) (rowOf R p k .bid .days) (yearAt (R .years) z .days) (b .days) (S .year z h .days-most)) (b .capacity) .1
+      energy-most (b .load z h)
+      (hours-most z (rowOf R p k .bid .year) (rowOf R p k .bid .days) (yearAt (R .years) z .days) (b .days) (S .year z h .days-most)) (b .capacity) .1
 
   module _ (h : p < R .p) {sheet : List ℕ} {n : ℕ} (W : Written R p sheet n) where
     apart : (c d : ℕ) → c < R .b + R .n → d < R .b + R .n → inAuction sheet c ≡ true → inAuction sheet d ≡ true
         → rowPrice sheet c ≡ rowPrice sheet d → rowDraw sheet c ≡ rowDraw sheet d → c ≡ d
     unfolding potIn
     apart c d i j t u =
-        subst Lawful (sym (shows R S p W)) (lawful R p S) .apart c d (in-sift (inAuction sheet) (in-below c (R .b + R .n) i) t) (in-sift (inAuction sheet) (in-below d (R .b + R .n) j) u)
+        subst Lawful (sym (shows R S p W)) (lawful R p S) .apart c d (in-sift (inAuction sheet) (in-below c (R .b + R .n) i) t)
+        (in-sift (inAuction sheet) (in-below d (R .b + R .n) j) u)
 
     pub ready : Ready sheet (sizeOf R n)
     ready = record {

@@ -179,7 +179,8 @@ module _ (R : Round) (S : Sound R) (t y : ℕ) (h : t < R .t) (l : y < R .y) {ye
   pub rqm-most : {x : ℕ} → x ≡ techAt (R .y) techs t .rqm → x ≤ whole
   rqm-most e = rw (read-in (λ s. techAt (R .y) s t .rqm) et e) (S .tech t h .rqm)
 
-pub figure-is : (R : Round) (t y : ℕ) (b : Bid) {years techs : List ℕ} {reference load rqm days tlm hours energy share : ℕ} → years ≡ R .years → techs ≡ R .techs
+pub figure-is : (R : Round) (t y : ℕ) (b : Bid) {years techs : List ℕ} {reference load rqm days tlm hours energy share : ℕ} → years ≡ R .years
+    → techs ≡ R .techs
     → reference ≡ techAt (R .y) techs t .reference y → load ≡ techAt (R .y) techs t .load y → rqm ≡ techAt (R .y) techs t .rqm → days ≡ yearAt years y .days
     → tlm ≡ yearAt years y .tlm → hours ≡ hoursOf y (b .year) (b .days) days → energy ≡ load * (hours * b .capacity) → share ≡ (whole - tlm) * rqm
     → reference ∷ energy ∷ share ∷ [] ≡ figuresIn R t b y

@@ -13,7 +13,7 @@ ghost use Prim.Native.Nat.{_+_, _-_, _*_, _≤_, _<_};
 ghost use lib.ListN.{length};
 ghost use Rattle.rules.specs.Names.{bidWidth, whole, longYear, largestCapacity, dayHours};
 ghost use Rattle.rules.specs.Lists.{pick};
-ghost use Rattle.rules.specs.Value.{hoursOf, mostEnergy, mostShare};
+ghost use Rattle.rules.specs.Value.{hoursOf};
 ghost use Rattle.rules.specs.File.{techAt, appAt};
 ghost use Rattle.rules.specs.Round.{automatic, bidOf, enters, mine};
 ghost use Rattle.layout.specs.Layout.{applicationShown, bidShown};

@@ -1,9 +1,7 @@
 -- `listings::main` is safe and ends: each file is within the room that is lent. The measure is the number of turns that are left. Assumes nothing.
-use Prim.Native.Nat.{_≤_}
 use mathlib.Core.Path.{_≡_, subst}
 use native.Mathlib.Omega.{arith}
 use lib.ListN.{length, length-take}
-use borrow.Author.Needs.{needs}
 use Rattle.cases.specs.Cases.{room, Within}
 use Rattle.listings.proofs.main.Statement.{statement}
 use Rattle.listings.proofs.main.Tie as tie

@@ -1,6 +1,5 @@
 -- `rows::mine` meets its contract: the bid is one of the round's, and its technology stands in the pot.
 use borrow.Author.Needs.{needs}
-use native.Mathlib.Omega.{arith}
 use mathlib.Core.Path.{sym}
 use Rattle.round_laws.specs.Bids.{mine-out}
 use Rattle.rows.proofs.Laws.{good, its-tech, mine-is}

@@ -1,6 +1,5 @@
 -- `show::tables::budgets` is safe and ends: each number stands in the record. Assumes nothing.
 use Prim.Native.Nat.{_≤_, _-_}
-use native.Mathlib.Omega.{arith}
 use borrow.Author.Needs.{needs}
 use Rattle.show.proofs.tables.budgets.Statement.{statement}
 use Rattle.show.proofs.tables.budgets.Tie as tie

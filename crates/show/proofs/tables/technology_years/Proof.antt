@@ -1,6 +1,5 @@
 -- `show::tables::technology_years` is safe and ends: each number stands in the record. Assumes nothing.
 use Prim.Native.Nat.{_≤_, _-_}
-use native.Mathlib.Omega.{arith}
 use borrow.Author.Needs.{needs}
 use Rattle.show.proofs.tables.technology_years.Statement.{statement}
 use Rattle.show.proofs.tables.technology_years.Tie as tie
