@@ -64,7 +64,7 @@ module _ (sheet : List ℕ) (of : Size) (ok : Ready sheet of) where
     abbrev ws : List ℕ
     ws = winners (auction P)
 
-    marked-won : (a k : ℕ) → k < of .bids → wonFor sheet (s .reasons) a k ≡ (inAuction sheet k && (eqb (rowApp sheet k) a && memb k ws))
+    marked-won : (a k : ℕ) → k < of .bids → wonFor sheet (s .marks) a k ≡ (inAuction sheet k && (eqb (rowApp sheet k) a && memb k ws))
     marked-won a k h =
         case (inAuction sheet k)
         (λ t. rw (t, R .one k (bid k h t)))
@@ -75,21 +75,21 @@ module _ (sheet : List ℕ) (of : Size) (ok : Ready sheet of) where
         no false = refl
 
     -- the winners of an application, as the arrays have them
-    its-winners : (a : ℕ) → sift (wonFor sheet (s .reasons) a) (below (of .bids)) ≡ winnersOf P a
+    its-winners : (a : ℕ) → sift (wonFor sheet (s .marks) a) (below (of .bids)) ≡ winnersOf P a
     its-winners a =
-        sift-same (wonFor sheet (s .reasons) a) (λ k. inAuction sheet k && (eqb (rowApp sheet k) a && memb k ws)) (below (of .bids)) (λ k i. marked-won a k (below-in k (of .bids) i))
+        sift-same (wonFor sheet (s .marks) a) (λ k. inAuction sheet k && (eqb (rowApp sheet k) a && memb k ws)) (below (of .bids)) (λ k i. marked-won a k (below-in k (of .bids) i))
         ∙ sym (sift-both (λ k. eqb (rowApp sheet k) a && memb k ws) (inAuction sheet) (below (of .bids))) ∙ opened
       where
         opened : sift (λ k. eqb (rowApp sheet k) a && memb k ws) (sift (inAuction sheet) (below (of .bids))) ≡ winnersOf P a
         opened = unfold potIn winnersOf in refl
 
-    bid-told : (a : ℕ) → a < mostApps → getD (winningOf sheet (s .reasons) (of .bids)) a 0 ≡ bidOr (winnersOf P a)
-    bid-told a h = winning-at sheet (s .reasons) (of .bids) a (ok .app) h ∙ ap bidOr (its-winners a)
+    bid-told : (a : ℕ) → a < mostApps → getD (winningOf sheet (s .marks) (of .bids)) a 0 ≡ bidOr (winnersOf P a)
+    bid-told a h = winning-at sheet (s .marks) (of .bids) a (ok .app) h ∙ ap bidOr (its-winners a)
 
     -- what a winner is paid
-    paid-told : (a : ℕ) → a < mostApps → getD (paidOf sheet of (s .prices) (winningOf sheet (s .reasons) (of .bids))) a 0 ≡ paidOr P (winnersOf P a)
+    paid-told : (a : ℕ) → a < mostApps → getD (paidOf sheet of (s .prices) (winningOf sheet (s .marks) (of .bids))) a 0 ≡ paidOr P (winnersOf P a)
     paid-told a h =
-        fill-at noPay (λ a. payOf sheet of (s .prices) (getD (winningOf sheet (s .reasons) (of .bids)) a 0)) 64 a 0 size h
+        fill-at noPay (λ a. payOf sheet of (s .prices) (getD (winningOf sheet (s .marks) (of .bids)) a 0)) 64 a 0 size h
         ∙ ap (payOf sheet of (s .prices)) (bid-told a h) ∙ go (winnersOf P a) refl
       where
         size : 64 ≤ length noPay
@@ -124,10 +124,10 @@ module _ (sheet : List ℕ) (of : Size) (ok : Ready sheet of) where
             opened w = unfold paid potIn in refl
 
     -- the reason of a bid
-    reason-told : (k : ℕ) → In k (P .bids) → getD (reasonsOf sheet (s .reasons) (s .won) (of .bids)) k 0 ≡ auctionReason P (auction P) k
+    reason-told : (k : ℕ) → In k (P .bids) → getD (reasonsOf sheet (s .marks) (s .won) (of .bids)) k 0 ≡ auctionReason P (auction P) k
     unfolding reasonAt reasonBy auctionReason unlookedReason
     reason-told k i =
-        fill-at noReasons (reasonAt sheet (s .reasons) (s .won)) (of .bids) k 0 (size (ok .few)) (bid-lt k i)
+        fill-at noReasons (reasonAt sheet (s .marks) (s .won)) (of .bids) k 0 (size (ok .few)) (bid-lt k i)
         ∙ case (memb k (seen (auction P)))
         (λ t. rw (t, R .fresh k i) (rw t (R .why k i)))
         (λ f. rw (f, R .fresh k i) (rw f (app-won (R .has (rowApp sheet k) (ok .app k (bid-lt k i))))))
@@ -142,9 +142,9 @@ module _ (sheet : List ℕ) (of : Size) (ok : Ready sheet of) where
     total-told : Summed sheet of s → (z : ℕ) → z < of .years → getD (s .totals) z 0 ≡ total P ws z
     total-told Q z g =
         ap (λ (l : List ℕ). getD l z 0) (Q .row) ∙ link.row-at sheet of ok (yearSum (s .sums)) z g ∙ sum-total (Q .parts) z g ok others
-        ∙ sym (link.row-at sheet of ok (λ z. totalOf sheet (s .reasons) (s .prices) z (of .bids)) z g) ∙ held.row-at sheet of ok ws s (held.holds-rep R) z g
+        ∙ sym (link.row-at sheet of ok (λ z. totalOf sheet (s .marks) (s .prices) z (of .bids)) z g) ∙ held.row-at sheet of ok ws s (held.holds-rep R) z g
       where
-        others : (k : ℕ) → k < of .bids → inAuction sheet k ≡ false → eqb (getD (s .reasons) k 0) becauseWon ≡ false
+        others : (k : ℕ) → k < of .bids → inAuction sheet k ≡ false → eqb (getD (s .marks) k 0) becauseWon ≡ false
         others k h f = rw (R .other k (link.small sheet of ok k h) (link.not-bid sheet of ok k f))
 
     -- all of it

@@ -63,8 +63,8 @@ pub row-there : (sheet : List ℕ) (of : Size) (k : ℕ) → Ready sheet of → 
 row-there sheet of k ok h = omega (arith, ok .few)
 
 -- the parts of what is told in outcome 1, put together
-pub told-is : (sheet : List ℕ) (of : Size) (s : PotState) {reasons bids paid : List ℕ} → reasons ≡ reasonsOf sheet (s .reasons) (s .won) (of .bids)
-    → bids ≡ winningOf sheet (s .reasons) (of .bids) → paid ≡ paidOf sheet of (s .prices) bids
+pub told-is : (sheet : List ℕ) (of : Size) (s : PotState) {reasons bids paid : List ℕ} → reasons ≡ reasonsOf sheet (s .marks) (s .won) (of .bids)
+    → bids ≡ winningOf sheet (s .marks) (of .bids) → paid ≡ paidOf sheet of (s .prices) bids
     → _≡_ {A = Cleared} (record { outcome = 1; prices = s .prices; totals = s .totals; reasons = reasons; bids = bids; paid = paid }) (toldOf sheet of s)
 unfolding toldOf
 told-is sheet of s e2 e3 e4 = λ i. record {

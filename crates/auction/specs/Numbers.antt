@@ -57,7 +57,7 @@ toldOf sheet of s = record {
   outcome = auctioned;
   prices = s .prices;
   totals = s .totals;
-  reasons = reasonsOf sheet (s .reasons) (s .won) (of .bids);
-  bids = winningOf sheet (s .reasons) (of .bids);
-  paid = paidOf sheet of (s .prices) (winningOf sheet (s .reasons) (of .bids));
+  reasons = reasonsOf sheet (s .marks) (s .won) (of .bids);
+  bids = winningOf sheet (s .marks) (of .bids);
+  paid = paidOf sheet of (s .prices) (winningOf sheet (s .marks) (of .bids));
 }

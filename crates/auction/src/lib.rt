@@ -26,7 +26,7 @@ pub struct Cleared {
 fn reason(mark: u16, won: bool) -> u64
     ensures { λ r. ⌜ r ≡ reasonBy mark won ⌝ }
 {
-    if mark != pot::FRESH {
+    if mark != totals::marks::FRESH {
         return mark as u64;
     }
     if won {
@@ -61,7 +61,7 @@ fn winning(sheet: &Sheet, of: Size, marks: [u16; NUMBERS]) -> [u64; 64]
     let m = of.bids;
     let mut k: usize = 0;
     while k < m {
-        if marks[k] == totals::WON {
+        if marks[k] == totals::marks::WON {
             let a = sheet::app(sheet, k);
             out[a] = k as u64;
         }
@@ -115,7 +115,7 @@ fn told(sheet: &Sheet, of: Size, s: PotState) -> Cleared
     requires { ⌜ Ready (now sheet) of ⌝ }
     ensures { λ r. ⌜ r ≡ toldOf (now (sheet .entry)) of s ⌝ }
 {
-    let marks = s.reasons;
+    let marks = s.marks;
     let won = s.won;
     let prices = s.prices;
     let totals = s.totals;

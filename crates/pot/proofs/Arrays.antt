@@ -28,18 +28,18 @@ module _ (sheet : List ℕ) (p : ℕ) (s : PotState) (S : Sizes s) where
   win-sizes (i ∷ l) =
       let t = win-sizes l in
       record {
-        reasons = length-set ((winAll sheet p s l) .reasons) i 1 ∙ t .reasons;
+        marks = length-set ((winAll sheet p s l) .marks) i 1 ∙ t .marks;
         won = length-set ((winAll sheet p s l) .won) (rowApp sheet i) true ∙ t .won;
         opened = t .opened;
         prices = length-set ((winAll sheet p s l) .prices) (rowYear sheet i) p ∙ t .prices;
       }
 
-  pub win-reasons : (l : List ℕ) (b : ℕ) → ((i : ℕ) → In i l → i < 320) → getD ((winAll sheet p s l) .reasons) b 0 ≡ pick (memb b l) 1 (getD (s .reasons) b 0)
+  pub win-marks : (l : List ℕ) (b : ℕ) → ((i : ℕ) → In i l → i < 320) → getD ((winAll sheet p s l) .marks) b 0 ≡ pick (memb b l) 1 (getD (s .marks) b 0)
   unfolding winAll winOf
-  win-reasons [] b h = refl
-  win-reasons (i ∷ l) b h =
-      put-is ((winAll sheet p s l) .reasons) i b 1 0 (omega (arith, win-sizes l .reasons, h i (here refl)))
-      ∙ ap (pick (eqb b i) 1) (win-reasons l b (λ k j. h k (there j))) ∙ pick-or (eqb b i) (memb b l) 1 (getD (s .reasons) b 0)
+  win-marks [] b h = refl
+  win-marks (i ∷ l) b h =
+      put-is ((winAll sheet p s l) .marks) i b 1 0 (omega (arith, win-sizes l .marks, h i (here refl)))
+      ∙ ap (pick (eqb b i) 1) (win-marks l b (λ k j. h k (there j))) ∙ pick-or (eqb b i) (memb b l) 1 (getD (s .marks) b 0)
 
   pub win-won : (l : List ℕ) (k : ℕ) → ((i : ℕ) → In i l → rowApp sheet i < 64) → getD ((winAll sheet p s l) .won) k false ≡ (memb k (map (rowApp sheet) l) || getD (s .won) k false)
   unfolding winAll winOf
@@ -70,18 +70,18 @@ module _ (sheet : List ℕ) (v : ℕ) (s : PotState) (S : Sizes s) where
   turn-sizes (i ∷ l) =
       let t = turn-sizes l in
       record {
-        reasons = length-set ((turnAll sheet v s l) .reasons) i v ∙ t .reasons;
+        marks = length-set ((turnAll sheet v s l) .marks) i v ∙ t .marks;
         won = t .won;
         opened = length-set ((turnAll sheet v s l) .opened) (rowYear sheet i) false ∙ t .opened;
         prices = t .prices;
       }
 
-  pub turn-reasons : (l : List ℕ) (b : ℕ) → ((i : ℕ) → In i l → i < 320) → getD ((turnAll sheet v s l) .reasons) b 0 ≡ pick (memb b l) v (getD (s .reasons) b 0)
+  pub turn-marks : (l : List ℕ) (b : ℕ) → ((i : ℕ) → In i l → i < 320) → getD ((turnAll sheet v s l) .marks) b 0 ≡ pick (memb b l) v (getD (s .marks) b 0)
   unfolding turnAll turnOf
-  turn-reasons [] b h = refl
-  turn-reasons (i ∷ l) b h =
-      put-is ((turnAll sheet v s l) .reasons) i b v 0 (omega (arith, turn-sizes l .reasons, h i (here refl)))
-      ∙ ap (pick (eqb b i) v) (turn-reasons l b (λ k j. h k (there j))) ∙ pick-or (eqb b i) (memb b l) v (getD (s .reasons) b 0)
+  turn-marks [] b h = refl
+  turn-marks (i ∷ l) b h =
+      put-is ((turnAll sheet v s l) .marks) i b v 0 (omega (arith, turn-sizes l .marks, h i (here refl)))
+      ∙ ap (pick (eqb b i) v) (turn-marks l b (λ k j. h k (there j))) ∙ pick-or (eqb b i) (memb b l) v (getD (s .marks) b 0)
 
   pub turn-opened : (l : List ℕ) (y : ℕ) → ((i : ℕ) → In i l → rowYear sheet i < 4) → getD ((turnAll sheet v s l) .opened) y false ≡ (not (memb y (map (rowYear sheet) l)) && getD (s .opened) y false)
   unfolding turnAll turnOf

@@ -25,7 +25,7 @@ pub year-ok : {sheet : List ℕ} {of : Size} (i : ℕ) {d : ℕ} → Ready sheet
 year-ok i c h e = rw e (c .year i h)
 
 -- ---- what is live
-module _ (sheet : List ℕ) (s : PotState) (i : ℕ) {a d : ℕ} {b : Bool} (ea : a ≡ rowApp sheet i) (ed : d ≡ rowYear sheet i) (eb : b ≡ (eqb (getD (s .reasons) i 0) 0 && (not (getD (s .won) a false) && getD (s .opened) d false))) where
+module _ (sheet : List ℕ) (s : PotState) (i : ℕ) {a d : ℕ} {b : Bool} (ea : a ≡ rowApp sheet i) (ed : d ≡ rowYear sheet i) (eb : b ≡ (eqb (getD (s .marks) i 0) 0 && (not (getD (s .won) a false) && getD (s .opened) d false))) where
   pub live-is : b ≡ liveOf sheet s i
   unfolding liveOf
   live-is = rw (eb, ea, ed)
@@ -36,11 +36,11 @@ module _ (sheet : List ℕ) (s : PotState) (i : ℕ) {a d : ℕ} {b : Bool} (ea 
 
 -- ---- marks, at what the accessors return
 module _ (sheet : List ℕ) (s : PotState) (p i : ℕ) {d : ℕ} (ed : d ≡ rowYear sheet i) where
-  pub win-is : {a : ℕ} → a ≡ rowApp sheet i → _≡_ {A = PotState} (record { reasons = set (s .reasons) i 1; won = set (s .won) a true; opened = s .opened; prices = set (s .prices) d p; sums = s .sums; totals = s .totals; hang = s .hang; wide = s .wide }) (winOf sheet p i s)
+  pub win-is : {a : ℕ} → a ≡ rowApp sheet i → _≡_ {A = PotState} (record { marks = set (s .marks) i 1; won = set (s .won) a true; opened = s .opened; prices = set (s .prices) d p; sums = s .sums; totals = s .totals; hang = s .hang; wide = s .wide }) (winOf sheet p i s)
   unfolding winOf
   win-is ea = rw (ea, ed)
 
-  pub turn-is : _≡_ {A = PotState} (record { reasons = set (s .reasons) i p; won = s .won; opened = set (s .opened) d false; prices = s .prices; sums = s .sums; totals = s .totals; hang = s .hang; wide = s .wide }) (turnOf sheet p i s)
+  pub turn-is : _≡_ {A = PotState} (record { marks = set (s .marks) i p; won = s .won; opened = set (s .opened) d false; prices = s .prices; sums = s .sums; totals = s .totals; hang = s .hang; wide = s .wide }) (turnOf sheet p i s)
   unfolding turnOf
   turn-is = rw ed
 
@@ -95,7 +95,7 @@ not-fresh (x ∷ l) (suc i) (suc k) h = not-fresh l i k h
 
 pub others-turned : (sheet : List ℕ) (of : Size) (i : ℕ) (s : PotState) {t : PotState} → t ≡ turnedOf i s → Others sheet of s → Others sheet of t
 unfolding turnedOf
-others-turned sheet of i s e o = rw e (λ k g f. not-fresh (s .reasons) i k (o k g f))
+others-turned sheet of i s e o = rw e (λ k g f. not-fresh (s .marks) i k (o k g f))
 
 module _ (sheet : List ℕ) (of : Size) (i : ℕ) (s : PotState) {t r : PotState} {d : ℕ} {g : Bool} (et : t ≡ turnedOf i s) (ed : d ≡ rowYear sheet i) (eg : g ≡ followsOf sheet of i t) where
   pub alone-hung : g ≡ true → r ≡ hungOf d t → r ≡ aloneOf sheet of i s
@@ -112,7 +112,7 @@ pub shared-is : (sheet : List ℕ) (of : Size) (l wins : List Bool) (p : ℕ) (s
 unfolding sharedOf
 shared-is sheet of l wins p s et eo eu er = rw (er, eu, et, eo)
 
-module _ (sheet : List ℕ) (of : Size) (l : List Bool) (p : ℕ) (s : PotState) {base : List ℕ} {rest : List Bool} {k : ℕ} (eb : base ≡ basesOf sheet of (s .reasons) (s .prices) p) (es : rest ≡ built (keepsOf sheet of base p l) (of .bids)) (ek : k ≡ length (members rest (of .bids))) where
+module _ (sheet : List ℕ) (of : Size) (l : List Bool) (p : ℕ) (s : PotState) {base : List ℕ} {rest : List Bool} {k : ℕ} (eb : base ≡ basesOf sheet of (s .marks) (s .prices) p) (es : rest ≡ built (keepsOf sheet of base p l) (of .bids)) (ek : k ≡ length (members rest (of .bids))) where
   rest-is : rest ≡ restOf sheet of l p s
   unfolding restOf
   rest-is = rw (es, eb)
@@ -136,6 +136,6 @@ unfolding firstMark
 first-no {q} h = rw (ne-eqb q 1 h)
 
 pub started-done : (sheet : List ℕ) (n : ℕ) {l : List ℕ} {i : ℕ} → l ≡ fill noMarks (λ k. firstMark (rowStanding sheet k)) i → i ≤ n → n ≤ i
-    → _≡_ {A = PotState} (record { reasons = l; won = replicate 64 false; opened = replicate 4 true; prices = replicate 4 noPrice; sums = replicate 32 0; totals = replicate 8 0; hang = 4; wide = false }) (startedOf sheet n)
+    → _≡_ {A = PotState} (record { marks = l; won = replicate 64 false; opened = replicate 4 true; prices = replicate 4 noPrice; sums = replicate 32 0; totals = replicate 8 0; hang = 4; wide = false }) (startedOf sheet n)
 unfolding startedOf
 started-done sheet n e h g = rw (e, le-antisymm h g)

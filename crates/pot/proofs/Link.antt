@@ -24,14 +24,14 @@ use Rattle.ties.proofs.Sums.{price-won, Part, part-all, part-sift}
 use Rattle.pot.specs.declared.PotState.{PotState}
 use Rattle.pot.specs.Marks.{leastOr, liveOf, lowestOf, atOf, winOf, winAll}
 use Rattle.pot.specs.Rep.{hangs, Sizes, Rep}
-use Rattle.pot.proofs.Arrays.{price-join, win-sizes, win-reasons}
+use Rattle.pot.proofs.Arrays.{price-join, win-sizes, win-marks}
 
 -- ---- an event
 
 -- what an event does to the arrays
 pub record Did (P : Pot) (e : Event) (s r : PotState) : Type 0 where
   pub sizes : Sizes r
-  pub reasons : (b : ℕ) → getD (r .reasons) b 0 ≡ pick (memb b (e .wins)) becauseWon (pick (memb b (e .downs)) (e .why) (getD (s .reasons) b 0))
+  pub marks : (b : ℕ) → getD (r .marks) b 0 ≡ pick (memb b (e .wins)) becauseWon (pick (memb b (e .downs)) (e .why) (getD (s .marks) b 0))
   pub won : (a : ℕ) → a < 64 → getD (r .won) a false ≡ (memb a (map (P .app) (e .wins)) || getD (s .won) a false)
   pub opened : (d : ℕ) → d < 4 → getD (r .opened) d false ≡ (not (memb d (e .closes)) && getD (s .opened) d false)
   pub prices : (d : ℕ) → d < 4 → getD (r .prices) d 0 ≡ priceFrom P (getD (s .prices) d 0) (e .wins) d
@@ -47,16 +47,16 @@ pub rep-did : (P : Pot) (t : Trace) (e : Event) (s r : PotState) → eqb (e .why
 unfolding mark winners seen closed hanging
 rep-did P t e s r z o un wi oi R D = record {
   sizes = D .sizes;
-  other = λ b h f. D .reasons b ∙ rw (outside (e .wins) wi b f, outside (e .downs) oi b f) (R .other b h f);
-  why = λ b i. D .reasons b ∙ ap (λ (x : ℕ). pick (memb b (e .wins)) becauseWon (pick (memb b (e .downs)) (e .why) x)) (R .why b i);
+  other = λ b h f. D .marks b ∙ rw (outside (e .wins) wi b f, outside (e .downs) oi b f) (R .other b h f);
+  why = λ b i. D .marks b ∙ ap (λ (x : ℕ). pick (memb b (e .wins)) becauseWon (pick (memb b (e .downs)) (e .why) x)) (R .why b i);
   one = λ b i.
-      ap (λ (x : ℕ). eqb x becauseWon) (D .reasons b) ∙
+      ap (λ (x : ℕ). eqb x becauseWon) (D .marks b) ∙
       rw (memb-join b (e .wins) (winners t)) (
       case (memb b (e .wins)) (λ w. rw w)
       (λ w. rw w (case (memb b (e .downs)) (λ q. rw (q, o, un b (memb-in b (e .downs) q))) (λ q. rw q (R .one b i))))
       );
   fresh = λ b i.
-      ap (λ (x : ℕ). eqb x noReason) (D .reasons b) ∙
+      ap (λ (x : ℕ). eqb x noReason) (D .marks b) ∙
       rw (memb-join b (e .wins ++ e .downs) (seen t), memb-join b (e .wins) (e .downs)) (
       case (memb b (e .wins)) (λ w. rw w)
       (λ w. rw w (case (memb b (e .downs)) (λ q. rw (q, z)) (λ q. rw q (R .fresh b i))))
@@ -74,7 +74,7 @@ rep-did P t e s r z o un wi oi R D = record {
 
 -- the winners are ws: what the totals read
 pub record Holds (P : Pot) (ws : List ℕ) (s : PotState) : Type 0 where
-  pub marked : Marked P ws (s .reasons)
+  pub marked : Marked P ws (s .marks)
   pub price : (d : ℕ) → d < 4 → getD (s .prices) d 0 ≡ priceFrom P noPrice ws d
 
 pub holds-rep : {P : Pot} {t : Trace} {s : PotState} → Rep P t s → Holds P (winners t) s
@@ -174,8 +174,8 @@ module _ (sheet : List ℕ) (of : Size) (ok : Ready sheet of) where
 
   -- ---- what fits
   module _ (ws : List ℕ) (s : PotState) (H : Holds P ws s) where
-    pub total-is : (z : ℕ) → z < of .years → totalOf sheet (s .reasons) (s .prices) z (of .bids) ≡ total P ws z
-    total-is z h = link.total-at sheet of ok ws (s .reasons) (s .prices) (H .marked) (clearing P ws) same z h
+    pub total-is : (z : ℕ) → z < of .years → totalOf sheet (s .marks) (s .prices) z (of .bids) ≡ total P ws z
+    total-is z h = link.total-at sheet of ok ws (s .marks) (s .prices) (H .marked) (clearing P ws) same z h
       where
         same : (i : ℕ) → In i (P .bids) → memb i ws ≡ true → getD (s .prices) (rowYear sheet i) 0 ≡ clearing P ws (rowYear sheet i)
         same i j w = H .price (rowYear sheet i) (ok .year i (bid-lt i j)) ∙ opened (price-won P noPrice i ws (memb-in i ws w))
@@ -183,10 +183,10 @@ module _ (sheet : List ℕ) (of : Size) (ok : Ready sheet of) where
             opened : priceFrom P noPrice ws (P .yr i) ≡ clearing P ws (P .yr i) → priceFrom P noPrice ws (rowYear sheet i) ≡ clearing P ws (rowYear sheet i)
             opened e = unfold potIn in e
 
-    pub row-at : (z : ℕ) → z < of .years → getD (filled (λ x. totalOf sheet (s .reasons) (s .prices) x (of .bids)) (of .years)) z 0 ≡ total P ws z
-    row-at z h = link.row-at sheet of ok (λ x. totalOf sheet (s .reasons) (s .prices) x (of .bids)) z h ∙ total-is z h
+    pub row-at : (z : ℕ) → z < of .years → getD (filled (λ x. totalOf sheet (s .marks) (s .prices) x (of .bids)) (of .years)) z 0 ≡ total P ws z
+    row-at z h = link.row-at sheet of ok (λ x. totalOf sheet (s .marks) (s .prices) x (of .bids)) z h ∙ total-is z h
 
-    pub fits-is : (f : ℕ → ℕ) → ((z : ℕ) → z < of .years → f z ≡ totalOf sheet (s .reasons) (s .prices) z (of .bids)) → fitsTo f sheet (of .years) ≡ fits P ws
+    pub fits-is : (f : ℕ → ℕ) → ((z : ℕ) → z < of .years → f z ≡ totalOf sheet (s .marks) (s .prices) z (of .bids)) → fitsTo f sheet (of .years) ≡ fits P ws
     fits-is f e = link.fits-is sheet of ok f (total P ws) (of .years) (omega arith) (λ z h. e z h ∙ total-is z h) ∙ opened
       where
         opened : within P (total P ws) (of .years) ≡ fits P ws
@@ -206,8 +206,8 @@ module _ (sheet : List ℕ) (of : Size) (ok : Ready sheet of) where
     holds-win l h H = record {
       marked = record {
         one = λ k i.
-            ap (λ (x : ℕ). eqb x becauseWon) (win-reasons sheet p s S l k few) ∙ rw (memb-join k l ws) (case (memb k l) (λ t. rw t) (λ f. rw f (H .marked .one k i)));
-        other = λ k j f. ap (λ (x : ℕ). eqb x becauseWon) (win-reasons sheet p s S l k few) ∙ case (memb k l) (λ t. clash (in-memb (h k (memb-in k l t) .2)) f) (λ g. rw g (H .marked .other k j f));
+            ap (λ (x : ℕ). eqb x becauseWon) (win-marks sheet p s S l k few) ∙ rw (memb-join k l ws) (case (memb k l) (λ t. rw t) (λ f. rw f (H .marked .one k i)));
+        other = λ k j f. ap (λ (x : ℕ). eqb x becauseWon) (win-marks sheet p s S l k few) ∙ case (memb k l) (λ t. clash (in-memb (h k (memb-in k l t) .2)) f) (λ g. rw g (H .marked .other k j f));
       };
       price = λ d k. win-prices l d (λ i j. (h i j .0, h i j .1)) ∙ rw (H .price d k) (sym (price-join P noPrice l ws d));
     }

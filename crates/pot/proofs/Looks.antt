@@ -22,7 +22,7 @@ use Rattle.totals.proofs.Link.{not-bid}
 use Rattle.pot.specs.declared.PotState.{PotState}
 use Rattle.pot.specs.Marks.{lowestOf, winAll, turnedOf, hungOf, shutOf, settledOf, takenOf, soleOf, followsOf, aloneOf}
 use Rattle.pot.specs.Rep.{hangs, Sizes, Rep}
-use Rattle.pot.proofs.Arrays.{win-sizes, win-reasons, win-won, win-opened, win-hang, win-wide}
+use Rattle.pot.proofs.Arrays.{win-sizes, win-marks, win-won, win-opened, win-hang, win-wide}
 use Rattle.pot.proofs.Link as link
 use Rattle.pot.proofs.Link.{Did, rep-did, Holds, holds-rep}
 
@@ -72,19 +72,19 @@ module _ (sheet : List ℕ) (of : Size) (ok : Ready sheet of) where
     won-by = link.holds-win sheet of ok (winners t) s (R .sizes) p l (λ i j. let z = sound i j in (z .0, z .2, z .3)) (holds-rep R)
 
     -- the winners all entered the auction
-    pub trial-others : (i : ℕ) → i < of .bids → inAuction sheet i ≡ false → eqb (getD (u .reasons) i 0) becauseWon ≡ false
+    pub trial-others : (i : ℕ) → i < of .bids → inAuction sheet i ≡ false → eqb (getD (u .marks) i 0) becauseWon ≡ false
     trial-others i h f = won-by .marked .other i (link.small sheet of ok i h) (not-bid sheet of ok i f)
 
-    pub trial-fits : (f : ℕ → ℕ) → ((z : ℕ) → z < of .years → f z ≡ totalOf sheet (u .reasons) (u .prices) z (of .bids)) → fitsTo f sheet (of .years) ≡ fits P (l ++ winners t)
+    pub trial-fits : (f : ℕ → ℕ) → ((z : ℕ) → z < of .years → f z ≡ totalOf sheet (u .marks) (u .prices) z (of .bids)) → fitsTo f sheet (of .years) ≡ fits P (l ++ winners t)
     trial-fits = link.fits-is sheet of ok (l ++ winners t) u won-by
 
     -- all win, and the year that hangs closes
-    won-with : (r : PotState) → r .reasons ≡ u .reasons → r .won ≡ u .won → r .prices ≡ u .prices → Sizes r
+    won-with : (r : PotState) → r .marks ≡ u .marks → r .won ≡ u .won → r .prices ≡ u .prices → Sizes r
         → ((d : ℕ) → d < 4 → getD (r .opened) d false ≡ (not (memb d (hangs (s .hang))) && getD (s .opened) d false)) → r .hang ≡ 4 → Did P (won P t l) s r
     unfolding hangs potIn
     won-with r er ew eq sz op hg = record {
       sizes = sz;
-      reasons = λ i. ap (λ (x : List ℕ). getD x i 0) er ∙ win-reasons sheet p s (R .sizes) l i few;
+      marks = λ i. ap (λ (x : List ℕ). getD x i 0) er ∙ win-marks sheet p s (R .sizes) l i few;
       won = λ z j. ap (λ (x : List Bool). getD x z false) ew ∙ win-won sheet p s (R .sizes) l z (λ i h. ok .app i (sound i h .0));
       opened = λ d j. op d j ∙ ap (λ (x : List ℕ). not (memb d x) && getD (s .opened) d false) (sym (R .hang));
       prices = λ d j. ap (λ (x : List ℕ). getD x d 0) eq ∙ link.win-prices sheet of ok (winners t) s (R .sizes) p l d (λ i h. let z = sound i h in (z .0, z .2));
@@ -97,13 +97,13 @@ module _ (sheet : List ℕ) (of : Size) (ok : Ready sheet of) where
         case (ltb (s .hang) 4)
         (λ h. rw (win-hang sheet p s (R .sizes) l, h)
         (won-with (shutOf (s .hang) u) refl refl refl
-        (record { reasons = su .reasons; won = su .won; opened = length-set (u .opened) (s .hang) false ∙ su .opened; prices = su .prices })
+        (record { marks = su .marks; won = su .won; opened = length-set (u .opened) (s .hang) false ∙ su .opened; prices = su .prices })
         (λ d j. put-is (u .opened) (s .hang) d false false (omega (arith, su .opened, ltb-true (s .hang) 4 h))
         ∙ rw (h, win-opened sheet p s (R .sizes) l) (case (eqb d (s .hang)) (λ e. rw e) (λ e. rw e)))
         refl))
         (λ h. rw (win-hang sheet p s (R .sizes) l, h)
         (won-with (hungOf 4 u) refl refl refl
-        (record { reasons = su .reasons; won = su .won; opened = su .opened; prices = su .prices })
+        (record { marks = su .marks; won = su .won; opened = su .opened; prices = su .prices })
         (λ d j. rw (h, win-opened sheet p s (R .sizes) l))
         refl))
 
@@ -121,12 +121,12 @@ module _ (sheet : List ℕ) (of : Size) (ok : Ready sheet of) where
     -- ---- 2: one bid alone
     module _ (i : ℕ) (h : In i l) where
       -- turned down, with the years that close and hang
-      down-did : (r : PotState) (sh ha : List ℕ) → r .reasons ≡ set (s .reasons) i downAlone → r .won ≡ s .won → r .prices ≡ s .prices
+      down-did : (r : PotState) (sh ha : List ℕ) → r .marks ≡ set (s .marks) i downAlone → r .won ≡ s .won → r .prices ≡ s .prices
           → Sizes r → ((d : ℕ) → d < 4 → getD (r .opened) d false ≡ (not (memb d sh) && getD (s .opened) d false)) → ha ≡ hangs (r .hang) → Did P (down P i sh ha) s r
       unfolding priceFrom
       down-did r sh ha er ew ep sz op hg = record {
         sizes = sz;
-        reasons = λ k. ap (λ (x : List ℕ). getD x k 0) er ∙ put-is (s .reasons) i k downAlone 0 (omega (arith, R .sizes .reasons, few i h)) ∙ case (eqb k i) (λ t. rw t) (λ f. rw f);
+        marks = λ k. ap (λ (x : List ℕ). getD x k 0) er ∙ put-is (s .marks) i k downAlone 0 (omega (arith, R .sizes .marks, few i h)) ∙ case (eqb k i) (λ t. rw t) (λ f. rw f);
         won = λ z j. ap (λ (x : List Bool). getD x z false) ew;
         opened = op;
         prices = λ d j. ap (λ (x : List ℕ). getD x d 0) ep;
@@ -138,7 +138,7 @@ module _ (sheet : List ℕ) (of : Size) (ok : Ready sheet of) where
 
       sizes : Sizes (turnedOf i s)
       unfolding turnedOf
-      sizes = record { reasons = length-set (s .reasons) i downAlone ∙ R .sizes .reasons; won = R .sizes .won; opened = R .sizes .opened; prices = R .sizes .prices }
+      sizes = record { marks = length-set (s .marks) i downAlone ∙ R .sizes .marks; won = R .sizes .won; opened = R .sizes .opened; prices = R .sizes .prices }
 
       -- with no year that closes or hangs
       turned-rep : Rep P (down P i [] [] ∷ t) (turnedOf i s)
@@ -148,7 +148,7 @@ module _ (sheet : List ℕ) (of : Size) (ok : Ready sheet of) where
       hung-rep : Rep P (down P i [] (P .yr i ∷ []) ∷ t) (hungOf (rowYear sheet i) (turnedOf i s))
       unfolding turnedOf hungOf hangs potIn
       hung-rep = down-rep r [] (rowYear sheet i ∷ []) (down-did r [] (rowYear sheet i ∷ []) refl refl refl
-          (record { reasons = sizes .reasons; won = sizes .won; opened = sizes .opened; prices = sizes .prices }) (λ d j. refl) (rw (lt-ltb (rowYear sheet i) 4 (ok .year i (sound i h .0)))))
+          (record { marks = sizes .marks; won = sizes .won; opened = sizes .opened; prices = sizes .prices }) (λ d j. refl) (rw (lt-ltb (rowYear sheet i) 4 (ok .year i (sound i h .0)))))
         where
           r : PotState
           r = hungOf (rowYear sheet i) (turnedOf i s)
@@ -157,7 +157,7 @@ module _ (sheet : List ℕ) (of : Size) (ok : Ready sheet of) where
       unfolding turnedOf shutOf hangs potIn
       shut-rep =
           down-rep r (rowYear sheet i ∷ []) [] (down-did r (rowYear sheet i ∷ []) [] refl refl refl
-          (record { reasons = sizes .reasons; won = sizes .won; opened = length-set (s .opened) (rowYear sheet i) false ∙ R .sizes .opened; prices = sizes .prices })
+          (record { marks = sizes .marks; won = sizes .won; opened = length-set (s .opened) (rowYear sheet i) false ∙ R .sizes .opened; prices = sizes .prices })
           (λ d j. put-is (s .opened) (rowYear sheet i) d false false (omega (arith, R .sizes .opened, ok .year i (sound i h .0))) ∙ case (eqb d (rowYear sheet i)) (λ t. rw t) (λ f. rw f))
           refl)
         where

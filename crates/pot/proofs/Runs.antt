@@ -159,7 +159,7 @@ module _ (sheet : List ℕ) (of : Size) (ok : Ready sheet of) where
   size = ok .few
 
   -- the marks at the start: of the auction's own bids, and of all others
-  started-at : (i : ℕ) → i < of .bids → getD ((startedOf sheet (of .bids)) .reasons) i 0 ≡ pick (inAuction sheet i) noReason notHere
+  started-at : (i : ℕ) → i < of .bids → getD ((startedOf sheet (of .bids)) .marks) i 0 ≡ pick (inAuction sheet i) noReason notHere
   unfolding startedOf firstMark
   started-at i h = fill-at noMarks (λ i. pick (inAuction sheet i) noReason notHere) (of .bids) i 0 size h
 
@@ -175,7 +175,7 @@ module _ (sheet : List ℕ) (of : Size) (ok : Ready sheet of) where
   started-stands e = rw e (record {
     wide = refl;
     rep = λ f. record {
-      sizes = record { reasons = fill-length noMarks (λ i. firstMark (rowStanding sheet i)) (of .bids); won = refl; opened = refl; prices = refl };
+      sizes = record { marks = fill-length noMarks (λ i. firstMark (rowStanding sheet i)) (of .bids); won = refl; opened = refl; prices = refl };
       other = others;
       why = own;
       one = λ i j. ap (λ (x : ℕ). eqb x becauseWon) (own i j);
@@ -187,14 +187,14 @@ module _ (sheet : List ℕ) (of : Size) (ok : Ready sheet of) where
     };
   })
     where
-      own : (i : ℕ) → In i (P .bids) → getD ((startedOf sheet (of .bids)) .reasons) i 0 ≡ noReason
+      own : (i : ℕ) → In i (P .bids) → getD ((startedOf sheet (of .bids)) .marks) i 0 ≡ noReason
       own i j = started-at i (link.bid-lt sheet of ok i j) ∙ rw (link.bid-in sheet of ok i j)
 
-      others : (i : ℕ) → i < 320 → memb i (P .bids) ≡ false → getD ((startedOf sheet (of .bids)) .reasons) i 0 ≡ notHere
+      others : (i : ℕ) → i < 320 → memb i (P .bids) ≡ false → getD ((startedOf sheet (of .bids)) .marks) i 0 ≡ notHere
       others i h f =
           case (ltb i (of .bids))
           (λ t. started-at i (ltb-true i (of .bids) t) ∙ case (inAuction sheet i) (λ e. clash (in-memb (link.bid sheet of ok i (ltb-true i (of .bids) t) e)) f) (λ g. rw g))
           (λ t. past i (ltb-false i (of .bids) t) h)
         where
-          past : (i : ℕ) → of .bids ≤ i → i < 320 → getD ((startedOf sheet (of .bids)) .reasons) i 0 ≡ notHere
+          past : (i : ℕ) → of .bids ≤ i → i < 320 → getD ((startedOf sheet (of .bids)) .marks) i 0 ≡ notHere
           past i g h = unfold startedOf in started-past (of .bids) i g (ok .few) h

@@ -145,8 +145,8 @@ module _ {sheet : List ℕ} {of : Size} {s : PotState} {l : Look} (ck : Ready sh
   pub sole-small : l .last < of .bids
   sole-small = below-in (l .last) (of .bids) (held .0)
 
-  pub sole-fresh : eqb (getD (s .reasons) (l .last) 0) becauseWon ≡ false
-  sole-fresh = rw (eqb-true (getD (s .reasons) (l .last) 0) noReason (and-true (eqb (getD (s .reasons) (l .last) 0) noReason) _ (opened (held .1)) .0)) refl
+  pub sole-fresh : eqb (getD (s .marks) (l .last) 0) becauseWon ≡ false
+  sole-fresh = rw (eqb-true (getD (s .marks) (l .last) 0) noReason (and-true (eqb (getD (s .marks) (l .last) 0) noReason) _ (opened (held .1)) .0)) refl
     where
-      opened : liveOf sheet s (l .last) ≡ true → (eqb (getD (s .reasons) (l .last) 0) noReason && (not (getD (s .won) (rowApp sheet (l .last)) false) && getD (s .opened) (rowYear sheet (l .last)) false)) ≡ true
+      opened : liveOf sheet s (l .last) ≡ true → (eqb (getD (s .marks) (l .last) 0) noReason && (not (getD (s .won) (rowApp sheet (l .last)) false) && getD (s .opened) (rowYear sheet (l .last)) false)) ≡ true
       opened e = unfold liveOf in e

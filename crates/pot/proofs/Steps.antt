@@ -72,15 +72,15 @@ module _ (sheet : List ℕ) (of : Size) (ok : Ready sheet of) (s : PotState) {p 
     tried : Rep P t s → v ≡ withSums k q (winAll sheet (lowestOf sheet s (of .bids)) s (taken P t))
     tried R = ev ∙ ap (λ (l : List ℕ). withSums k q (winAll sheet p s l)) (of-set R) ∙ ap (λ (x : ℕ). withSums k q (winAll sheet x s (taken P t))) ep
 
-    others : Rep P t s → (i : ℕ) → i < of .bids → inAuction sheet i ≡ false → eqb (getD (v .reasons) i 0) becauseWon ≡ false
+    others : Rep P t s → (i : ℕ) → i < of .bids → inAuction sheet i ≡ false → eqb (getD (v .marks) i 0) becauseWon ≡ false
     unfolding withSums
-    others R i g e = ap (λ (u : PotState). eqb (getD (u .reasons) i 0) becauseWon) (tried R) ∙ looks.trial-others sheet of ok t s R i g e
+    others R i g e = ap (λ (u : PotState). eqb (getD (u .marks) i 0) becauseWon) (tried R) ∙ looks.trial-others sheet of ok t s R i g e
 
     fits-is : Rep P t s → f ≡ fits P (taken P t ++ winners t)
     unfolding withSums
     fits-is R =
         row-fits (yearSum (v .sums)) sheet (of .years) (ok .years) (Sv .row) ef ∙ looks.trial-fits sheet of ok t s R (yearSum (v .sums))
-        (λ z h. sum-total (Sv .parts) z h ok (others R) ∙ ap (λ (u : PotState). totalOf sheet (u .reasons) (u .prices) z (of .bids)) (tried R))
+        (λ z h. sum-total (Sv .parts) z h ok (others R) ∙ ap (λ (u : PotState). totalOf sheet (u .marks) (u .prices) z (of .bids)) (tried R))
 
   -- all that were taken fit
   pub step-fits : {r : PotState} → f ≡ true → r ≡ settledOf v → Stepped (potIn sheet of) s r

@@ -56,14 +56,14 @@ laid-filled l d f n z h g k i = laid-own l d (filled f n) n z h g k i ∙ fill-a
     size : n ≤ 8 → n ≤ length noRow
     size g = unfold noRow in g
 
-pub renewed-is : (sheet : List ℕ) (of : Size) (d : ℕ) (s : PotState) {row sums : List ℕ} → row ≡ filled (λ z. partOf sheet (s .reasons) (getD (s .prices) d 0) d z (of .bids)) (of .years)
+pub renewed-is : (sheet : List ℕ) (of : Size) (d : ℕ) (s : PotState) {row sums : List ℕ} → row ≡ filled (λ z. partOf sheet (s .marks) (getD (s .prices) d 0) d z (of .bids)) (of .years)
     → sums ≡ laidTo (s .sums) row d (of .years)
-    → _≡_ {A = PotState} (record { reasons = s .reasons; won = s .won; opened = s .opened; prices = s .prices; sums = sums; totals = s .totals; hang = s .hang; wide = s .wide }) (renewedOf sheet of d s)
+    → _≡_ {A = PotState} (record { marks = s .marks; won = s .won; opened = s .opened; prices = s .prices; sums = sums; totals = s .totals; hang = s .hang; wide = s .wide }) (renewedOf sheet of d s)
 unfolding renewedOf withSums
 renewed-is sheet of d s er es = rw (es, er)
 
 pub totalled-is : (of : Size) (s : PotState) {row : List ℕ} → row ≡ filled (yearSum (s .sums)) (of .years)
-    → _≡_ {A = PotState} (record { reasons = s .reasons; won = s .won; opened = s .opened; prices = s .prices; sums = s .sums; totals = row; hang = s .hang; wide = s .wide }) (totalledOf of s)
+    → _≡_ {A = PotState} (record { marks = s .marks; won = s .won; opened = s .opened; prices = s .prices; sums = s .sums; totals = row; hang = s .hang; wide = s .wide }) (totalledOf of s)
 unfolding totalledOf withSums
 totalled-is of s er = rw er
 
@@ -123,12 +123,12 @@ part-none sheet marks price d z (n ∷ l) h = rw (part-none sheet marks price d 
 
 module _ (sheet : List ℕ) (of : Size) where
   -- ---- what keeps the sums and totals right
-  pub summed-turned : (i : ℕ) (s : PotState) → eqb (getD (s .reasons) i 0) becauseWon ≡ false → Summed sheet of s → Summed sheet of (turnedOf i s)
+  pub summed-turned : (i : ℕ) (s : PotState) → eqb (getD (s .marks) i 0) becauseWon ≡ false → Summed sheet of s → Summed sheet of (turnedOf i s)
   unfolding turnedOf partOf
   summed-turned i s h S = record {
     parts = record {
       size = S .parts .size;
-      part = λ d z g k. S .parts .part d z g k ∙ sym (part-down sheet (s .reasons) (getD (s .prices) d 0) i 2 d z (sift (inAuction sheet) (below (of .bids))) refl h);
+      part = λ d z g k. S .parts .part d z g k ∙ sym (part-down sheet (s .marks) (getD (s .prices) d 0) i 2 d z (sift (inAuction sheet) (below (of .bids))) refl h);
     };
     row = S .row;
   }
@@ -158,7 +158,7 @@ module _ (sheet : List ℕ) (of : Size) where
       go true = summed-shut (s .hang) s S
       go false = summed-hung 4 s S
 
-  pub summed-alone : (i : ℕ) {s r : PotState} → r ≡ aloneOf sheet of i s → eqb (getD (s .reasons) i 0) becauseWon ≡ false → Summed sheet of s → Summed sheet of r
+  pub summed-alone : (i : ℕ) {s r : PotState} → r ≡ aloneOf sheet of i s → eqb (getD (s .marks) i 0) becauseWon ≡ false → Summed sheet of s → Summed sheet of r
   unfolding aloneOf
   summed-alone i {s} e h S = rw e (go (followsOf sheet of i (turnedOf i s)))
     where
@@ -177,11 +177,11 @@ module _ (sheet : List ℕ) (of : Size) where
         (λ f.
         let n = eqb-false c (rowYear sheet i) f in
         laid-other (s .sums) (rowYear sheet i) (filled part (of .years)) (of .years) c z n ly (omega arith) ∙ S .part c z g k
-        ∙ rw (getD-set-other (s .prices) (rowYear sheet i) c p 0 n) (sym (part-other sheet (s .reasons) (getD (s .prices) c 0) i becauseWon c z (sift (inAuction sheet) (below (of .bids))) (λ e. n (sym e)))));
+        ∙ rw (getD-set-other (s .prices) (rowYear sheet i) c p 0 n) (sym (part-other sheet (s .marks) (getD (s .prices) c 0) i becauseWon c z (sift (inAuction sheet) (below (of .bids))) (λ e. n (sym e)))));
   })
     where
       part : ℕ → ℕ
-      part z = partOf sheet (set (s .reasons) i becauseWon) (getD (set (s .prices) (rowYear sheet i) p) (rowYear sheet i) 0) (rowYear sheet i) z (of .bids)
+      part z = partOf sheet (set (s .marks) i becauseWon) (getD (set (s .prices) (rowYear sheet i) p) (rowYear sheet i) 0) (rowYear sheet i) z (of .bids)
 
   pub summed-one : (p i : ℕ) {s r : PotState} → of .years ≤ 8 → rowYear sheet i < 4 → r ≡ triedOf sheet of p i s → Summed sheet of s → Summed sheet of r
   unfolding triedOf
@@ -200,7 +200,7 @@ module _ (sheet : List ℕ) (of : Size) where
     renewed-size (suc n) = laid-length ((renewedTo sheet of s n) .sums) n _ (of .years) ∙ renewed-size n
 
     renewed-parts : (n : ℕ) → length (s .sums) ≡ 32 → of .years ≤ 8 → n ≤ 4 → (d z : ℕ) → d < n → z < of .years
-        → getD ((renewedTo sheet of s n) .sums) (d * 8 + z) 0 ≡ partOf sheet (s .reasons) (getD (s .prices) d 0) d z (of .bids)
+        → getD ((renewedTo sheet of s n) .sums) (d * 8 + z) 0 ≡ partOf sheet (s .marks) (getD (s .prices) d 0) d z (of .bids)
     unfolding renewedTo renewedOf withSums
     renewed-parts zero h g k d z i j = absurd (omega arith)
     renewed-parts (suc n) h g k d z i j = case (eqb d n)
@@ -208,16 +208,16 @@ module _ (sheet : List ℕ) (of : Size) where
         (λ f. let e = eqb-false d n f in laid-other ((renewedTo sheet of s n) .sums) n (filled part (of .years)) (of .years) d z e g (omega arith) ∙ renewed-parts n h g (omega arith) d z (omega arith) j)
       where
         part : ℕ → ℕ
-        part z = partOf sheet ((renewedTo sheet of s n) .reasons) (getD ((renewedTo sheet of s n) .prices) n 0) n z (of .bids)
+        part z = partOf sheet ((renewedTo sheet of s n) .marks) (getD ((renewedTo sheet of s n) .prices) n 0) n z (of .bids)
 
-        same : part z ≡ partOf sheet (s .reasons) (getD (s .prices) n 0) n z (of .bids)
-        same = ap (λ (t : PotState). partOf sheet (t .reasons) (getD (t .prices) n 0) n z (of .bids)) (renewed-sums n)
+        same : part z ≡ partOf sheet (s .marks) (getD (s .prices) n 0) n z (of .bids)
+        same = ap (λ (t : PotState). partOf sheet (t .marks) (getD (t .prices) n 0) n z (of .bids)) (renewed-sums n)
 
     pub parted-renewed : {r : PotState} → length (s .sums) ≡ 32 → of .years ≤ 8 → r ≡ renewedTo sheet of s 4 → Parted sheet of r
     unfolding withSums
     parted-renewed h g e = rw e (record {
       size = renewed-size 4 ∙ h;
-      part = λ d z i j. renewed-parts 4 h g (omega arith) d z i j ∙ sym (ap (λ (t : PotState). partOf sheet (t .reasons) (getD (t .prices) d 0) d z (of .bids)) (renewed-sums 4));
+      part = λ d z i j. renewed-parts 4 h g (omega arith) d z i j ∙ sym (ap (λ (t : PotState). partOf sheet (t .marks) (getD (t .prices) d 0) d z (of .bids)) (renewed-sums 4));
     })
 
     pub revalued-sums : revaluedOf sheet of s ≡ withSums ((revaluedOf sheet of s) .sums) ((revaluedOf sheet of s) .totals) s
@@ -287,7 +287,7 @@ module _ (sheet : List ℕ) (of : Size) {s : PotState} (ly : of .years ≤ 8) (S
 -- ---- the sums of a year together are its total
 module _ {sheet : List ℕ} {of : Size} {s : PotState} (S : Parted sheet of s) (z : ℕ) (h : z < of .years) where
   abbrev part : ℕ → ℕ
-  part d = partOf sheet (s .reasons) (getD (s .prices) d 0) d z (of .bids)
+  part d = partOf sheet (s .marks) (getD (s .prices) d 0) d z (of .bids)
 
   four : yearSum (s .sums) z ≡ part 0 + (part 1 + (part 2 + part 3))
   unfolding yearSum
@@ -306,13 +306,13 @@ module _ {sheet : List ℕ} {of : Size} {s : PotState} (S : Parted sheet of s) (
       at3 = let e : 24 + z ≡ 3 * 8 + z = omega arith in ap (λ (k : ℕ). getD (s .sums) k 0) e ∙ S .part 3 z (omega arith) h
 
   -- where the winners all entered the auction
-  pub sum-total : Ready sheet of → ((k : ℕ) → k < of .bids → inAuction sheet k ≡ false → eqb (getD (s .reasons) k 0) becauseWon ≡ false) → yearSum (s .sums) z ≡ totalOf sheet (s .reasons) (s .prices) z (of .bids)
-  sum-total ok others = four ∙ sym (total-parts sheet of (s .reasons) (s .prices) z ok others)
+  pub sum-total : Ready sheet of → ((k : ℕ) → k < of .bids → inAuction sheet k ≡ false → eqb (getD (s .marks) k 0) becauseWon ≡ false) → yearSum (s .sums) z ≡ totalOf sheet (s .marks) (s .prices) z (of .bids)
+  sum-total ok others = four ∙ sym (total-parts sheet of (s .marks) (s .prices) z ok others)
 
   pub sum-most : Ready sheet of → yearSum (s .sums) z ≤ mostSum
   sum-most v =
       let few = v .few in
-      let most : (d : ℕ) → part d ≤ dearest * (of .bids) = λ d. part-most sheet (s .reasons) (getD (s .prices) d 0) d of z v h in
+      let most : (d : ℕ) → part d ≤ dearest * (of .bids) = λ d. part-most sheet (s .marks) (getD (s .prices) d 0) d of z v h in
       omega (arith, four, most 0, most 1, most 2, most 3)
 
 -- added one after the other
@@ -336,7 +336,7 @@ row-fits f sheet n h er eb = eb ∙ ap (λ (r : List ℕ). rowFits sheet r n) er
 pub rep-sums : {P : Pot} {t : Trace} {s : PotState} (l q : List ℕ) → Rep P t s → Rep P t (withSums l q s)
 unfolding withSums
 rep-sums l q R = record {
-  sizes = record { reasons = R .sizes .reasons; won = R .sizes .won; opened = R .sizes .opened; prices = R .sizes .prices };
+  sizes = record { marks = R .sizes .marks; won = R .sizes .won; opened = R .sizes .opened; prices = R .sizes .prices };
   other = R .other;
   why = R .why;
   one = R .one;

@@ -19,7 +19,7 @@ use Rattle.ties.proofs.Link as tie
 use Rattle.pot.specs.declared.PotState.{PotState}
 use Rattle.pot.specs.Marks.{lowestOf, winAll, turnAll, hungOf, widened, takenOf, sharedOf, restOf, choiceIn, tieOf}
 use Rattle.pot.specs.Rep.{hangs, Sizes, Rep, Stands}
-use Rattle.pot.proofs.Arrays.{win-sizes, win-reasons, win-won, win-opened, win-wide, turn-sizes, turn-reasons, turn-opened, turn-won, turn-prices, turn-wide}
+use Rattle.pot.proofs.Arrays.{win-sizes, win-marks, win-won, win-opened, win-wide, turn-sizes, turn-marks, turn-opened, turn-won, turn-prices, turn-wide}
 use Rattle.pot.proofs.Link as link
 use Rattle.pot.proofs.Link.{Did, rep-did, holds-rep}
 use Rattle.pot.proofs.Looks as looks
@@ -44,7 +44,7 @@ module _ (sheet : List ℕ) (of : Size) (ok : Ready sheet of) where
     a = takenOf sheet of s
 
     abbrev base : List ℕ
-    base = basesOf sheet of (s .reasons) (s .prices) p
+    base = basesOf sheet of (s .marks) (s .prices) p
 
     abbrev rest : List Bool
     rest = restOf sheet of a p s
@@ -74,7 +74,7 @@ module _ (sheet : List ℕ) (of : Size) (ok : Ready sheet of) where
 
     pub of-rest : members rest (of .bids) ≡ remaining P ws l
     of-rest =
-        tie.of-rest sheet of ok ws (s .reasons) (s .prices) (holds-rep R .marked) (R .sizes .prices) (R .price) p refl a l (of-set)
+        tie.of-rest sheet of ok ws (s .marks) (s .prices) (holds-rep R .marked) (R .sizes .prices) (R .price) p refl a l (of-set)
         (link.taken-part sheet of ok t) at-price new rest rest-is
 
     module _ (h : k ≤ 10) where
@@ -90,17 +90,17 @@ module _ (sheet : List ℕ) (of : Size) (ok : Ready sheet of) where
 
       of-choice : members w (of .bids) ≡ ch
       of-choice =
-          tie.of-choice sheet of ok ws (s .reasons) (s .prices) (holds-rep R .marked) (R .sizes .prices) (R .price) p refl a l (of-set)
+          tie.of-choice sheet of ok ws (s .marks) (s .prices) (holds-rep R .marked) (R .sizes .prices) (R .price) p refl a l (of-set)
           (link.taken-part sheet of ok t) at-price new rest rest-is refl h choice-is
 
       in-w : (i : ℕ) → In i l → getD w i false ≡ memb i ch
       in-w i j =
-          tie.choice-at sheet of ok ws (s .reasons) (s .prices) (holds-rep R .marked) (R .sizes .prices) (R .price) p refl a l (of-set)
+          tie.choice-at sheet of ok ws (s .marks) (s .prices) (holds-rep R .marked) (R .sizes .prices) (R .price) p refl a l (of-set)
           (link.taken-part sheet of ok t) at-price new rest rest-is refl h choice-is i (sound i j .0)
 
       in-choice : (i : ℕ) → In i ch → In i l
       in-choice =
-          tie.chosen-among sheet of ok ws (s .reasons) (s .prices) (holds-rep R .marked) (R .sizes .prices) (R .price) p refl a l (of-set)
+          tie.chosen-among sheet of ok ws (s .marks) (s .prices) (holds-rep R .marked) (R .sizes .prices) (R .price) p refl a l (of-set)
           (link.taken-part sheet of ok t) at-price new rest rest-is refl h
 
       abbrev out : List ℕ
@@ -132,10 +132,10 @@ module _ (sheet : List ℕ) (of : Size) (ok : Ready sheet of) where
       shared-did : Did P (shared P t l) s x
       unfolding hungOf hangs potIn
       shared-did = record {
-        sizes = let z = turn-sizes sheet downTied v sv out in record { reasons = z .reasons; won = z .won; opened = z .opened; prices = z .prices };
-        reasons = λ i.
-            turn-reasons sheet downTied v sv out i (λ c j. few c (in-out c j .0))
-            ∙ ap (pick (memb i out) downTied) (win-reasons sheet p s (R .sizes) ch i (λ c j. few c (in-choice c j)))
+        sizes = let z = turn-sizes sheet downTied v sv out in record { marks = z .marks; won = z .won; opened = z .opened; prices = z .prices };
+        marks = λ i.
+            turn-marks sheet downTied v sv out i (λ c j. few c (in-out c j .0))
+            ∙ ap (pick (memb i out) downTied) (win-marks sheet p s (R .sizes) ch i (λ c j. few c (in-choice c j)))
             ∙ swap i;
         won = λ z j. ap (λ (q : List Bool). getD q z false) (turn-won sheet downTied v sv out) ∙ win-won sheet p s (R .sizes) ch z (λ c g. ok .app c (sound c (in-choice c g) .0));
         opened = λ d j.
@@ -147,7 +147,7 @@ module _ (sheet : List ℕ) (of : Size) (ok : Ready sheet of) where
         hang = refl;
       }
         where
-          swap : (i : ℕ) → pick (memb i out) downTied (pick (memb i ch) becauseWon (getD (s .reasons) i 0)) ≡ pick (memb i ch) becauseWon (pick (memb i out) downTied (getD (s .reasons) i 0))
+          swap : (i : ℕ) → pick (memb i out) downTied (pick (memb i ch) becauseWon (getD (s .marks) i 0)) ≡ pick (memb i ch) becauseWon (pick (memb i out) downTied (getD (s .marks) i 0))
           swap i = case (memb i out) (λ e. rw (e, in-out i (memb-in i out e) .1)) (λ e. rw e)
 
       -- the arrays after a tie that is not too wide

@@ -31,7 +31,7 @@ leastOr sheet (x ∷ l) = min (rowPrice sheet x) (leastOr sheet l)
 
 -- not yet looked at, the application has not won, the year is open
 unfoldable pub liveOf : (sheet : List ℕ) → PotState → ℕ → Bool
-liveOf sheet s i = eqb (getD (s .reasons) i 0) noReason && (not (getD (s .won) (rowApp sheet i) false) && getD (s .opened) (rowYear sheet i) false)
+liveOf sheet s i = eqb (getD (s .marks) i 0) noReason && (not (getD (s .won) (rowApp sheet i) false) && getD (s .opened) (rowYear sheet i) false)
 
 unfoldable pub lowestOf : (sheet : List ℕ) → PotState → ℕ → ℕ
 lowestOf sheet s n = leastOr sheet (sift (liveOf sheet s) (below n))
@@ -42,10 +42,10 @@ atOf sheet s p i = liveOf sheet s i && eqb (rowPrice sheet i) p
 
 -- a bid wins at price p; a bid is turned down for a reason, and its year closes
 unfoldable pub winOf : (sheet : List ℕ) (p i : ℕ) → PotState → PotState
-winOf sheet p i s = record { reasons = set (s .reasons) i becauseWon; won = set (s .won) (rowApp sheet i) true; opened = s .opened; prices = set (s .prices) (rowYear sheet i) p; sums = s .sums; totals = s .totals; hang = s .hang; wide = s .wide }
+winOf sheet p i s = record { marks = set (s .marks) i becauseWon; won = set (s .won) (rowApp sheet i) true; opened = s .opened; prices = set (s .prices) (rowYear sheet i) p; sums = s .sums; totals = s .totals; hang = s .hang; wide = s .wide }
 
 unfoldable pub turnOf : (sheet : List ℕ) (v i : ℕ) → PotState → PotState
-turnOf sheet v i s = record { reasons = set (s .reasons) i v; won = s .won; opened = set (s .opened) (rowYear sheet i) false; prices = s .prices; sums = s .sums; totals = s .totals; hang = s .hang; wide = s .wide }
+turnOf sheet v i s = record { marks = set (s .marks) i v; won = s .won; opened = set (s .opened) (rowYear sheet i) false; prices = s .prices; sums = s .sums; totals = s .totals; hang = s .hang; wide = s .wide }
 
 unfoldable pub winAll : (sheet : List ℕ) (p : ℕ) → PotState → List ℕ → PotState
 winAll sheet p s [] = s
@@ -57,19 +57,19 @@ turnAll sheet v s (i ∷ l) = turnOf sheet v i (turnAll sheet v s l)
 
 -- a bid is turned down alone; the year d hangs; the year d closes; the year that hangs closes; a tie was too wide
 unfoldable pub turnedOf : ℕ → PotState → PotState
-turnedOf i s = record { reasons = set (s .reasons) i downAlone; won = s .won; opened = s .opened; prices = s .prices; sums = s .sums; totals = s .totals; hang = noYear; wide = s .wide }
+turnedOf i s = record { marks = set (s .marks) i downAlone; won = s .won; opened = s .opened; prices = s .prices; sums = s .sums; totals = s .totals; hang = noYear; wide = s .wide }
 
 unfoldable pub hungOf : ℕ → PotState → PotState
-hungOf d s = record { reasons = s .reasons; won = s .won; opened = s .opened; prices = s .prices; sums = s .sums; totals = s .totals; hang = d; wide = s .wide }
+hungOf d s = record { marks = s .marks; won = s .won; opened = s .opened; prices = s .prices; sums = s .sums; totals = s .totals; hang = d; wide = s .wide }
 
 unfoldable pub shutOf : ℕ → PotState → PotState
-shutOf d s = record { reasons = s .reasons; won = s .won; opened = set (s .opened) d false; prices = s .prices; sums = s .sums; totals = s .totals; hang = noYear; wide = s .wide }
+shutOf d s = record { marks = s .marks; won = s .won; opened = set (s .opened) d false; prices = s .prices; sums = s .sums; totals = s .totals; hang = noYear; wide = s .wide }
 
 unfoldable pub settledOf : PotState → PotState
 settledOf s = pick (ltb (s .hang) noYear) (shutOf (s .hang) s) (hungOf noYear s)
 
 unfoldable pub widened : PotState → PotState
-widened s = record { reasons = s .reasons; won = s .won; opened = s .opened; prices = s .prices; sums = s .sums; totals = s .totals; hang = s .hang; wide = true }
+widened s = record { marks = s .marks; won = s .won; opened = s .opened; prices = s .prices; sums = s .sums; totals = s .totals; hang = s .hang; wide = true }
 
 -- the live bids at the lowest live price, as a set
 unfoldable pub takenOf : (sheet : List ℕ) (of : Size) → PotState → List Bool
@@ -79,7 +79,7 @@ takenOf sheet of s = built (atOf sheet s (lowestOf sheet s (of .bids))) (of .bid
 
 -- no other bid is marked as not yet looked at
 abbrev pub Others : (sheet : List ℕ) (of : Size) → PotState → Type 0
-Others sheet of s = (i : ℕ) → i < of .bids → inAuction sheet i ≡ false → eqb (getD (s .reasons) i 0) noReason ≡ false
+Others sheet of s = (i : ℕ) → i < of .bids → inAuction sheet i ≡ false → eqb (getD (s .marks) i 0) noReason ≡ false
 
 -- a look that sees one more bid, i at price q; and of a list of bids
 unfoldable pub joinedOf : Look → (q i : ℕ) → Look
@@ -121,11 +121,11 @@ mostSum = 4 * (dearest * mostNumbers)
 
 -- other sums and totals, and all else as it was
 unfoldable pub withSums : (sums totals : List ℕ) → PotState → PotState
-withSums l q s = record { reasons = s .reasons; won = s .won; opened = s .opened; prices = s .prices; sums = l; totals = q; hang = s .hang; wide = s .wide }
+withSums l q s = record { marks = s .marks; won = s .won; opened = s .opened; prices = s .prices; sums = l; totals = q; hang = s .hang; wide = s .wide }
 
 -- the winners that start in year d are revalued; and in each year below n
 unfoldable pub renewedOf : (sheet : List ℕ) (of : Size) (d : ℕ) → PotState → PotState
-renewedOf sheet of d s = withSums (laidTo (s .sums) (filled (λ z. partOf sheet (s .reasons) (getD (s .prices) d 0) d z (of .bids)) (of .years)) d (of .years)) (s .totals) s
+renewedOf sheet of d s = withSums (laidTo (s .sums) (filled (λ z. partOf sheet (s .marks) (getD (s .prices) d 0) d z (of .bids)) (of .years)) d (of .years)) (s .totals) s
 
 unfoldable pub renewedTo : (sheet : List ℕ) (of : Size) → PotState → ℕ → PotState
 renewedTo sheet of s zero = s
@@ -149,7 +149,7 @@ trialOf sheet of p l s = revaluedOf sheet of (winAll sheet p s (members l (of .b
 -- the sums are those of the winners; and the totals are those of the sums
 pub record Parted (sheet : List ℕ) (of : Size) (s : PotState) : Type 0 where
   pub size : length (s .sums) ≡ 32
-  pub part : (d z : ℕ) → d < 4 → z < of .years → getD (s .sums) (d * 8 + z) 0 ≡ partOf sheet (s .reasons) (getD (s .prices) d 0) d z (of .bids)
+  pub part : (d z : ℕ) → d < 4 → z < of .years → getD (s .sums) (d * 8 + z) 0 ≡ partOf sheet (s .marks) (getD (s .prices) d 0) d z (of .bids)
 
 pub record Summed (sheet : List ℕ) (of : Size) (s : PotState) : Type 0 where
   pub parts : Parted sheet of s
@@ -157,11 +157,11 @@ pub record Summed (sheet : List ℕ) (of : Size) (s : PotState) : Type 0 where
 
 -- several do not fit: those that remain, and what becomes of them
 unfoldable pub restOf : (sheet : List ℕ) (of : Size) (l : List Bool) (p : ℕ) → PotState → List Bool
-restOf sheet of l p s = built (keepsOf sheet of (basesOf sheet of (s .reasons) (s .prices) p) p l) (of .bids)
+restOf sheet of l p s = built (keepsOf sheet of (basesOf sheet of (s .marks) (s .prices) p) p l) (of .bids)
 
 unfoldable pub choiceIn : (sheet : List ℕ) (of : Size) (l : List Bool) (p : ℕ) → PotState → List Bool
 choiceIn sheet of l p s =
-    choiceOf sheet of (basesOf sheet of (s .reasons) (s .prices) p) (restOf sheet of l p s) (length (members (restOf sheet of l p s) (of .bids))) p
+    choiceOf sheet of (basesOf sheet of (s .marks) (s .prices) p) (restOf sheet of l p s) (length (members (restOf sheet of l p s) (of .bids))) p
 
 unfoldable pub tieOf : (sheet : List ℕ) (of : Size) (l : List Bool) (p : ℕ) → PotState → PotState
 tieOf sheet of l p s =
@@ -178,7 +178,7 @@ noMarks = replicate 320 notHere
 
 unfoldable pub startedOf : (sheet : List ℕ) → ℕ → PotState
 startedOf sheet n = record {
-  reasons = fill noMarks (λ i. firstMark (rowStanding sheet i)) n;
+  marks = fill noMarks (λ i. firstMark (rowStanding sheet i)) n;
   won = replicate 64 false;
   opened = replicate 4 true;
   prices = replicate 4 noPrice;

@@ -20,7 +20,7 @@ unfoldable pub hangs : ℕ → List ℕ
 hangs h = pick (ltb h noYear) (h ∷ []) []
 
 pub record Sizes (s : PotState) : Type 0 where
-  pub reasons : length (s .reasons) ≡ 320
+  pub marks : length (s .marks) ≡ 320
   pub won : length (s .won) ≡ 64
   pub opened : length (s .opened) ≡ 4
   pub prices : length (s .prices) ≡ 4
@@ -28,10 +28,10 @@ pub record Sizes (s : PotState) : Type 0 where
 -- The arrays s stand for the trace t
 pub record Rep (P : Pot) (t : Trace) (s : PotState) : Type 0 where
   pub sizes : Sizes s
-  pub other : (b : ℕ) → b < 320 → memb b (P .bids) ≡ false → getD (s .reasons) b 0 ≡ notHere
-  pub why : (b : ℕ) → In b (P .bids) → getD (s .reasons) b 0 ≡ mark t b
-  pub one : (b : ℕ) → In b (P .bids) → eqb (getD (s .reasons) b 0) becauseWon ≡ memb b (winners t)
-  pub fresh : (b : ℕ) → In b (P .bids) → eqb (getD (s .reasons) b 0) noReason ≡ not (memb b (seen t))
+  pub other : (b : ℕ) → b < 320 → memb b (P .bids) ≡ false → getD (s .marks) b 0 ≡ notHere
+  pub why : (b : ℕ) → In b (P .bids) → getD (s .marks) b 0 ≡ mark t b
+  pub one : (b : ℕ) → In b (P .bids) → eqb (getD (s .marks) b 0) becauseWon ≡ memb b (winners t)
+  pub fresh : (b : ℕ) → In b (P .bids) → eqb (getD (s .marks) b 0) noReason ≡ not (memb b (seen t))
   pub has : (a : ℕ) → a < 64 → getD (s .won) a false ≡ memb a (map (P .app) (winners t))
   pub free : (d : ℕ) → d < 4 → getD (s .opened) d false ≡ not (memb d (closed t))
   pub price : (d : ℕ) → d < 4 → getD (s .prices) d 0 ≡ priceFrom P noPrice (winners t) d

@@ -19,23 +19,14 @@ use names::YEARS;
 use sheet::COLUMNS;
 use sheet::Sheet;
 use sheet::Size;
-use totals::WON;
-
-// The marks of a bid that has not won: not looked at, turned down alone, turned down in a tie, not of this auction.
-pub const FRESH: u16 = 0;
-
-pub const ALONE: u16 = 2;
-
-pub const TIED: u16 = 3;
-
-pub const OTHER: u16 = 9;
+use totals::marks;
 
 // No year hangs.
 const NO_YEAR: usize = 4;
 
 // The marks of every bid, the applications that have won, the years that are open, and the clearing price of each year.
 pub struct PotState {
-    pub reasons: [u16; NUMBERS],
+    pub marks: [u16; NUMBERS],
     pub won: [bool; 64],
     pub opened: [bool; 4],
     pub prices: [u64; 4],
@@ -60,7 +51,7 @@ pub struct Look {
 fn live(reason: u16, won: bool, opened: bool) -> bool
     ensures { λ r. ⌜ r ≡ (eqb reason 0 && (not won && opened)) ⌝ }
 {
-    if reason != FRESH {
+    if reason != marks::FRESH {
         return false;
     }
     if won {
@@ -146,7 +137,7 @@ impl PotState {
             let i = sheet::entrant(sheet, j);
             let a = sheet::app(sheet, i);
             let d = sheet::year(sheet, i);
-            if live(self.reasons[i], self.won[a], self.opened[d]) {
+            if live(self.marks[i], self.won[a], self.opened[d]) {
                 l = joined(l, sheet::price(sheet, i), i);
             }
             j += 1;
@@ -166,7 +157,7 @@ impl PotState {
             let a = sheet::app(sheet, i);
             let d = sheet::year(sheet, i);
             set[i] = at(
-                live(self.reasons[i], self.won[a], self.opened[d]),
+                live(self.marks[i], self.won[a], self.opened[d]),
                 sheet::price(sheet, i),
                 p,
             );
@@ -182,7 +173,7 @@ impl PotState {
     {
         let a = sheet::app(sheet, i);
         let d = sheet::year(sheet, i);
-        self.reasons[i] = WON;
+        self.marks[i] = marks::WON;
         self.won[a] = true;
         self.prices[d] = p;
         self
@@ -194,7 +185,7 @@ impl PotState {
         ensures { λ r. ⌜ r ≡ turnOf (now (sheet .entry)) v i self ⌝ }
     {
         let d = sheet::year(sheet, i);
-        self.reasons[i] = v;
+        self.marks[i] = v;
         self.opened[d] = false;
         self
     }
@@ -221,7 +212,7 @@ impl PotState {
         requires { ⌜ Ready (now sheet) of × (d < 4) ⌝ }
         ensures { λ r. ⌜ r ≡ renewedOf (now (sheet .entry)) of d self ⌝ }
     {
-        let marks = self.reasons;
+        let marks = self.marks;
         let price = self.prices[d];
         let row = totals::part(sheet, of, marks, price, d);
         let sums = self.sums;
@@ -305,7 +296,7 @@ impl PotState {
         requires { ⌜ i < mostNumbers ⌝ }
         ensures { λ r. ⌜ r ≡ turnedOf i self ⌝ }
     {
-        self.reasons[i] = ALONE;
+        self.marks[i] = marks::ALONE;
         self.hang = NO_YEAR;
         self
     }
@@ -390,7 +381,7 @@ impl PotState {
     {
         let t = self.win_all(sheet, of, wins, p);
         let outs = arrays::others(set, wins, of.bids);
-        let u = t.turn_all(sheet, of, outs, TIED);
+        let u = t.turn_all(sheet, of, outs, marks::TIED);
         u.hung(NO_YEAR)
     }
 
@@ -399,7 +390,7 @@ impl PotState {
         requires { ⌜ Ready (now sheet) of × Summed (now sheet) of self ⌝ }
         ensures { λ r. ⌜ r ≡ tieOf (now (sheet .entry)) of set p self ⌝ }
     {
-        let marks = self.reasons;
+        let marks = self.marks;
         let prices = self.prices;
         let base = ties::bases(sheet, of, marks, prices, p);
         let rest = ties::rest(sheet, of, &base, set, p);
@@ -476,9 +467,9 @@ fn first_mark(standing: u64) -> u16
     ensures { λ r. ⌜ r ≡ firstMark standing ⌝ }
 {
     if standing == sheet::ENTERED {
-        FRESH
+        marks::FRESH
     } else {
-        OTHER
+        marks::OTHER
     }
 }
 
@@ -487,15 +478,15 @@ pub fn started(sheet: &Sheet, of: Size) -> PotState
     requires { ⌜ Ready (now sheet) of ⌝ }
     ensures { λ r. ⌜ r ≡ startedOf (now (sheet .entry)) (of .bids) ⌝ }
 {
-    let mut reasons = [OTHER; NUMBERS];
+    let mut marks = [marks::OTHER; NUMBERS];
     let m = of.bids;
     let mut i: usize = 0;
     while i < m {
-        reasons[i] = first_mark(sheet::standing(sheet, i));
+        marks[i] = first_mark(sheet::standing(sheet, i));
         i += 1;
     }
     PotState {
-        reasons,
+        marks,
         won: [false; 64],
         opened: [true; 4],
         prices: [names::NO_PRICE; 4],

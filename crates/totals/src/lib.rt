@@ -5,13 +5,14 @@ ghost use Prim.Native.Nat.{_≤_, _<_};
 ghost use Rattle.rules.specs.Value.{dearest};
 ghost use Rattle.sheet.specs.Sheet.{Ready};
 ghost use Rattle.totals.specs.Totals.{Adding, worthOf, totalOf, partOf, filled, raised, rowFits, autoTotal};
+
+pub mod marks;
+
+use marks::WON;
 use names::NUMBERS;
 use sheet::COLUMNS;
 use sheet::Sheet;
 use sheet::Size;
-
-// The mark of a bid that has won.
-pub const WON: u16 = 1;
 
 // The value of bid k in year z at a clearing price.
 pub fn worth(sheet: &Sheet, of: Size, k: usize, price: u64, z: usize) -> u64

@@ -12,10 +12,10 @@ use Rattle.pot.proofs.started.Statement.{statement}
 use Rattle.pot.proofs.started.Tie as tie
 
 abbrev Inv-loop : tie.InvT-loop
-Inv-loop sheet reasons₀ m i₀ reasons i = (i ≤ m) × (reasons ≡ fill noMarks (λ k. firstMark (rowStanding sheet k)) i)
+Inv-loop sheet marks₀ m i₀ marks i = (i ≤ m) × (marks ≡ fill noMarks (λ k. firstMark (rowStanding sheet k)) i)
 
 abbrev μ-loop : tie.MeasureT-loop
-μ-loop sheet reasons₀ m i₀ reasons i = m - i
+μ-loop sheet marks₀ m i₀ marks i = m - i
 
 loop-holds : tie.Need-loop-holds Inv-loop μ-loop
 unfolding fill noMarks
