@@ -1,16 +1,18 @@
 -- Arrays place by place, and the members of sets. Assumes nothing.
-use Prim.Native.Nat.{ℕ, zero, suc, _≤_, _<_}
-use mathlib.Core.Path.{_≡_, refl, sym, _∙_}
+use Prim.Native.Nat.{ℕ, zero, suc, _+_, _≤_, _<_}
+use mathlib.Core.Path.{_≡_, refl, sym, ap, _∙_}
 use mathlib.Core.Bool.{Bool, true, false, _||_}
 use mathlib.Core.List.{List}
+use native.Mathlib.Nat.{add-suc}
 use native.Mathlib.Omega.{arith}
 use lib.ListN.{length, getD, set, replicate, length-set}
 use lib.Seq.{getD-set-same, getD-set-other}
 use lib.Dec.{eqb}
 use borrow.Author.Tests.{eqb-true, eqb-false, eq-eqb, ne-eqb}
+use Rattle.rules.specs.Names.{mostNumbers}
 use Rattle.rules.specs.Lists.{pick, memb, sift, below}
 use Rattle.pot_laws.specs.Lists.{case, clash, memb-in, in-memb, in-sift, sift-in, sift-same, in-below, below-in}
-use Rattle.arrays.specs.Sets.{fill, none, built, members}
+use Rattle.arrays.specs.Sets.{fill, placed, none, built, members}
 
 pub eqb-sym : (a b : ℕ) → eqb a b ≡ eqb b a
 eqb-sym a b = case (eqb a b) (λ t. rw (t, eq-eqb b a (sym (eqb-true a b t)))) (λ f. rw (f, ne-eqb b a (λ e. eqb-false a b f (sym e))))
@@ -49,12 +51,40 @@ fill-at l f (suc n) k d h g =
     put-is (fill l f n) n k (f n) d (omega (arith, fill-length l f n))
     ∙ case (eqb k n) (λ t. rw (t, eqb-true k n t)) (λ u. let q = eqb-false k n u in rw u (fill-at l f n k d (omega arith) (omega arith)))
 
+-- an array into which values are laid has these at their places, and all else as it was
+pub placed-length : {A : Type 0} (f : ℕ → A) (l : List A) (at n : ℕ) → length (placed f l at n) ≡ length l
+unfolding placed
+placed-length f l at zero = refl
+placed-length f l at (suc n) = length-set (placed f l at n) (at + n) (f n) ∙ placed-length f l at n
+
+pub placed-at : {A : Type 0} (f : ℕ → A) (l : List A) (at n k : ℕ) (d : A) → at + n ≤ length l → k < n → getD (placed f l at n) (at + k) d ≡ f k
+unfolding placed
+placed-at f l at zero k d h g = absurd (omega arith)
+placed-at f l at (suc n) k d h g =
+    put-is (placed f l at n) (at + n) (at + k) (f n) d (omega (arith, placed-length f l at n))
+    ∙ case (eqb k n)
+    (λ t. let q = eqb-true k n t in rw (q, eq-eqb (at + n) (at + n) refl))
+    (λ u. let q = eqb-false k n u in rw (ne-eqb (at + k) (at + n) (λ e. q (omega arith))) (placed-at f l at n k d (omega arith) (omega arith)))
+
+pub placed-other : {A : Type 0} (f : ℕ → A) (l : List A) (at n j : ℕ) (d : A) → ((k : ℕ) → k < n → j ≡ at + k → ⊥)
+    → getD (placed f l at n) j d ≡ getD l j d
+unfolding placed
+placed-other f l at zero j d h = refl
+placed-other f l at (suc n) j d h =
+    getD-set-other (placed f l at n) (at + n) j (f n) d (h n (omega arith)) ∙ placed-other f l at n j d (λ k g. h k (omega arith))
+
+-- what is laid after the places that are filled fills on
+pub placed-fill : {A : Type 0} (l : List A) (f g : ℕ → A) (at n : ℕ) → ((k : ℕ) → k < n → g k ≡ f (at + k)) → placed g (fill l f at) at n ≡ fill l f (at + n)
+unfolding placed fill
+placed-fill l f g at zero h = let e : at ≡ at + 0 = omega arith in ap (fill l f) e
+placed-fill l f g at (suc n) h = rw (placed-fill l f g at n (λ k i. h k (omega arith)), h n (omega arith), add-suc at n)
+
 -- a set has the members that its test says
-pub members-built : (f : ℕ → Bool) (n : ℕ) → n ≤ 320 → members (built f n) n ≡ sift f (below n)
+pub members-built : (f : ℕ → Bool) (n : ℕ) → n ≤ mostNumbers → members (built f n) n ≡ sift f (below n)
 unfolding members
 members-built f n h = sift-same (λ i. getD (built f n) i false) f (below n) (λ k i. fill-at none f n k false (size h) (below-in k n i))
   where
-    size : n ≤ 320 → n ≤ length none
+    size : n ≤ mostNumbers → n ≤ length none
     size h = unfold none in h
 
 -- where no number is above q, no place is

@@ -6,7 +6,7 @@ use mathlib.Core.List.{List}
 use native.Mathlib.Numerals.{add-one}
 use native.Mathlib.Nat.{le-antisymm}
 use lib.ListN.{getD, set, length}
-use Rattle.arrays.specs.Sets.{fill, members, without}
+use Rattle.arrays.specs.Sets.{fill, placed, members, without}
 
 -- a loop that counts i up to n has reached n; and where its value is g of f of the count
 pub done : {A : Type 0} (f : ℕ → A) {x : A} {i n : ℕ} → x ≡ f i → i ≤ n → n ≤ i → x ≡ f n
@@ -19,6 +19,12 @@ done-by g f e h l = e ∙ ap (λ k. g (f k)) (le-antisymm h l)
 pub fill-next : {A : Type 0} (l₀ : List A) (f : ℕ → A) (k : ℕ) {l : List A} {v : A} → l ≡ fill l₀ f k → v ≡ f k → set l k v ≡ fill l₀ f (k + 1)
 unfolding fill
 fill-next l₀ f k e h = rw (add-one k, e, h)
+
+-- one value more is laid
+pub place-next : {A : Type 0} (f : ℕ → A) (l₀ : List A) (at k : ℕ) {l : List A} {v : A} → l ≡ placed f l₀ at k → v ≡ f k
+    → set l (at + k) v ≡ placed f l₀ at (k + 1)
+unfolding placed
+place-next f l₀ at k e h = rw (add-one k, e, h)
 
 -- a set's members, one place more
 module _ (l : List Bool) (i : ℕ) where
