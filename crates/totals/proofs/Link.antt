@@ -50,63 +50,63 @@ module _ (sheet : List ℕ) (of : Size) (ok : Ready sheet of) where
   small k h = omega (arith, ok .few)
 
   -- ---- values and totals
-  pub value-is : (k p z : ℕ) → z < of .years → value P k p z ≡ worthOf sheet k p z
+  pub value-is : (k p y : ℕ) → y < of .years → value P k p y ≡ worthOf sheet k p y
   unfolding value worthOf potIn
-  value-is k p z h = rw (lt-ltb z (of .years) h)
+  value-is k p y h = rw (lt-ltb y (of .years) h)
 
   -- the marked bids at a row of prices, which agrees with the prices `at` in the years of the winners
-  module _ (ws marks prices : List ℕ) (M : Marked P ws marks) (at : ℕ → ℕ) (same : (k : ℕ) → In k (P .bids) → memb k ws ≡ true → getD prices (rowYear sheet k) 0 ≡ at (rowYear sheet k)) (z : ℕ) (h : z < of .years) where
+  module _ (ws marks prices : List ℕ) (M : Marked P ws marks) (at : ℕ → ℕ) (same : (k : ℕ) → In k (P .bids) → memb k ws ≡ true → getD prices (rowYear sheet k) 0 ≡ at (rowYear sheet k)) (y : ℕ) (h : y < of .years) where
     mine : (k : ℕ) → k < of .bids → inAuction sheet k ≡ true
-        → pick (eqb (getD marks k 0) becauseWon) (costOf sheet prices z k) 0 ≡ pick (memb k ws) (value P k (at (P .yr k)) z) 0
+        → pick (eqb (getD marks k 0) becauseWon) (costOf sheet prices y k) 0 ≡ pick (memb k ws) (value P k (at (P .yr k)) y) 0
     unfolding costOf
     mine k g e =
         rw (M .one k (bid k g e)) (case (memb k ws)
-        (λ t. rw t (ap (λ (p : ℕ). worthOf sheet k p z) (same k (bid k g e) t) ∙ sym (value-is k (at (rowYear sheet k)) z h) ∙ opened))
+        (λ t. rw t (ap (λ (p : ℕ). worthOf sheet k p y) (same k (bid k g e) t) ∙ sym (value-is k (at (rowYear sheet k)) y h) ∙ opened))
         (λ f. rw f))
       where
-        opened : value P k (at (rowYear sheet k)) z ≡ value P k (at (P .yr k)) z
+        opened : value P k (at (rowYear sheet k)) y ≡ value P k (at (P .yr k)) y
         opened = unfold potIn in refl
 
-    tally-is : (n : ℕ) → n ≤ of .bids → totalOf sheet marks prices z n ≡ tally P (value P) (λ k. memb k ws) at z (sift (inAuction sheet) (below n))
+    tally-is : (n : ℕ) → n ≤ of .bids → totalOf sheet marks prices y n ≡ tally P (value P) (λ k. memb k ws) at y (sift (inAuction sheet) (below n))
     unfolding totalOf tally
     tally-is zero g = refl
     tally-is (suc n) g =
         case (inAuction sheet n) (λ e. rw e (ap₂ _+_ (tally-is n (omega arith)) (mine n g e)))
         (λ f. rw (f, M .other n (small n g) (not-bid n f)) (omega (arith, tally-is n (omega arith))))
 
-    pub total-at : totalOf sheet marks prices z (of .bids) ≡ tally P (value P) (λ k. memb k ws) at z (P .bids)
+    pub total-at : totalOf sheet marks prices y (of .bids) ≡ tally P (value P) (λ k. memb k ws) at y (P .bids)
     total-at = tally-is (of .bids) (omega arith) ∙ opened
       where
-        opened : tally P (value P) (λ k. memb k ws) at z (sift (inAuction sheet) (below (of .bids))) ≡ tally P (value P) (λ k. memb k ws) at z (P .bids)
+        opened : tally P (value P) (λ k. memb k ws) at y (sift (inAuction sheet) (below (of .bids))) ≡ tally P (value P) (λ k. memb k ws) at y (P .bids)
         opened = unfold potIn in refl
 
   -- ---- whether a row of totals fits
-  pub fits-is : (f tot : ℕ → ℕ) (n : ℕ) → n ≤ of .years → ((z : ℕ) → z < n → f z ≡ tot z) → fitsTo f sheet n ≡ within P tot n
+  pub fits-is : (f tot : ℕ → ℕ) (n : ℕ) → n ≤ of .years → ((y : ℕ) → y < n → f y ≡ tot y) → fitsTo f sheet n ≡ within P tot n
   unfolding fitsTo within potIn
   fits-is f tot zero h e = refl
-  fits-is f tot (suc n) h e = rw (lt-ltb n (of .years) h, e n (omega arith), fits-is f tot n (omega arith) (λ z g. e z (omega arith)))
+  fits-is f tot (suc n) h e = rw (lt-ltb n (of .years) h, e n (omega arith), fits-is f tot n (omega arith) (λ y g. e y (omega arith)))
 
   -- a row that was filled
-  pub row-at : (f : ℕ → ℕ) (z : ℕ) → z < of .years → getD (filled f (of .years)) z 0 ≡ f z
-  row-at f z h = fill-at noRow f (of .years) z 0 (size (ok .years)) h
+  pub row-at : (f : ℕ → ℕ) (y : ℕ) → y < of .years → getD (filled f (of .years)) y 0 ≡ f y
+  row-at f y h = fill-at noRow f (of .years) y 0 (size (ok .years)) h
     where
       size : of .years ≤ 8 → of .years ≤ length noRow
       size g = unfold noRow in g
 
   -- ---- the first test
-  pub admin-total-is : (z : ℕ) → z < of .years → autoTotal sheet (of .sealed) z (of .bids) ≡ adminTotal P z
+  pub admin-total-is : (y : ℕ) → y < of .years → autoTotal sheet (of .sealed) y (of .bids) ≡ adminTotal P y
   unfolding autoTotal adminTotal
-  admin-total-is z h =
-      sum-same (λ k. worthOf sheet k (rowPrice sheet k) z) (λ k. value P k (rowPrice sheet k) z) (λ k. sym (value-is k (rowPrice sheet k) z h)) (sift (inTest sheet (of .sealed)) (below (of .bids))) ∙ opened
+  admin-total-is y h =
+      sum-same (λ k. worthOf sheet k (rowPrice sheet k) y) (λ k. value P k (rowPrice sheet k) y) (λ k. sym (value-is k (rowPrice sheet k) y h)) (sift (inTest sheet (of .sealed)) (below (of .bids))) ∙ opened
     where
-      opened : sum (λ k. value P k (rowPrice sheet k) z) (sift (inTest sheet (of .sealed)) (below (of .bids))) ≡ sum (λ k. value P k (P .price k) z) (P .autos)
+      opened : sum (λ k. value P k (rowPrice sheet k) y) (sift (inTest sheet (of .sealed)) (below (of .bids))) ≡ sum (λ k. value P k (P .price k) y) (P .autos)
       opened = unfold potIn in refl
 
-  pub admin-fits : {row : List ℕ} {t : Bool} → row ≡ filled (λ z. autoTotal sheet (of .sealed) z (of .bids)) (of .years) → t ≡ rowFits sheet row (of .years) → t ≡ adminFits P
+  pub admin-fits : {row : List ℕ} {t : Bool} → row ≡ filled (λ y. autoTotal sheet (of .sealed) y (of .bids)) (of .years) → t ≡ rowFits sheet row (of .years) → t ≡ adminFits P
   unfolding adminFits
   admin-fits {row} er et =
       et ∙ ap (λ (r : List ℕ). rowFits sheet r (of .years)) er
-      ∙ fits-is (λ z. getD (filled (λ z. autoTotal sheet (of .sealed) z (of .bids)) (of .years)) z 0) (adminTotal P) (of .years) (omega arith) (λ z h. row-at (λ x. autoTotal sheet (of .sealed) x (of .bids)) z h ∙ admin-total-is z h)
+      ∙ fits-is (λ y. getD (filled (λ y. autoTotal sheet (of .sealed) y (of .bids)) (of .years)) y 0) (adminTotal P) (of .years) (omega arith) (λ y h. row-at (λ x. autoTotal sheet (of .sealed) x (of .bids)) y h ∙ admin-total-is y h)
       ∙ opened
     where
       opened : within P (adminTotal P) (of .years) ≡ within P (adminTotal P) (P .years)

@@ -2,9 +2,8 @@
 // totals of the first test. specs/Totals.antt says what each function computes.
 ghost use mathlib.Core.Path.{_≡_};
 ghost use Prim.Native.Nat.{_≤_, _<_};
-ghost use Rattle.rules.specs.Value.{dearest};
-ghost use Rattle.sheet.specs.Sheet.{Ready};
-ghost use Rattle.totals.specs.Totals.{Adding, worthOf, totalOf, partOf, filled, raised, rowFits, autoTotal};
+ghost use Rattle.sheet.specs.Sheet.{columns, Ready};
+ghost use Rattle.totals.specs.Totals.{Asked, Worth, Adding, worthOf, totalOf, partOf, filled, addedTo, rowFits, autoTotal};
 
 pub mod marks;
 
@@ -14,47 +13,52 @@ use sheet::COLUMNS;
 use sheet::Sheet;
 use sheet::Size;
 
-// The value of bid k in year z at a clearing price.
-pub fn worth(sheet: &Sheet, of: Size, k: usize, price: u64, z: usize) -> u64
-    requires { ⌜ Ready (now sheet) of × (k < of .bids) × (z < of .years) ⌝ }
-    ensures { λ r. ⌜ (r ≡ worthOf (now (sheet .entry)) k price z) × (r ≤ dearest) ⌝ }
+// The value of bid k in year y at a clearing price.
+pub fn worth(sheet: &Sheet, of: Size, k: usize, price: u64, y: usize) -> u64
+    requires { ⌜ Asked (now sheet) of k y ⌝ }
+    ensures { λ r. ⌜ Worth (now (sheet .entry)) k price y r ⌝ }
 {
     let strike = value::capped(price, sheet::admin(sheet, k));
-    let reference = sheet::reference(sheet, k, z);
-    let energy = sheet::energy(sheet, k, z);
-    value::value(strike, reference, energy, sheet::share(sheet, k, z))
+    let reference = sheet::reference(sheet, k, y);
+    let energy = sheet::energy(sheet, k, y);
+    value::value(strike, reference, energy, sheet::share(sheet, k, y))
 }
 
 // A row of totals, with the value of bid k at a price added in each year.
 fn added(sheet: &Sheet, of: Size, k: usize, price: u64, before: [u64; COLUMNS]) -> [u64; COLUMNS]
     requires { ⌜ Adding (now sheet) of before k ⌝ }
-    ensures { λ r. ⌜ r ≡ raised (λ z. worthOf (now (sheet .entry)) k price z) before (of .years) ⌝ }
+    ensures { λ r. ⌜ r ≡ addedTo (λ y. worthOf (now (sheet .entry)) k price y) before (of .years) ⌝ }
 {
     let mut row = before;
-    let y = of.years;
-    let mut z: usize = 0;
-    while z < y {
-        row[z] += worth(sheet, of, k, price, z);
-        z += 1;
+    let years = of.years;
+    let mut y: usize = 0;
+    while y < years {
+        row[y] += worth(sheet, of, k, price, y);
+        y += 1;
     }
     row
 }
 
 // Every winner revalued: the row of year totals.
-pub fn revalued(sheet: &Sheet, of: Size, marks: [u16; NUMBERS], prices: [u64; 4]) -> [u64; COLUMNS]
+pub fn revalued(
+    sheet: &Sheet,
+    of: Size,
+    marks: [u16; NUMBERS],
+    prices: [u64; names::MOST_DELIVERIES],
+) -> [u64; COLUMNS]
     requires { ⌜ Ready (now sheet) of ⌝ }
-    ensures { λ r. ⌜ r ≡ filled (λ z. totalOf (now (sheet .entry)) marks prices z (of .bids)) (of .years) ⌝ }
+    ensures { λ r. ⌜ r ≡ filled (λ y. totalOf (now (sheet .entry)) marks prices y (of .bids)) (of .years) ⌝ }
 {
     let mut row = [0u64; COLUMNS];
-    let m = of.bids;
-    let mut i: usize = 0;
-    while i < m {
-        if marks[i] == WON {
-            let d = sheet::year(sheet, i);
-            let next = added(sheet, of, i, prices[d], row);
+    let bids = of.bids;
+    let mut k: usize = 0;
+    while k < bids {
+        if marks[k] == WON {
+            let d = sheet::year(sheet, k);
+            let next = added(sheet, of, k, prices[d], row);
             row = next;
         }
-        i += 1;
+        k += 1;
     }
     row
 }
@@ -62,17 +66,17 @@ pub fn revalued(sheet: &Sheet, of: Size, marks: [u16; NUMBERS], prices: [u64; 4]
 // Of the bids that entered the auction the winners that start in year d, all at one price: their row of year totals.
 pub fn part(sheet: &Sheet, of: Size, marks: [u16; NUMBERS], price: u64, d: usize) -> [u64; COLUMNS]
     requires { ⌜ Ready (now sheet) of ⌝ }
-    ensures { λ r. ⌜ r ≡ filled (λ z. partOf (now (sheet .entry)) marks price d z (of .bids)) (of .years) ⌝ }
+    ensures { λ r. ⌜ r ≡ filled (λ y. partOf (now (sheet .entry)) marks price d y (of .bids)) (of .years) ⌝ }
 {
     let mut row = [0u64; COLUMNS];
-    let c = of.entered;
+    let entered = of.entered;
     let mut j: usize = 0;
-    while j < c {
-        let i = sheet::entrant(sheet, j);
+    while j < entered {
+        let k = sheet::entrant(sheet, j);
         // The year is read of winners alone.
-        if marks[i] == WON {
-            if sheet::year(sheet, i) == d {
-                let next = added(sheet, of, i, price, row);
+        if marks[k] == WON {
+            if sheet::year(sheet, k) == d {
+                let next = added(sheet, of, k, price, row);
                 row = next;
             }
         }
@@ -83,34 +87,34 @@ pub fn part(sheet: &Sheet, of: Size, marks: [u16; NUMBERS], price: u64, d: usize
 
 // Is no column's total above its limit? Equal fits.
 pub fn within(sheet: &Sheet, of: Size, row: [u64; COLUMNS]) -> bool
-    requires { ⌜ of .years ≤ 8 ⌝ }
+    requires { ⌜ of .years ≤ columns ⌝ }
     ensures { λ r. ⌜ r ≡ rowFits (now (sheet .entry)) row (of .years) ⌝ }
 {
     let mut ok = true;
-    let y = of.years;
-    let mut z: usize = 0;
-    while z < y {
-        if row[z] > sheet::limit(sheet, z) {
+    let years = of.years;
+    let mut y: usize = 0;
+    while y < years {
+        if row[y] > sheet::limit(sheet, y) {
             ok = false;
         }
-        z += 1;
+        y += 1;
     }
     ok
 }
 
-// The total in year z of all the pot's applications at their administrative prices: their automatic bids are numbered after the sealed ones.
-fn admin_total(sheet: &Sheet, of: Size, z: usize) -> u64
-    requires { ⌜ Ready (now sheet) of × (z < of .years) ⌝ }
-    ensures { λ r. ⌜ r ≡ autoTotal (now (sheet .entry)) (of .sealed) z (of .bids) ⌝ }
+// The total in year y of all the pot's applications at their administrative prices: their automatic bids are numbered after the sealed ones.
+fn admin_total(sheet: &Sheet, of: Size, y: usize) -> u64
+    requires { ⌜ Ready (now sheet) of × (y < of .years) ⌝ }
+    ensures { λ r. ⌜ r ≡ autoTotal (now (sheet .entry)) (of .sealed) y (of .bids) ⌝ }
 {
     let mut sum: u64 = 0;
-    let m = of.bids;
-    let mut i: usize = of.sealed;
-    while i < m {
-        if sheet::standing(sheet, i) != sheet::ABSENT {
-            sum += worth(sheet, of, i, sheet::price(sheet, i), z);
+    let bids = of.bids;
+    let mut k: usize = of.sealed;
+    while k < bids {
+        if sheet::standing(sheet, k) != sheet::ABSENT {
+            sum += worth(sheet, of, k, sheet::price(sheet, k), y);
         }
-        i += 1;
+        k += 1;
     }
     sum
 }
@@ -118,14 +122,14 @@ fn admin_total(sheet: &Sheet, of: Size, z: usize) -> u64
 // The row of totals of the first test.
 pub fn admin_totals(sheet: &Sheet, of: Size) -> [u64; COLUMNS]
     requires { ⌜ Ready (now sheet) of ⌝ }
-    ensures { λ r. ⌜ r ≡ filled (λ z. autoTotal (now (sheet .entry)) (of .sealed) z (of .bids)) (of .years) ⌝ }
+    ensures { λ r. ⌜ r ≡ filled (λ y. autoTotal (now (sheet .entry)) (of .sealed) y (of .bids)) (of .years) ⌝ }
 {
     let mut row = [0u64; COLUMNS];
-    let y = of.years;
-    let mut z: usize = 0;
-    while z < y {
-        row[z] = admin_total(sheet, of, z);
-        z += 1;
+    let years = of.years;
+    let mut y: usize = 0;
+    while y < years {
+        row[y] = admin_total(sheet, of, y);
+        y += 1;
     }
     row
 }

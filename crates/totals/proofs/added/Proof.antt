@@ -4,23 +4,23 @@ use Prim.Native.Nat.{_≤_, _-_}
 use mathlib.Core.Path.{_≡_, refl}
 use Rattle.arrays.specs.Sets.{fill}
 use Rattle.arrays.proofs.Laws.{done}
-use Rattle.totals.specs.Totals.{worthOf, raised}
-use Rattle.totals.proofs.Laws.{raised-next, raised-low}
+use Rattle.totals.specs.Totals.{worthOf, addedTo}
+use Rattle.totals.proofs.Laws.{added-next, added-low}
 use Rattle.totals.proofs.added.Statement.{statement}
 use Rattle.totals.proofs.added.Tie as tie
 
 abbrev Inv-loop : tie.InvT-loop
-Inv-loop sheet of k price row₀ y z₀ row z = (z ≤ y) × (row ≡ raised (λ x. worthOf sheet k price x) row₀ z)
+Inv-loop sheet of k price row₀ years y₀ row y = (y ≤ years) × (row ≡ addedTo (λ x. worthOf sheet k price x) row₀ y)
 
 abbrev μ-loop : tie.MeasureT-loop
-μ-loop sheet of k price row₀ y z₀ row z = y - z
+μ-loop sheet of k price row₀ years y₀ row y = years - y
 
 loop-holds : tie.Need-loop-holds Inv-loop μ-loop
 unfolding fill
 loop-holds c = (omega arith, refl)
 
 worth-requires : tie.Need-worth-requires Inv-loop μ-loop
-worth-requires c κs = let pre = c .before .before .pre in (pre .ready, pre .known, c .loop-test .taken)
+worth-requires c κs = let pre = c .before .before .pre in record { ready = pre .ready; bid = pre .known; year = c .loop-test .taken }
 
 mul-row : tie.Need-mul-row Inv-loop μ-loop
 mul-row c = omega (arith, c .before .loop-test .taken, c .before .before .before .pre .ready .years)
@@ -32,18 +32,18 @@ add-row : tie.Need-add-row Inv-loop μ-loop
 add-row c =
     omega (
       arith,
-      c .worth .ensures .1,
-      raised-low _ _ _ (c .before .before .loop .inv .1) (c .before .before .before .pre .low _ (c .before .loop-test .taken)),
+      c .worth .ensures .small,
+      added-low _ _ _ (c .before .before .loop .inv .1) (c .before .before .before .pre .low _ (c .before .loop-test .taken)),
     )
 
 array-write-row : tie.Need-array-write-row Inv-loop μ-loop
 array-write-row c = omega (arith, c .before .loop-test .taken, c .before .before .before .pre .ready .years)
 
 loop-again : tie.Need-loop-again Inv-loop μ-loop
-loop-again c = (omega arith, raised-next _ _ _ (c .before .before .loop .inv .1) (c .worth .ensures .0))
+loop-again c = (omega arith, added-next _ _ _ (c .before .before .loop .inv .1) (c .worth .ensures .value))
 
 returns : tie.Need-returns Inv-loop μ-loop
-returns c = done (raised _ _) (c .before .loop .inv .1) (c .before .loop .inv .0) (c .loop-test .left)
+returns c = done (addedTo _ _) (c .before .loop .inv .1) (c .before .loop .inv .0) (c .loop-test .left)
 
 pub added-spec : {M : Type 1} → statement M
 added-spec =

@@ -11,10 +11,10 @@ use Rattle.totals.proofs.admin_total.Statement.{statement}
 use Rattle.totals.proofs.admin_total.Tie as tie
 
 abbrev Inv-loop : tie.InvT-loop
-Inv-loop sheet of z sum₀ m i₀ sum i = ((of .sealed ≤ i) × (i ≤ m)) × (sum ≡ autoTotal sheet (of .sealed) z i) × (sum ≤ dearest * i)
+Inv-loop sheet of y sum₀ bids k₀ sum k = ((of .sealed ≤ k) × (k ≤ bids)) × (sum ≡ autoTotal sheet (of .sealed) y k) × (sum ≤ dearest * k)
 
 abbrev μ-loop : tie.MeasureT-loop
-μ-loop sheet of z sum₀ m i₀ sum i = m - i
+μ-loop sheet of y sum₀ bids k₀ sum k = bids - k
 
 loop-holds : tie.Need-loop-holds Inv-loop μ-loop
 loop-holds c = (omega arith, auto-none _ _ _, omega arith)
@@ -26,19 +26,20 @@ price-requires : tie.Need-price-requires Inv-loop μ-loop
 price-requires c κs = omega (arith, c .before .before .before .before .pre .0 .few, c .before .before .loop-test .taken)
 
 worth-requires : tie.Need-worth-requires Inv-loop μ-loop
-worth-requires c κs = let pre = c .before .before .before .before .before .pre in (pre .0, omega (arith, c .before .before .before .loop-test .taken), pre .1)
+worth-requires c κs = let pre = c .before .before .before .before .before .pre in
+    record { ready = pre .0; bid = omega (arith, c .before .before .before .loop-test .taken); year = pre .1 }
 
 add-sum : tie.Need-add-sum Inv-loop μ-loop
-add-sum c = omega (arith, c .worth .ensures .1, c .before .before .before .before .before .loop .inv .2, c .before .before .before .before .before .before .pre .0 .few)
+add-sum c = omega (arith, c .worth .ensures .small, c .before .before .before .before .before .loop .inv .2, c .before .before .before .before .before .before .pre .0 .few)
 
 loop-again : tie.Need-loop-again Inv-loop μ-loop
 loop-again c =
     let inv = c .before .before .before .loop .inv in (
       omega arith,
-      ⊎-elim (λ w. w .3 ∙ auto-hit _ _ _ _ (inv .0 .0) (c .before .standing .ensures) (w .0 .taken) (w .1 .ensures) (inv .1) (w .2 .ensures .0))
+      ⊎-elim (λ w. w .3 ∙ auto-hit _ _ _ _ (inv .0 .0) (c .before .standing .ensures) (w .0 .taken) (w .1 .ensures) (inv .1) (w .2 .ensures .value))
           (λ w. w .1 ∙ auto-miss _ _ _ _ (c .before .standing .ensures) (w .0 .left) (inv .1))
           (c .if1 .came),
-      ⊎-elim (λ w. omega (arith, w .2 .ensures .1)) (λ w. omega arith) (c .if1 .came),
+      ⊎-elim (λ w. omega (arith, w .2 .ensures .small)) (λ w. omega arith) (c .if1 .came),
     )
 
 returns : tie.Need-returns Inv-loop μ-loop

@@ -10,10 +10,10 @@ use Rattle.totals.proofs.admin_totals.Statement.{statement}
 use Rattle.totals.proofs.admin_totals.Tie as tie
 
 abbrev Inv-loop : tie.InvT-loop
-Inv-loop sheet of row₀ y z₀ row z = (z ≤ y) × (row ≡ filled (λ x. autoTotal sheet (of .sealed) x (of .bids)) z)
+Inv-loop sheet of row₀ years y₀ row y = (y ≤ years) × (row ≡ filled (λ x. autoTotal sheet (of .sealed) x (of .bids)) y)
 
 abbrev μ-loop : tie.MeasureT-loop
-μ-loop sheet of row₀ y z₀ row z = y - z
+μ-loop sheet of row₀ years y₀ row y = years - y
 
 loop-holds : tie.Need-loop-holds Inv-loop μ-loop
 unfolding fill noRow

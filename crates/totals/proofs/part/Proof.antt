@@ -13,10 +13,10 @@ use Rattle.totals.proofs.part.Statement.{statement}
 use Rattle.totals.proofs.part.Tie as tie
 
 abbrev Inv-loop : tie.InvT-loop
-Inv-loop sheet of price d marks row₀ c j₀ row j = (j ≤ c) × (row ≡ filled (λ z. partOn sheet marks price d z (entrants sheet j)) (of .years))
+Inv-loop sheet of price d marks row₀ entered j₀ row j = (j ≤ entered) × (row ≡ filled (λ y. partOn sheet marks price d y (entrants sheet j)) (of .years))
 
 abbrev μ-loop : tie.MeasureT-loop
-μ-loop sheet of price d marks row₀ c j₀ row j = c - j
+μ-loop sheet of price d marks row₀ entered j₀ row j = entered - j
 
 loop-holds : tie.Need-loop-holds Inv-loop μ-loop
 unfolding entrants partOn noRow
@@ -39,7 +39,7 @@ added-requires c κs =
     let pre = c .before .before .before .before .before .before .pre in
     let inv = c .before .before .before .before .before .loop .inv in
     adding _ _ _ _ _ pre (omega (arith, c .before .before .before .entrant .ensures, entrant-small pre _ (c .before .before .before .before .loop-test .taken))) (omega (arith, inv .0, entrants-few pre)) (inv .1)
-    (λ z h. part-passed _ _ _ _ _ z pre (inv .0) h)
+    (λ y h. part-passed _ _ _ _ _ y pre (inv .0) h)
 
 loop-again : tie.Need-loop-again Inv-loop μ-loop
 loop-again c =

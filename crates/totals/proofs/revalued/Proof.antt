@@ -9,10 +9,10 @@ use Rattle.totals.proofs.revalued.Statement.{statement}
 use Rattle.totals.proofs.revalued.Tie as tie
 
 abbrev Inv-loop : tie.InvT-loop
-Inv-loop sheet of marks prices row₀ m i₀ row i = (i ≤ m) × (row ≡ filled (λ z. totalOf sheet marks prices z i) (of .years))
+Inv-loop sheet of marks prices row₀ bids k₀ row k = (k ≤ bids) × (row ≡ filled (λ y. totalOf sheet marks prices y k) (of .years))
 
 abbrev μ-loop : tie.MeasureT-loop
-μ-loop sheet of marks prices row₀ m i₀ row i = m - i
+μ-loop sheet of marks prices row₀ bids k₀ row k = bids - k
 
 loop-holds : tie.Need-loop-holds Inv-loop μ-loop
 unfolding totalOf noRow
@@ -37,7 +37,7 @@ added-requires : tie.Need-added-requires Inv-loop μ-loop
 added-requires c κs =
     let v = c .before .before .before .before .pre in
     let inv = c .before .before .before .loop .inv in
-    adding _ _ _ _ _ v (c .before .before .loop-test .taken) (inv .0) (inv .1) (λ z h. total-le _ _ _ _ z _ v h (inv .0))
+    adding _ _ _ _ _ v (c .before .before .loop-test .taken) (inv .0) (inv .1) (λ y h. total-le _ _ _ _ y _ v h (inv .0))
 
 loop-again : tie.Need-loop-again Inv-loop μ-loop
 loop-again c =

@@ -11,10 +11,10 @@ use Rattle.totals.proofs.within.Statement.{statement}
 use Rattle.totals.proofs.within.Tie as tie
 
 abbrev Inv-loop : tie.InvT-loop
-Inv-loop sheet row ok₀ y z₀ ok z = (z ≤ y) × (ok ≡ rowFits sheet row z)
+Inv-loop sheet row ok₀ years y₀ ok y = (y ≤ years) × (ok ≡ rowFits sheet row y)
 
 abbrev μ-loop : tie.MeasureT-loop
-μ-loop sheet row ok₀ y z₀ ok z = y - z
+μ-loop sheet row ok₀ years y₀ ok y = years - y
 
 loop-holds : tie.Need-loop-holds Inv-loop μ-loop
 unfolding fitsTo

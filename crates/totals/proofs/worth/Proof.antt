@@ -9,14 +9,19 @@ value-requires : tie.Need-value-requires
 value-requires c κs =
     let pre = c .before .before .before .before .before .pre in
     record {
-      price-ok = omega (arith, c .before .before .before .capped .ensures, c .before .before .before .before .admin .ensures, pre .0 .admin _ (pre .1));
-      reference-ok = omega (arith, c .before .before .reference .ensures, pre .0 .reference _ _ (pre .1) (pre .2));
-      energy-ok = omega (arith, c .before .energy .ensures, pre .0 .energy _ _ (pre .1) (pre .2));
-      share-ok = omega (arith, c .share .ensures, pre .0 .share _ _ (pre .1) (pre .2));
+      price-ok = omega (arith, c .before .before .before .capped .ensures, c .before .before .before .before .admin .ensures, pre .ready .admin _ (pre .bid));
+      reference-ok = omega (arith, c .before .before .reference .ensures, pre .ready .reference _ _ (pre .bid) (pre .year));
+      energy-ok = omega (arith, c .before .energy .ensures, pre .ready .energy _ _ (pre .bid) (pre .year));
+      share-ok = omega (arith, c .share .ensures, pre .ready .share _ _ (pre .bid) (pre .year));
     }
 
 returns : tie.Need-returns
-returns c = (worth-is _ _ _ _ (c .before .before .before .before .before .admin .ensures) (c .before .before .before .before .capped .ensures) (c .before .before .before .reference .ensures) (c .before .before .energy .ensures) (c .before .share .ensures) (c .value .ensures .0), c .value .ensures .1)
+returns c = record {
+  value =
+      worth-is _ _ _ _ (c .before .before .before .before .before .admin .ensures) (c .before .before .before .before .capped .ensures)
+      (c .before .before .before .reference .ensures) (c .before .before .energy .ensures) (c .before .share .ensures) (c .value .ensures .0);
+  small = c .value .ensures .1;
+}
 
 pub worth-spec : {M : Type 1} → statement M
 worth-spec =
