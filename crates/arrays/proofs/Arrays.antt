@@ -2,8 +2,9 @@
 use Prim.Native.Nat.{ℕ, zero, suc, _+_, _≤_, _<_}
 use mathlib.Core.Path.{_≡_, refl, sym, ap, _∙_}
 use mathlib.Core.Bool.{Bool, true, false, _||_}
-use mathlib.Core.List.{List}
+use mathlib.Core.List.{List, [], _∷_}
 use native.Mathlib.Nat.{add-suc}
+use native.Mathlib.Numerals.{add-one}
 use native.Mathlib.Omega.{arith}
 use lib.ListN.{length, getD, set, replicate, length-set}
 use lib.Seq.{getD-set-same, getD-set-other}
@@ -50,6 +51,24 @@ fill-at l f zero k d h g = absurd (omega arith)
 fill-at l f (suc n) k d h g =
     put-is (fill l f n) n k (f n) d (omega (arith, fill-length l f n))
     ∙ case (eqb k n) (λ t. rw (t, eqb-true k n t)) (λ u. let q = eqb-false k n u in rw u (fill-at l f n k d (omega arith) (omega arith)))
+
+-- a place that is not filled yet; and one that holds its value already
+pub fill-rest : {A : Type 0} (l : List A) (f : ℕ → A) (n k : ℕ) (d : A) → n ≤ k → getD (fill l f n) k d ≡ getD l k d
+unfolding fill
+fill-rest l f zero k d h = refl
+fill-rest l f (suc n) k d h = getD-set-other (fill l f n) n k (f n) d (λ e. omega arith) ∙ fill-rest l f n k d (omega arith)
+
+set-same : {A : Type 0} (l : List A) (i : ℕ) (d : A) → i < length l → l ≡ set l i (getD l i d)
+set-same [] i d h = absurd (omega arith)
+set-same (x ∷ l) zero d h = refl
+set-same (x ∷ l) (suc i) d h = ap (λ t. x ∷ t) (set-same l i d (omega arith))
+
+pub fill-stays : {A : Type 0} (l : List A) (f : ℕ → A) (n : ℕ) (d : A) {out : List A} → out ≡ fill l f n → n < length l → f n ≡ getD l n d
+    → out ≡ fill l f (n + 1)
+unfolding fill
+fill-stays l f n d e h v =
+    e ∙ set-same (fill l f n) n d (omega (arith, fill-length l f n)) ∙ ap (set (fill l f n) n) (fill-rest l f n n d (omega arith) ∙ sym v)
+    ∙ ap (λ (x : ℕ). fill l f x) (sym (add-one n))
 
 -- an array into which values are laid has these at their places, and all else as it was
 pub placed-length : {A : Type 0} (f : ℕ → A) (l : List A) (at n : ℕ) → length (placed f l at n) ≡ length l

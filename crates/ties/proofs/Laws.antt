@@ -14,71 +14,57 @@ use Rattle.rules.specs.Lists.{pick}
 use Rattle.rules.specs.Pot.{has, best}
 use Rattle.pot_laws.specs.Lists.{case}
 use Rattle.pot_laws.specs.Bits.{add-lt}
-use Rattle.arrays.specs.Sets.{fill, members}
-use Rattle.arrays.proofs.Arrays.{put-is, fill-length, fill-at, zeros}
+use Rattle.rules.specs.Names.{mostDeliveries}
+use Rattle.arrays.specs.Sets.{fill, placed, members}
+use Rattle.arrays.proofs.Arrays.{fill-at, fill-rest, placed-fill, zeros}
 use Rattle.sheet.specs.declared.Size.{Size}
-use Rattle.sheet.specs.Sheet.{limitAt, rowYear, rowDraw}
+use Rattle.sheet.specs.Sheet.{columns, limitAt, rowYear, rowDraw}
 use Rattle.totals.specs.Totals.{worthOf, totalOf, noRow, filled, fitsTo}
-use Rattle.ties.specs.declared.Best.{Best}
-use Rattle.ties.specs.Ties.{raisedTo, baseAt, noBase, laidTo, aloneTotal, aloneFits, keepsOf, compactOf, listed, aboveOf, rankOf, startOf, ownAt, touchOf, touchedOf, bestOf, considered, bestMask, combinationOf, addedOf, oneAt, oneYearAt, jointOf, unionOf, okBy, lastBy, lookedAt, bestBy, ranksOf, startsOf, ownsOf, choiceAt, choiceOf}
+use Rattle.ties.specs.declared.tied.Tied.{Tied}
+use Rattle.ties.specs.declared.search.Best.{Best}
+use Rattle.ties.specs.Ties.{partSize, partRows, repricedTo, baseAt, noBase, aloneTotal, aloneFits, keepsOf, compactOf, listed, aboveOf, rankOf, startOf, ranksOf, startsOf, tiedOf, ownAt, ownsOf, touchOf, touchedOf, bestOf, bestMask, combinationOf, combinedOf, oneAt, oneYearAt, jointOf, unionOf, okBy, lastBy, betterOf, bestBy, choiceAt, choiceOf}
 
 -- ---- the present winners
-module _ (prices : List ℕ) (p t d : ℕ) {b : Bool} {row : List ℕ} (eb : b ≡ has t d) (er : row ≡ raisedTo prices p t d) where
-  pub raised-hit : b ≡ true → set row d p ≡ raisedTo prices p t (d + 1)
-  unfolding raisedTo
-  raised-hit h = rw (add-one d, er, sym eb ∙ h)
+module _ (prices : List ℕ) (p t d : ℕ) {b : Bool} {row : List ℕ} (eb : b ≡ has t d) (er : row ≡ repricedTo prices p t d) where
+  pub repriced-hit : b ≡ true → set row d p ≡ repricedTo prices p t (d + 1)
+  unfolding repricedTo
+  repriced-hit h = rw (add-one d, er, sym eb ∙ h)
 
-  pub raised-miss : b ≡ false → row ≡ raisedTo prices p t (d + 1)
-  unfolding raisedTo
-  raised-miss h = rw (add-one d, er, sym eb ∙ h)
-
--- a table is laid row by row
-pub laid-next : (table row : List ℕ) (t z : ℕ) {l : List ℕ} → l ≡ laidTo table row t z → set l (t * 8 + z) (getD row z 0) ≡ laidTo table row t (z + 1)
-unfolding laidTo
-laid-next table row t z e = rw (add-one z, e)
-
--- a place past those that are filled
-fill-past : (l : List ℕ) (f : ℕ → ℕ) (n z : ℕ) → n ≤ length l → n ≤ z → getD (fill l f n) z 0 ≡ getD l z 0
-unfolding fill
-fill-past l f zero z g h = refl
-fill-past l f (suc n) z g h =
-    put-is (fill l f n) n z (f n) 0 (omega (arith, fill-length l f n))
-    ∙ rw (ne-eqb z n (λ e. let q : ⊥ = omega arith in q)) (fill-past l f n z (omega arith) (omega arith))
+  pub repriced-miss : b ≡ false → row ≡ repricedTo prices p t (d + 1)
+  unfolding repricedTo
+  repriced-miss h = rw (add-one d, er, sym eb ∙ h)
 
 -- a row of totals at the prices of the set t is that set's row of the table
-row-is : (sheet : List ℕ) (of : Size) (marks prices : List ℕ) (p t z : ℕ) → of .years ≤ 8 → z < 8
-    → getD (filled (λ z. totalOf sheet marks (raisedTo prices p t 4) z (of .bids)) (of .years)) z 0 ≡ baseAt sheet of marks prices p (t * 8 + z)
+row-is : (sheet : List ℕ) (of : Size) (marks prices : List ℕ) (p t y : ℕ) → of .years ≤ 8 → y < 8
+    → getD (filled (λ y. totalOf sheet marks (repricedTo prices p t 4) y (of .bids)) (of .years)) y 0 ≡ baseAt sheet of marks prices p (t * 8 + y)
 unfolding baseAt noRow
-row-is sheet of marks prices p t z h g =
+row-is sheet of marks prices p t y h g =
     rw (q, w)
-    (case (ltb z (of .years))
-    (λ u. rw u (fill-at noRow f (of .years) z 0 h (ltb-true z (of .years) u)))
-    (λ u. rw u (fill-past noRow f (of .years) z h (ltb-false z (of .years) u) ∙ zeros 8 z)))
+    (case (ltb y (of .years))
+    (λ u. rw u (fill-at noRow f (of .years) y 0 h (ltb-true y (of .years) u)))
+    (λ u. rw u (fill-rest noRow f (of .years) y 0 (ltb-false y (of .years) u) ∙ zeros 8 y)))
   where
     f : ℕ → ℕ
-    f z = totalOf sheet marks (raisedTo prices p t 4) z (of .bids)
+    f y = totalOf sheet marks (repricedTo prices p t 4) y (of .bids)
 
-    q : (t * 8 + z) / 8 ≡ t
+    q : (t * 8 + y) / 8 ≡ t
     q = omega arith
 
-    w : (t * 8 + z) % 8 ≡ z
+    w : (t * 8 + y) % 8 ≡ y
     w = omega arith
 
-laid-fill : (l : List ℕ) (f : ℕ → ℕ) (row : List ℕ) (t n : ℕ) → ((z : ℕ) → z < n → getD row z 0 ≡ f (t * 8 + z)) → laidTo (fill l f (t * 8)) row t n ≡ fill l f (t * 8 + n)
-unfolding laidTo fill
-laid-fill l f row t zero h = let e : t * 8 ≡ t * 8 + 0 = omega arith in ap (fill l f) e
-laid-fill l f row t (suc n) h = rw (laid-fill l f row t n (λ z g. h z (omega arith)), h n (omega arith), add-suc (t * 8) n)
-
-pub bases-next : (sheet : List ℕ) (of : Size) (marks prices : List ℕ) (p t : ℕ) {trial row base r : List ℕ} → of .years ≤ 8 → trial ≡ raisedTo prices p t 4
-    → row ≡ filled (λ z. totalOf sheet marks trial z (of .bids)) (of .years) → base ≡ fill noBase (baseAt sheet of marks prices p) (t * 8) → r ≡ laidTo base row t 8
-    → r ≡ fill noBase (baseAt sheet of marks prices p) ((t + 1) * 8)
+pub bases-next : (sheet : List ℕ) (of : Size) (marks prices : List ℕ) (p t : ℕ) {trial row base r : List ℕ} → of .years ≤ columns
+    → trial ≡ repricedTo prices p t mostDeliveries → row ≡ filled (λ y. totalOf sheet marks trial y (of .bids)) (of .years)
+    → base ≡ fill noBase (baseAt sheet of marks prices p) (t * columns) → r ≡ placed (λ y. getD row y 0) base (t * columns) columns
+    → r ≡ fill noBase (baseAt sheet of marks prices p) ((t + 1) * columns)
 bases-next sheet of marks prices p t {trial} {row} {base} {r} h et ew eb er =
-    er ∙ ap (λ (l : List ℕ). laidTo l row t 8) eb
-    ∙ laid-fill noBase (baseAt sheet of marks prices p) row t 8 (λ z g. ap (λ (l : List ℕ). getD l z 0) ew′ ∙ row-is sheet of marks prices p t z h g)
+    er ∙ ap (λ (l : List ℕ). placed (λ y. getD row y 0) l (t * 8) 8) eb
+    ∙ placed-fill noBase (baseAt sheet of marks prices p) (λ y. getD row y 0) (t * 8) 8
+    (λ y g. ap (λ (l : List ℕ). getD l y 0) ew′ ∙ row-is sheet of marks prices p t y h g)
     ∙ ap (fill noBase (baseAt sheet of marks prices p)) next
   where
-    ew′ : row ≡ filled (λ z. totalOf sheet marks (raisedTo prices p t 4) z (of .bids)) (of .years)
-    ew′ = ew ∙ ap (λ (u : List ℕ). filled (λ z. totalOf sheet marks u z (of .bids)) (of .years)) et
+    ew′ : row ≡ filled (λ y. totalOf sheet marks (repricedTo prices p t 4) y (of .bids)) (of .years)
+    ew′ = ew ∙ ap (λ (u : List ℕ). filled (λ y. totalOf sheet marks u y (of .bids)) (of .years)) et
 
     next : t * 8 + 8 ≡ (t + 1) * 8
     next = omega arith
@@ -94,9 +80,9 @@ pow-low (suc (suc (suc (suc d)))) h = absurd (omega arith)
 pub pow-at : {d r : ℕ} (e : ℕ) → d ≡ e → e < 4 → r ≡ 2 ^ d → r ≤ 8
 pow-at e q h er = rw (er, q) (pow-low e h)
 
-pub alone-is : (sheet base : List ℕ) (p k z : ℕ) {d t w : ℕ} → d ≡ rowYear sheet k → t ≡ 2 ^ d → w ≡ worthOf sheet k p z → getD base (t * 8 + z) 0 + w ≡ aloneTotal sheet base p k z
+pub alone-is : (sheet base : List ℕ) (p k y : ℕ) {d t w : ℕ} → d ≡ rowYear sheet k → t ≡ 2 ^ d → w ≡ worthOf sheet k p y → getD base (t * 8 + y) 0 + w ≡ aloneTotal sheet base p k y
 unfolding aloneTotal
-alone-is sheet base p k z ed et ew = rw (ew, et, ed)
+alone-is sheet base p k y ed et ew = rw (ew, et, ed)
 
 pub and-yes : {a b c : Bool} → a ≡ true → c ≡ b → c ≡ (a && b)
 and-yes h e = rw (h, e)
@@ -167,14 +153,14 @@ module _ (ranks : List ℕ) (mask j : ℕ) {b : Bool} (eb : b ≡ has mask (getD
     unfolding touchedOf
     touched-miss h = rw (add-one j, sym eb ∙ h, et)
 
-  module _ (own : List ℕ) (z : ℕ) {s : ℕ} (es : s ≡ addedOf own ranks mask z j) where
-    pub added-hit : b ≡ true → s + getD own (j * 8 + z) 0 ≡ addedOf own ranks mask z (j + 1)
-    unfolding addedOf
-    added-hit h = rw (add-one j, sym eb ∙ h, es)
+  module _ (own : List ℕ) (y : ℕ) {s : ℕ} (es : s ≡ combinedOf own ranks mask y j) where
+    pub combined-hit : b ≡ true → s + getD own (j * 8 + y) 0 ≡ combinedOf own ranks mask y (j + 1)
+    unfolding combinedOf
+    combined-hit h = rw (add-one j, sym eb ∙ h, es)
 
-    pub added-miss : b ≡ false → s ≡ addedOf own ranks mask z (j + 1)
-    unfolding addedOf
-    added-miss h = rw (add-one j, sym eb ∙ h, es) (omega arith)
+    pub combined-miss : b ≡ false → s ≡ combinedOf own ranks mask y (j + 1)
+    unfolding combinedOf
+    combined-miss h = rw (add-one j, sym eb ∙ h, es) (omega arith)
 
   module _ (list : List ℕ) {a : List Bool} (ea : a ≡ combinationOf list ranks mask j) where
     pub combination-hit : b ≡ true → set a (getD list j 0) true ≡ combinationOf list ranks mask (j + 1)
@@ -186,78 +172,86 @@ module _ (ranks : List ℕ) (mask j : ℕ) {b : Bool} (eb : b ≡ has mask (getD
     combination-miss h = rw (add-one j, sym eb ∙ h, ea)
 
 -- ---- the tables
-pub one-is : (own ranks : List ℕ) (k s i : ℕ) {w r : ℕ} → w ≡ 2 ^ (s + i / 8) → r ≡ addedOf own ranks w (i % 8) k → r ≡ oneAt own ranks k s i
+pub one-is : (own ranks : List ℕ) (k i : ℕ) {w r : ℕ} → w ≡ 2 ^ (i / columns) → r ≡ combinedOf own ranks w (i % columns) k → r ≡ oneAt own ranks k i
 unfolding oneAt
-one-is own ranks k s i ew er = rw (er, ew)
+one-is own ranks k i ew er = rw (er, ew)
 
-pub one-year-is : (ranks starts : List ℕ) (k s i : ℕ) {w r : ℕ} → w ≡ 2 ^ (s + i) → r ≡ touchedOf ranks starts w k → r ≡ oneYearAt ranks starts k s i
+pub one-year-is : (ranks starts : List ℕ) (k i : ℕ) {w r : ℕ} → w ≡ 2 ^ i → r ≡ touchedOf ranks starts w k → r ≡ oneYearAt ranks starts k i
 unfolding oneYearAt
-one-year-is ranks starts k s i ew er = rw (er, ew)
+one-year-is ranks starts k i ew er = rw (er, ew)
 
 -- ---- the search
-pub joint-is : (base low high : List ℕ) (mask t z : ℕ) {l h : ℕ} → l ≡ mask % 32 * 8 + z → h ≡ mask / 32 * 8 + z
-    → getD base (t * 8 + z) 0 + getD low l 0 + getD high h 0 ≡ jointOf base low high mask t z
+pub joint-is : (base costs : List ℕ) (mask t y : ℕ) {n : ℕ} → n ≡ mask
+    → getD base (t * columns + y) 0 + getD costs (n % partSize * columns + y) 0 + getD costs (partRows + n / partSize * columns + y) 0
+    ≡ jointOf base costs mask t y
 unfolding jointOf
-joint-is base low high mask t z el eh = rw (el, eh)
+joint-is base costs mask t y e = rw e
 
 -- a year above its budget, whatever the others
-pub fits-stops : (f : ℕ → ℕ) (sheet : List ℕ) (z n : ℕ) {x q : ℕ} → x ≡ f z → q ≡ limitAt sheet z → q < x → z < n → false ≡ fitsTo f sheet n
+pub fits-stops : (f : ℕ → ℕ) (sheet : List ℕ) (y n : ℕ) {x q : ℕ} → x ≡ f y → q ≡ limitAt sheet y → q < x → y < n → false ≡ fitsTo f sheet n
 unfolding fitsTo
-fits-stops f sheet z zero e l h g = absurd (omega arith)
-fits-stops f sheet z (suc n) e l h g =
-    case (eqb z n) (λ t. rw (← (eqb-true z n t), ← e, ← l, lt-leb _ _ h))
-    (λ u. let d = eqb-false z n u in rw (← (fits-stops f sheet z n e l h (omega arith))) (no (leb (f n) (limitAt sheet n))))
+fits-stops f sheet y zero e l h g = absurd (omega arith)
+fits-stops f sheet y (suc n) e l h g =
+    case (eqb y n) (λ t. rw (← (eqb-true y n t), ← e, ← l, lt-leb _ _ h))
+    (λ u. let d = eqb-false y n u in rw (← (fits-stops f sheet y n e l h (omega arith))) (no (leb (f n) (limitAt sheet n))))
   where
     no : (b : Bool) → false ≡ (b && false)
     no true = refl
     no false = refl
 
--- the ways that a look at a combination goes
-module _ (sheet : List ℕ) (of : Size) (base low high : List ℕ) (mask t : ℕ) (b : Best) {f : Bool} (ef : f ≡ fitsTo (jointOf base low high mask t) sheet (of .years)) where
-  pub looked-not : f ≡ false → b ≡ lookedAt sheet of base low high mask t b
-  unfolding lookedAt
-  looked-not h = rw (← ef, h)
+-- the better of two
+module _ (b : Best) (mask total : ℕ) where
+  pub better-less : total < b .total → b ≡ betterOf b mask total
+  unfolding betterOf
+  better-less g = rw (lt-leb (b .total) total g)
 
-  module _ {w : ℕ} (h : f ≡ true) (ew : w ≡ jointOf base low high mask t (of .years - 1)) where
-    pub looked-less : w < b .total → b ≡ lookedAt sheet of base low high mask t b
-    unfolding lookedAt
-    looked-less g = rw (← ef, h, ← ew, lt-leb (b .total) w g)
+  pub better-more : b .total ≤ total → _≡_ {A = Best} (record { mask = mask; total = total }) (betterOf b mask total)
+  unfolding betterOf
+  better-more g = rw (le-leb (b .total) total g)
 
-    pub looked-more : b .total ≤ w → _≡_ {A = Best} (record { mask = mask; total = w }) (lookedAt sheet of base low high mask t b)
-    unfolding lookedAt
-    looked-more g = rw (← ef, h, ← ew, le-leb (b .total) w g)
+pub last-is : (of : Size) (base costs dates : List ℕ) (mask : ℕ) {t w last : ℕ} → t ≡ unionOf dates mask → last ≡ of .years - 1
+    → w ≡ jointOf base costs mask t last → w ≡ lastBy of base costs dates mask
+unfolding lastBy
+last-is of base costs dates mask et el ew = rw (ew, et, el)
 
-pub looked-is : (sheet : List ℕ) (of : Size) (base low high lows highs : List ℕ) (mask : ℕ) (b : Best) {t : ℕ} {r : Best} → t ≡ bitOr (getD lows (mask % 32) 0) (getD highs (mask / 32) 0)
-    → r ≡ lookedAt sheet of base low high mask t b → r ≡ considered (okBy sheet of base low high lows highs) (lastBy of base low high lows highs) mask b
-unfolding lookedAt considered okBy lastBy unionOf
-looked-is sheet of base low high lows highs mask b et er = rw (er, et)
-
-pub last-first : (of : Size) (base low high lows highs : List ℕ) {t w : ℕ} → t ≡ bitOr (getD lows 0 0) (getD highs 0 0)
-    → w ≡ jointOf base low high 0 t (of .years - 1) → w ≡ lastBy of base low high lows highs 0
-unfolding lastBy unionOf
-last-first of base low high lows highs et ew = rw (ew, et)
+pub ok-is : (sheet : List ℕ) (of : Size) (base costs dates : List ℕ) (mask : ℕ) {t : ℕ} {f : Bool} → t ≡ unionOf dates mask
+    → f ≡ fitsTo (jointOf base costs mask t) sheet (of .years) → f ≡ okBy sheet of base costs dates mask
+unfolding okBy
+ok-is sheet of base costs dates mask et ef = rw (ef, et)
 
 pub best-none : (ok : ℕ → Bool) (tot : ℕ → ℕ) {w : ℕ} → w ≡ tot 0 → _≡_ {A = Best} (record { mask = 0; total = w }) (bestOf ok tot 0)
 unfolding best
 best-none ok tot e = rw e
 
-pub best-next : (ok : ℕ → Bool) (tot : ℕ → ℕ) (n : ℕ) {b r : Best} → b ≡ bestOf ok tot n → r ≡ considered ok tot n b → r ≡ bestOf ok tot (n + 1)
-unfolding best considered
-best-next ok tot n eb er = rw (er, eb, add-one n) (go (ok n && leb (tot (best ok tot n)) (tot n)))
-  where
-    go : (t : Bool) → _≡_ {A = Best} (pick t (record { mask = n; total = tot n }) (record { mask = best ok tot n; total = tot (best ok tot n) }))
-        (record { mask = pick t n (best ok tot n); total = tot (pick t n (best ok tot n)) })
-    go true = refl
-    go false = refl
+module _ (ok : ℕ → Bool) (tot : ℕ → ℕ) (n : ℕ) {b : Best} {f : Bool} (eb : b ≡ bestOf ok tot n) (ef : f ≡ ok n) where
+  pub best-more : {r : Best} {w : ℕ} → f ≡ true → w ≡ tot n → r ≡ betterOf b n w → r ≡ bestOf ok tot (n + 1)
+  unfolding best betterOf
+  best-more h ew er = rw (er, eb, ew, add-one n, sym ef ∙ h) (go (leb (tot (best ok tot n)) (tot n)))
+    where
+      go : (t : Bool) → _≡_ {A = Best} (pick t (record { mask = n; total = tot n }) (record { mask = best ok tot n; total = tot (best ok tot n) }))
+          (record { mask = pick t n (best ok tot n); total = tot (pick t n (best ok tot n)) })
+      go true = refl
+      go false = refl
 
-pub best-ends : (sheet : List ℕ) (of : Size) (base low high lows highs : List ℕ) (k : ℕ) {n e : ℕ} {b : Best}
-    → b ≡ bestOf (okBy sheet of base low high lows highs) (lastBy of base low high lows highs) n → n ≤ e → e ≤ n → e ≡ 2 ^ k → b .mask ≡ bestBy sheet of base low high lows highs k
+  pub best-same : f ≡ false → b ≡ bestOf ok tot (n + 1)
+  unfolding best
+  best-same h = rw (eb, add-one n, sym ef ∙ h)
+
+pub best-ends : (sheet : List ℕ) (of : Size) (base costs dates : List ℕ) (k : ℕ) {n e : ℕ} {b : Best}
+    → b ≡ bestOf (okBy sheet of base costs dates) (lastBy of base costs dates) n → n ≤ e → e ≤ n → e ≡ 2 ^ k → b .mask ≡ bestBy sheet of base costs dates k
 unfolding bestBy
-best-ends sheet of base low high lows highs k eb h g ee =
-    ap (λ (x : Best). x .mask) eb ∙ ap (best (okBy sheet of base low high lows highs) (lastBy of base low high lows highs)) (le-antisymm h g ∙ ee)
+best-ends sheet of base costs dates k eb h g ee =
+    ap (λ (x : Best). x .mask) eb ∙ ap (best (okBy sheet of base costs dates) (lastBy of base costs dates)) (le-antisymm h g ∙ ee)
 
 -- the parts of a choice
-pub choice-is : (sheet : List ℕ) (of : Size) (base : List ℕ) (l : List Bool) (k p : ℕ) {list ranks starts own : List ℕ} {mask : ℕ} {r : List Bool} → list ≡ compactOf l (of .bids) → ranks ≡ ranksOf sheet list k
-    → starts ≡ startsOf sheet list k → own ≡ ownsOf sheet of list p k → mask ≡ bestMask sheet of base own ranks starts k → r ≡ combinationOf list ranks mask k → r ≡ choiceOf sheet of base l k p
-unfolding choiceOf choiceAt
-choice-is sheet of base l k p el ek es eo em er = rw (er, em, eo, es, ek, el)
+pub tied-is : (sheet : List ℕ) (of : Size) (l : List Bool) (k : ℕ) {list ranks starts : List ℕ} → list ≡ compactOf l (of .bids) → ranks ≡ ranksOf sheet list k
+    → starts ≡ startsOf sheet list k → _≡_ {A = Tied} (record { count = k; bids = list; ranks = ranks; starts = starts }) (tiedOf sheet of l k)
+unfolding tiedOf
+tied-is sheet of l k el er es = rw (es, er, el)
+
+pub choice-is : (sheet : List ℕ) (of : Size) (base : List ℕ) (l : List Bool) (k p : ℕ) {tied : Tied} {own : List ℕ} {mask : ℕ} {r : List Bool}
+    → tied ≡ tiedOf sheet of l k → own ≡ ownsOf sheet of (tied .bids) p (tied .count)
+    → mask ≡ bestMask sheet of base own (tied .ranks) (tied .starts) (tied .count)
+    → r ≡ combinationOf (tied .bids) (tied .ranks) mask (tied .count) → r ≡ choiceOf sheet of base l k p
+unfolding choiceOf choiceAt tiedOf
+choice-is sheet of base l k p et eo em er = rw (er, em, eo, et)

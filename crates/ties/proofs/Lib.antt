@@ -2,4 +2,4 @@ pub mod Laws
 pub mod Lists
 pub mod Sums
 pub mod Link
-pub mod Halves
+pub mod Parts

@@ -20,40 +20,40 @@ use Rattle.sheet.specs.Sheet.{potIn, Ready, inAuction, rowYear, rowDraw}
 use Rattle.totals.specs.Totals.{worthOf, totalOf}
 use Rattle.totals.proofs.Link as link
 use Rattle.totals.proofs.Link.{Marked}
-use Rattle.ties.specs.Ties.{raisedTo, baseAt, noBase, basesOf, aloneTotal, aloneFits, keepsOf, compactOf, listed, aboveOf, rankOf, ranksOf, startOf, startsOf, ownAt, noOwn, ownsOf, Numbers, touchOf, touchedOf, maskTotal, figure, okMask, lastMask, bestMask, combinationOf, choiceAt, choiceOf}
+use Rattle.ties.specs.Ties.{repricedTo, baseAt, noBase, basesOf, aloneTotal, aloneFits, keepsOf, compactOf, listed, aboveOf, rankOf, ranksOf, startOf, startsOf, ownAt, noOwn, ownsOf, Numbers, touchOf, touchedOf, maskTotal, figure, okMask, lastMask, bestMask, combinationOf, choiceAt, choiceOf}
 use Rattle.ties.proofs.Laws.{pow-low}
-use Rattle.ties.proofs.Halves.{touch-low}
+use Rattle.ties.proofs.Parts.{touch-low}
 use Rattle.ties.proofs.Lists.{listed-is, numbers, rank-at, start-at}
 use Rattle.ties.proofs.Sums.{sum-same, price-won, price-one, tally-split, tally-sum, Part, part-sift, part-in}
 
--- ---- a row of prices that is raised
-raised-length : (prices : List ℕ) (p t n : ℕ) → length (raisedTo prices p t n) ≡ length prices
-unfolding raisedTo
-raised-length prices p t zero = refl
-raised-length prices p t (suc n) = case (has t n) (λ e. rw e (length-set (raisedTo prices p t n) n p ∙ raised-length prices p t n)) (λ f. rw f (raised-length prices p t n))
+-- ---- a row of prices, some of them anew
+repriced-length : (prices : List ℕ) (p t n : ℕ) → length (repricedTo prices p t n) ≡ length prices
+unfolding repricedTo
+repriced-length prices p t zero = refl
+repriced-length prices p t (suc n) = case (has t n) (λ e. rw e (length-set (repricedTo prices p t n) n p ∙ repriced-length prices p t n)) (λ f. rw f (repriced-length prices p t n))
 
-raised-past : (prices : List ℕ) (p t n d : ℕ) → n ≤ d → n ≤ length prices → getD (raisedTo prices p t n) d 0 ≡ getD prices d 0
-unfolding raisedTo
-raised-past prices p t zero d h g = refl
-raised-past prices p t (suc n) d h g =
-    let r = raised-past prices p t n d (omega arith) (omega arith) in
+repriced-past : (prices : List ℕ) (p t n d : ℕ) → n ≤ d → n ≤ length prices → getD (repricedTo prices p t n) d 0 ≡ getD prices d 0
+unfolding repricedTo
+repriced-past prices p t zero d h g = refl
+repriced-past prices p t (suc n) d h g =
+    let r = repriced-past prices p t n d (omega arith) (omega arith) in
     case (has t n)
-    (λ e. rw e (put-is (raisedTo prices p t n) n d p 0 (omega (arith, raised-length prices p t n)) ∙ rw (ne-eqb d n (λ q. let z : ⊥ = omega arith in z)) r))
+    (λ e. rw e (put-is (repricedTo prices p t n) n d p 0 (omega (arith, repriced-length prices p t n)) ∙ rw (ne-eqb d n (λ q. let y : ⊥ = omega arith in y)) r))
     (λ f. rw f r)
 
-raised-at : (prices : List ℕ) (p t n d : ℕ) → d < n → n ≤ length prices → getD (raisedTo prices p t n) d 0 ≡ pick (has t d) p (getD prices d 0)
-unfolding raisedTo
-raised-at prices p t zero d h g = absurd (omega arith)
-raised-at prices p t (suc n) d h g =
+repriced-at : (prices : List ℕ) (p t n d : ℕ) → d < n → n ≤ length prices → getD (repricedTo prices p t n) d 0 ≡ pick (has t d) p (getD prices d 0)
+unfolding repricedTo
+repriced-at prices p t zero d h g = absurd (omega arith)
+repriced-at prices p t (suc n) d h g =
     case (eqb d n)
     (λ q. let u = eqb-true d n q in
     case (has t n)
-    (λ e. rw (e, u) (put-is (raisedTo prices p t n) n n p 0 (omega (arith, raised-length prices p t n)) ∙ rw (eq-eqb n n refl, e)))
-    (λ f. rw (f, u, f) (raised-past prices p t n n (omega arith) (omega arith))))
+    (λ e. rw (e, u) (put-is (repricedTo prices p t n) n n p 0 (omega (arith, repriced-length prices p t n)) ∙ rw (eq-eqb n n refl, e)))
+    (λ f. rw (f, u, f) (repriced-past prices p t n n (omega arith) (omega arith))))
     (λ q. let u = eqb-false d n q in
-    let r = raised-at prices p t n d (omega arith) (omega arith) in
+    let r = repriced-at prices p t n d (omega arith) (omega arith) in
     case (has t n)
-    (λ e. rw e (put-is (raisedTo prices p t n) n d p 0 (omega (arith, raised-length prices p t n)) ∙ rw q r))
+    (λ e. rw e (put-is (repricedTo prices p t n) n d p 0 (omega (arith, repriced-length prices p t n)) ∙ rw q r))
     (λ f. rw f r))
 
 -- ---- sets of delivery years
@@ -98,7 +98,7 @@ module _ (sheet : List ℕ) (of : Size) (ok : Ready sheet of) where
 
       past : (n : ℕ) → n ≤ i → sift (λ k. eqb k i) (below n) ≡ []
       past zero g = refl
-      past (suc n) g = rw (ne-eqb n i (λ e. let z : ⊥ = omega arith in z)) (past n (omega arith))
+      past (suc n) g = rw (ne-eqb n i (λ e. let y : ⊥ = omega arith in y)) (past n (omega arith))
 
       one : (n : ℕ) → i < n → sift (λ k. eqb k i) (below n) ≡ i ∷ []
       one zero g = absurd (omega arith)
@@ -136,26 +136,26 @@ module _ (sheet : List ℕ) (of : Size) (ok : Ready sheet of) where
     start : (i : ℕ) → In i (P .bids) → rowYear sheet i < 4
     start i h = ok .year i (link.bid-lt sheet of ok i h)
 
-    row-at : (t z : ℕ) → t < 16 → z < of .years → getD base (t * 8 + z) 0 ≡ totalOf sheet marks (raisedTo prices p t 4) z (of .bids)
+    row-at : (t y : ℕ) → t < 16 → y < of .years → getD base (t * 8 + y) 0 ≡ totalOf sheet marks (repricedTo prices p t 4) y (of .bids)
     unfolding noBase baseAt
-    row-at t z h g =
-        ap (λ (l : List ℕ). getD l (t * 8 + z) 0) eb ∙ fill-at noBase (baseAt sheet of marks prices p) 128 (t * 8 + z) 0 (omega arith) (omega (arith, ok .years))
-        ∙ rw (over8, by8, lt-ltb z (of .years) g)
+    row-at t y h g =
+        ap (λ (l : List ℕ). getD l (t * 8 + y) 0) eb ∙ fill-at noBase (baseAt sheet of marks prices p) 128 (t * 8 + y) 0 (omega arith) (omega (arith, ok .years))
+        ∙ rw (over8, by8, lt-ltb y (of .years) g)
       where
-        over8 : (t * 8 + z) % 8 ≡ z
+        over8 : (t * 8 + y) % 8 ≡ y
         over8 = omega (arith, ok .years)
 
-        by8 : (t * 8 + z) / 8 ≡ t
+        by8 : (t * 8 + y) / 8 ≡ t
         by8 = omega (arith, ok .years)
 
-    base-is : (t z : ℕ) → t < 16 → z < of .years → getD base (t * 8 + z) 0 ≡ tally P (value P) (λ i. memb i ws) (over t) z (P .bids)
-    base-is t z h g =
-        row-at t z h g
-        ∙ link.total-at sheet of ok ws marks (raisedTo prices p t 4) M (over t) same z g
+    base-is : (t y : ℕ) → t < 16 → y < of .years → getD base (t * 8 + y) 0 ≡ tally P (value P) (λ i. memb i ws) (over t) y (P .bids)
+    base-is t y h g =
+        row-at t y h g
+        ∙ link.total-at sheet of ok ws marks (repricedTo prices p t 4) M (over t) same y g
       where
-        same : (i : ℕ) → In i (P .bids) → memb i ws ≡ true → getD (raisedTo prices p t 4) (rowYear sheet i) 0 ≡ over t (rowYear sheet i)
+        same : (i : ℕ) → In i (P .bids) → memb i ws ≡ true → getD (repricedTo prices p t 4) (rowYear sheet i) 0 ≡ over t (rowYear sheet i)
         same i j w =
-            raised-at prices p t 4 (rowYear sheet i) (start i j) (omega (arith, size))
+            repriced-at prices p t 4 (rowYear sheet i) (start i j) (omega (arith, size))
             ∙ ap (pick (has t (rowYear sheet i)) p) (at (rowYear sheet i) (start i j) ∙ opened (price-won P noPrice i ws (memb-in i ws w)))
           where
             opened : priceFrom P noPrice ws (P .yr i) ≡ clearing P ws (P .yr i) → priceFrom P noPrice ws (rowYear sheet i) ≡ clearing P ws (rowYear sheet i)
@@ -169,11 +169,11 @@ module _ (sheet : List ℕ) (of : Size) (ok : Ready sheet of) where
       pub low : t < 16
       pub years : (d : ℕ) → d < 4 → has t d ≡ memb d (map (P .yr) c)
 
-    pub joined : (c : List ℕ) (t z : ℕ) → Tried c t → z < of .years → getD base (t * 8 + z) 0 + sum (λ i. worthOf sheet i p z) c ≡ total P (c ++ ws) z
-    joined c t z T g = sym (
-        tally-same P (value P) (λ i. memb i (c ++ ws)) (λ i. memb i c || memb i ws) (clearing P (c ++ ws)) (over t) z (P .bids) (λ i j. memb-join i c ws) (λ i j u. price i j)
-        ∙ tally-split P (value P) (λ i. memb i c) (λ i. memb i ws) (over t) z (P .bids) (λ i j u. T .fresh i (memb-in i c u))
-        ∙ ap₂ _+_ (sym (base-is t z (T .low) g)) (tally-sum P (value P) (λ i. memb i c) (over t) z (P .bids) ∙ ap (sum (λ i. value P i (over t (P .yr i)) z)) (T .part .part) ∙ sum-same (λ i. value P i (over t (P .yr i)) z) (λ i. worthOf sheet i p z) c own)
+    pub joined : (c : List ℕ) (t y : ℕ) → Tried c t → y < of .years → getD base (t * 8 + y) 0 + sum (λ i. worthOf sheet i p y) c ≡ total P (c ++ ws) y
+    joined c t y T g = sym (
+        tally-same P (value P) (λ i. memb i (c ++ ws)) (λ i. memb i c || memb i ws) (clearing P (c ++ ws)) (over t) y (P .bids) (λ i j. memb-join i c ws) (λ i j u. price i j)
+        ∙ tally-split P (value P) (λ i. memb i c) (λ i. memb i ws) (over t) y (P .bids) (λ i j u. T .fresh i (memb-in i c u))
+        ∙ ap₂ _+_ (sym (base-is t y (T .low) g)) (tally-sum P (value P) (λ i. memb i c) (over t) y (P .bids) ∙ ap (sum (λ i. value P i (over t (P .yr i)) y)) (T .part .part) ∙ sum-same (λ i. value P i (over t (P .yr i)) y) (λ i. worthOf sheet i p y) c own)
         )
       where
         years : (i : ℕ) → In i (P .bids) → has t (P .yr i) ≡ memb (P .yr i) (map (P .yr) c)
@@ -185,16 +185,16 @@ module _ (sheet : List ℕ) (of : Size) (ok : Ready sheet of) where
         price : (i : ℕ) → In i (P .bids) → clearing P (c ++ ws) (P .yr i) ≡ over t (P .yr i)
         price i j = price-one P 0 p c ws (P .yr i) (T .price) ∙ ap (λ (u : Bool). pick u p (clearing P ws (P .yr i))) (sym (years i j))
 
-        own : (i : ℕ) → In i c → value P i (over t (P .yr i)) z ≡ worthOf sheet i p z
-        own i j = rw (years i (part-in P i (T .part) j), in-memb (in-map (P .yr) j)) (link.value-is sheet of ok i p z g)
+        own : (i : ℕ) → In i c → value P i (over t (P .yr i)) y ≡ worthOf sheet i p y
+        own i j = rw (years i (part-in P i (T .part) j), in-memb (in-map (P .yr) j)) (link.value-is sheet of ok i p y g)
 
     -- ---- what fits alone
     module _ (a : List Bool) (l : List ℕ) (of-set : members a (of .bids) ≡ l) (Q : Part P l) (pl : (i : ℕ) → In i l → P .price i ≡ p) (fl : (i : ℕ) → In i l → memb i ws ≡ false) where
-      alone-is : (i z : ℕ) → In i l → z < of .years → aloneTotal sheet base p i z ≡ total P (i ∷ ws) z
+      alone-is : (i y : ℕ) → In i l → y < of .years → aloneTotal sheet base p i y ≡ total P (i ∷ ws) y
       unfolding aloneTotal
-      alone-is i z j g = omega (arith, plus) ∙ joined (i ∷ []) (2 ^ rowYear sheet i) z tried g
+      alone-is i y j g = omega (arith, plus) ∙ joined (i ∷ []) (2 ^ rowYear sheet i) y tried g
         where
-          plus : sum (λ i. worthOf sheet i p z) (i ∷ []) ≡ worthOf sheet i p z + 0
+          plus : sum (λ i. worthOf sheet i p y) (i ∷ []) ≡ worthOf sheet i p y + 0
           plus = unfold sum in refl
 
           tried : Tried (i ∷ []) (2 ^ rowYear sheet i)
@@ -210,7 +210,7 @@ module _ (sheet : List ℕ) (of : Size) (ok : Ready sheet of) where
               opened d = unfold potIn in refl
 
       alone-fits : (i : ℕ) → In i l → aloneFits sheet of base p i ≡ fits P (i ∷ ws)
-      alone-fits i j = link.fits-is sheet of ok (aloneTotal sheet base p i) (total P (i ∷ ws)) (of .years) (omega arith) (λ z h. alone-is i z j h) ∙ opened
+      alone-fits i j = link.fits-is sheet of ok (aloneTotal sheet base p i) (total P (i ∷ ws)) (of .years) (omega arith) (λ y h. alone-is i y j h) ∙ opened
         where
           opened : within P (total P (i ∷ ws)) (of .years) ≡ fits P (i ∷ ws)
           opened = unfold potIn in refl
@@ -260,21 +260,21 @@ module _ (sheet : List ℕ) (of : Size) (ok : Ready sheet of) where
 
           rank-is : (j : ℕ) → j < k → getD ranks j 0 ≡ rank P r (getD list j 0)
           unfolding rank rankOf aboveOf potIn
-          rank-is j g = rank-at sheet of list p k ok N few j g ∙ ap (λ (x : List ℕ). length (sift (λ c. ltb (rowDraw sheet (getD list j 0)) (rowDraw sheet c)) x)) in-list
+          rank-is j g = rank-at sheet of list k ok N j g ∙ ap (λ (x : List ℕ). length (sift (λ c. ltb (rowDraw sheet (getD list j 0)) (rowDraw sheet c)) x)) in-list
 
           start-is : (j : ℕ) → j < k → getD starts j 0 ≡ P .yr (getD list j 0)
           unfolding startOf potIn
-          start-is j g = start-at sheet of list p k ok N few j g
+          start-is j g = start-at sheet of list k ok N j g
 
-          own-is : (j z : ℕ) → j < k → z < of .years → getD own (j * 8 + z) 0 ≡ worthOf sheet (getD list j 0) p z
+          own-is : (j y : ℕ) → j < k → y < of .years → getD own (j * 8 + y) 0 ≡ worthOf sheet (getD list j 0) p y
           unfolding noOwn ownAt
-          own-is j z g h =
-              fill-at noOwn (ownAt sheet of list p) (k * 8) (j * 8 + z) 0 (omega arith) (omega (arith, ok .years)) ∙ rw (over8, by8, lt-ltb z (of .years) h)
+          own-is j y g h =
+              fill-at noOwn (ownAt sheet of list p) (k * 8) (j * 8 + y) 0 (omega arith) (omega (arith, ok .years)) ∙ rw (over8, by8, lt-ltb y (of .years) h)
             where
-              over8 : (j * 8 + z) % 8 ≡ z
+              over8 : (j * 8 + y) % 8 ≡ y
               over8 = omega (arith, ok .years)
 
-              by8 : (j * 8 + z) / 8 ≡ j
+              by8 : (j * 8 + y) / 8 ≡ j
               by8 = omega (arith, ok .years)
 
           module _ (mask : ℕ) where
@@ -299,13 +299,13 @@ module _ (sheet : List ℕ) (of : Size) (ok : Ready sheet of) where
                 low : (n : ℕ) → n < k → P .yr (getD list n 0) < 4
                 low n g = unfold potIn in ok .year (getD list n 0) (N .small n g)
 
-            sum-is : (t z n : ℕ) → n ≤ k → z < of .years → maskTotal base own ranks mask t z n ≡ getD base (t * 8 + z) 0 + sum (λ i. worthOf sheet i p z) (sift sel (listed list n))
+            sum-is : (t y n : ℕ) → n ≤ k → y < of .years → maskTotal base own ranks mask t y n ≡ getD base (t * 8 + y) 0 + sum (λ i. worthOf sheet i p y) (sift sel (listed list n))
             unfolding maskTotal listed sum
-            sum-is t z zero h g = omega arith
-            sum-is t z (suc n) h g =
-                let ih = sum-is t z n (omega arith) g in
+            sum-is t y zero h g = omega arith
+            sum-is t y (suc n) h g =
+                let ih = sum-is t y n (omega arith) g in
                 case (sel (getD list n 0))
-                (λ u. rw (sel-is n h ∙ u, u, own-is n z h g, ih) (omega arith))
+                (λ u. rw (sel-is n h ∙ u, u, own-is n y h g, ih) (omega arith))
                 (λ u. rw (sel-is n h ∙ u, u, ih) (omega arith))
 
             set-size : (n : ℕ) → length (combinationOf list ranks mask n) ≡ 320
@@ -344,18 +344,18 @@ module _ (sheet : List ℕ) (of : Size) (ok : Ready sheet of) where
 
             tried : Tried cs years
             tried =
-                let z = touched-is k (omega arith) in
+                let y = touched-is k (omega arith) in
                 record {
                   part = part-com;
                   price = λ i j. pl i (in-com i j);
                   fresh = λ i j. fl i (in-com i j);
-                  low = z .0;
-                  years = λ d g. z .1 d g ∙ ap (λ (x : List ℕ). memb d (map (P .yr) x)) of-com;
+                  low = y .0;
+                  years = λ d g. y .1 d g ∙ ap (λ (x : List ℕ). memb d (map (P .yr) x)) of-com;
                 }
 
-            figure-is : (z : ℕ) → z < of .years → figure base own ranks k mask years z ≡ total P (cs ++ ws) z
+            figure-is : (y : ℕ) → y < of .years → figure base own ranks k mask years y ≡ total P (cs ++ ws) y
             unfolding figure
-            figure-is z g = sum-is years z k (omega arith) g ∙ ap (λ (x : List ℕ). getD base (years * 8 + z) 0 + sum (λ i. worthOf sheet i p z) x) of-com ∙ joined cs years z tried g
+            figure-is y g = sum-is years y k (omega arith) g ∙ ap (λ (x : List ℕ). getD base (years * 8 + y) 0 + sum (λ i. worthOf sheet i p y) x) of-com ∙ joined cs years y tried g
 
             ok-is : okMask sheet of base own ranks starts k mask ≡ fits P (cs ++ ws)
             unfolding okMask

@@ -11,11 +11,12 @@ use Rattle.rules.specs.Value.{dearest}
 use Rattle.rules.specs.Lists.{sift, below}
 use Rattle.pot_laws.specs.Lists.{case, In, here, there, sift-in, sift-le, below-in}
 use Rattle.arrays.specs.Sets.{members}
-use Rattle.arrays.proofs.Arrays.{fill-length, fill-at, fill-le, zeros, members-less, put-is}
+use Rattle.arrays.proofs.Arrays.{fill-at, fill-le, zeros, members-less, put-is}
 use Rattle.sheet.specs.declared.Size.{Size}
 use Rattle.sheet.specs.Sheet.{rowDraw, Ready}
 use Rattle.totals.proofs.Laws.{worth-le, total-le}
-use Rattle.ties.specs.Ties.{raisedTo, baseAt, noBase, basesOf, Base, listed, noList, compactOf, aboveOf, rankOf, ranksOf, startOf, startsOf, ownAt, noOwn, ownsOf, Numbers, Summed, Placed}
+use Rattle.ties.specs.declared.tied.Tied.{Tied}
+use Rattle.ties.specs.Ties.{Bounded, repricedTo, baseAt, noBase, basesOf, mostBase, listed, noList, compactOf, aboveOf, rankOf, ranksOf, startOf, startsOf, tiedOf, Few, Numbers, Placed, ownAt, noOwn, ownsOf, Owned}
 
 -- ---- the list of a set is its members
 compact-length : (l : List Bool) (n : ℕ) → length (compactOf l n) ≡ 10
@@ -28,7 +29,7 @@ listed-set : (a : List ℕ) (k i v : ℕ) → k ≤ i → i < length a → liste
 unfolding listed
 listed-set a zero i v h g = refl
 listed-set a (suc k) i v h g =
-    rw (put-is a i k v 0 g, listed-set a k i v (omega arith) g, ne-eqb k i (λ e. let z : ⊥ = omega arith in z))
+    rw (put-is a i k v 0 g, listed-set a k i v (omega arith) g, ne-eqb k i (λ e. let y : ⊥ = omega arith in y))
 
 -- one more is written at the end
 listed-more : (a : List ℕ) (k v : ℕ) → k < length a → listed (set a k v) (suc k) ≡ v ∷ listed a k
@@ -75,7 +76,7 @@ module _ (l : List Bool) (q : ℕ) {k : ℕ} {list : List ℕ} (ek : k ≡ lengt
 
   pub numbers : Numbers list k q
   numbers = record {
-    room = rw el (omega (arith, compact-length l q));
+    few = h;
     small = λ j g. below-in (getD list j 0) q (sift-in (getD list j 0) (λ i. getD l i false) (below q) (opened j (rw listed-is at (in-listed list j k g))) .0);
   }
     where
@@ -83,38 +84,38 @@ module _ (l : List Bool) (q : ℕ) {k : ℕ} {list : List ℕ} (ek : k ≡ lengt
       opened j i = unfold members in i
 
 pub numbers-more : {list : List ℕ} {k q : ℕ} (n : ℕ) → q ≤ n → Numbers list k q → Numbers list k n
-numbers-more n h N = record { room = N .room; small = λ j g. let z = N .small j g in omega arith }
+numbers-more n h N = record { few = N .few; small = λ j g. let y = N .small j g in omega arith }
 
 -- ---- all is small
-pub base-ok : (sheet : List ℕ) (of : Size) (marks prices : List ℕ) (p : ℕ) {base : List ℕ} → Ready sheet of → base ≡ basesOf sheet of marks prices p → Base base
+pub base-ok : (sheet : List ℕ) (of : Size) (marks prices : List ℕ) (p : ℕ) {base : List ℕ} → Ready sheet of → base ≡ basesOf sheet of marks prices p
+    → Bounded base mostBase
 unfolding noBase baseAt
 base-ok sheet of marks prices p v e = rw e (record {
-  room = omega (arith, fill-length noBase (baseAt sheet of marks prices p) 128);
-  small = λ i. fill-le noBase (baseAt sheet of marks prices p) (dearest * 320) 128 i (omega arith)
-      (λ j g. case (ltb (j % 8) (of .years)) (λ t. rw t (omega (arith, v .few, total-le sheet of marks (raisedTo prices p (j / 8) 4) (j % 8) (of .bids) v (ltb-true (j % 8) (of .years) t) (omega arith)))) (λ f. rw f (omega arith)))
+  small = λ i. fill-le noBase (baseAt sheet of marks prices p) mostBase 128 i (omega arith)
+      (λ j g. case (ltb (j % 8) (of .years))
+      (λ t. rw t (omega (arith, v .few, total-le sheet of marks (repricedTo prices p (j / 8) 4) (j % 8) (of .bids) v (ltb-true (j % 8) (of .years) t) (omega arith))))
+      (λ f. rw f (omega arith)))
       (λ j. rw (zeros 128 j) (omega arith));
 })
 
-module _ (sheet : List ℕ) (of : Size) (list : List ℕ) (p k : ℕ) (v : Ready sheet of) (N : Numbers list k (of .bids)) (h : k ≤ 10) where
-  own-ok : (i : ℕ) → getD (ownsOf sheet of list p k) i 0 ≤ dearest
+module _ (sheet : List ℕ) (of : Size) (list : List ℕ) (k : ℕ) (v : Ready sheet of) (N : Numbers list k (of .bids)) where
+  own-ok : (p i : ℕ) → getD (ownsOf sheet of list p k) i 0 ≤ dearest
   unfolding noOwn ownAt
-  own-ok i = fill-le noOwn (ownAt sheet of list p) dearest (k * 8) i (omega arith)
-      (λ j g. case (ltb (j % 8) (of .years)) (λ t. rw t (worth-le sheet of (getD list (j / 8) 0) p (j % 8) v (N .small (j / 8) (omega arith)) (ltb-true (j % 8) (of .years) t))) (λ f. rw f (omega arith)))
+  own-ok p i = fill-le noOwn (ownAt sheet of list p) dearest (k * 8) i (omega (arith, N .few))
+      (λ j g. case (ltb (j % 8) (of .years))
+      (λ t. rw t (worth-le sheet of (getD list (j / 8) 0) p (j % 8) v (N .small (j / 8) (omega arith)) (ltb-true (j % 8) (of .years) t)))
+      (λ f. rw f (omega arith)))
       (λ j. rw (zeros 80 j) (omega arith))
-
-  own-length : length (ownsOf sheet of list p k) ≡ 80
-  unfolding noOwn
-  own-length = fill-length noOwn (ownAt sheet of list p) (k * 8)
 
   ten : length noList ≡ 10
   unfolding noList
   ten = refl
 
   pub rank-at : (j : ℕ) → j < k → getD (ranksOf sheet list k) j 0 ≡ rankOf sheet list k j
-  rank-at j g = fill-at noList (rankOf sheet list k) k j 0 (omega (arith, ten)) g
+  rank-at j g = fill-at noList (rankOf sheet list k) k j 0 (omega (arith, N .few, ten)) g
 
   pub start-at : (j : ℕ) → j < k → getD (startsOf sheet list k) j 0 ≡ startOf sheet list j
-  start-at j g = fill-at noList (startOf sheet list) k j 0 (omega (arith, ten)) g
+  start-at j g = fill-at noList (startOf sheet list) k j 0 (omega (arith, N .few, ten)) g
 
   rank-low : (j : ℕ) → rankOf sheet list k j ≤ k
   unfolding rankOf aboveOf
@@ -124,25 +125,25 @@ module _ (sheet : List ℕ) (of : Size) (list : List ℕ) (p k : ℕ) (v : Ready
   unfolding startOf
   start-low j g = v .year (getD list j 0) (N .small j g)
 
-  pub ranks-room : k ≤ length (ranksOf sheet list k)
-  ranks-room = omega (arith, fill-length noList (rankOf sheet list k) k, ten)
+-- the bids of a set, with their places and years; and what they cost
+module _ (sheet : List ℕ) (of : Size) (l : List Bool) (k : ℕ) {tied : Tied} (v : Ready sheet of) (F : Few of l k) (et : tied ≡ tiedOf sheet of l k) where
+  N : Numbers (compactOf l (of .bids)) k (of .bids)
+  N = numbers l (of .bids) (F .counted) (F .few) refl
 
-  pub ranks-low : (j : ℕ) → j < k → getD (ranksOf sheet list k) j 0 < 32
-  ranks-low j g = omega (arith, rank-at j g, rank-low j)
+  pub tied-numbers : Numbers (tied .bids) (tied .count) (of .bids)
+  unfolding tiedOf
+  tied-numbers = rw et N
 
-  pub placed : {ranks starts : List ℕ} → ranks ≡ ranksOf sheet list k → starts ≡ startsOf sheet list k → Placed ranks starts k
-  placed er es = rw (er, es) (record {
-    ranks-in = ranks-room;
-    ranks-small = ranks-low;
-    starts-in = omega (arith, fill-length noList (startOf sheet list) k, ten);
-    starts-small = λ j g. rw (start-at j g) (start-low j g);
+  pub tied-placed : Placed tied
+  unfolding tiedOf
+  tied-placed = rw et (record {
+    few = F .few;
+    ranks = λ j g. omega (arith, F .few, rank-at sheet of (compactOf l (of .bids)) k v N j g, rank-low sheet of (compactOf l (of .bids)) k v N j);
+    starts = λ j g. rw (start-at sheet of (compactOf l (of .bids)) k v N j g) (start-low sheet of (compactOf l (of .bids)) k v N j g);
   })
 
-  pub summed : {own ranks : List ℕ} → own ≡ ownsOf sheet of list p k → ranks ≡ ranksOf sheet list k → Summed own ranks k
-  summed eo er = rw (eo, er) (record {
-    few = h;
-    own-room = omega (arith, own-length);
-    own-small = own-ok;
-    ranks-room = ranks-room;
-    ranks-low = ranks-low;
-  })
+  pub tied-owned : (p : ℕ) {own : List ℕ} → own ≡ ownsOf sheet of (tied .bids) p (tied .count) → Owned own tied
+  tied-owned p eo = record {
+    bids = rw eo (record { small = own-ok sheet of (tied .bids) (tied .count) v tied-numbers p });
+    placed = tied-placed;
+  }

@@ -33,37 +33,37 @@ memb-sift f k (x ∷ l) =
 
 module _ (P : Pot) where
   -- the clearing price of a winner's year does not hang on what stood there before
-  pub price-won : (z w : ℕ) (ws : List ℕ) → In w ws → priceFrom P z ws (P .yr w) ≡ clearing P ws (P .yr w)
+  pub price-won : (y w : ℕ) (ws : List ℕ) → In w ws → priceFrom P y ws (P .yr w) ≡ clearing P ws (P .yr w)
   unfolding priceFrom
-  price-won z w [] i = in-none i
-  price-won z w (x ∷ ws) i =
+  price-won y w [] i = in-none i
+  price-won y w (x ∷ ws) i =
       case (eqb (P .yr x) (P .yr w)) (λ t. rw t)
-      (λ f. rw f (price-won z w ws (⊎-elim (λ e. absurd (eqb-false (P .yr x) (P .yr w) f (ap (P .yr) (sym e)))) (λ j. j) (in-tail i))))
+      (λ f. rw f (price-won y w ws (⊎-elim (λ e. absurd (eqb-false (P .yr x) (P .yr w) f (ap (P .yr) (sym e)))) (λ j. j) (in-tail i))))
 
   -- bids at one price q set it in their years
-  pub price-one : (z q : ℕ) (c ws : List ℕ) (d : ℕ) → ((a : ℕ) → In a c → P .price a ≡ q) → priceFrom P z (c ++ ws) d ≡ pick (memb d (map (P .yr) c)) q (priceFrom P z ws d)
+  pub price-one : (y q : ℕ) (c ws : List ℕ) (d : ℕ) → ((a : ℕ) → In a c → P .price a ≡ q) → priceFrom P y (c ++ ws) d ≡ pick (memb d (map (P .yr) c)) q (priceFrom P y ws d)
   unfolding priceFrom
-  price-one z q [] ws d h = refl
-  price-one z q (a ∷ c) ws d h =
+  price-one y q [] ws d h = refl
+  price-one y q (a ∷ c) ws d h =
       case (eqb (P .yr a) d)
       (λ t. rw (t, eq-eqb d (P .yr a) (sym (eqb-true (P .yr a) d t))) (h a (here refl)))
-      (λ f. rw (f, ne-eqb d (P .yr a) (λ e. eqb-false (P .yr a) d f (sym e))) (price-one z q c ws d (λ b i. h b (there i))))
+      (λ f. rw (f, ne-eqb d (P .yr a) (λ e. eqb-false (P .yr a) d f (sym e))) (price-one y q c ws d (λ b i. h b (there i))))
 
   -- bids that pass one of two tests, and none both
-  pub tally-split : (f : ℕ → ℕ → ℕ → ℕ) (on in′ : ℕ → Bool) (at : ℕ → ℕ) (z : ℕ) (bs : List ℕ) → ((k : ℕ) → In k bs → on k ≡ true → in′ k ≡ false)
-      → tally P f (λ k. on k || in′ k) at z bs ≡ tally P f in′ at z bs + tally P f on at z bs
+  pub tally-split : (f : ℕ → ℕ → ℕ → ℕ) (on in′ : ℕ → Bool) (at : ℕ → ℕ) (y : ℕ) (bs : List ℕ) → ((k : ℕ) → In k bs → on k ≡ true → in′ k ≡ false)
+      → tally P f (λ k. on k || in′ k) at y bs ≡ tally P f in′ at y bs + tally P f on at y bs
   unfolding tally
-  tally-split f on in′ at z [] h = refl
-  tally-split f on in′ at z (k ∷ bs) h =
-      let r = tally-split f on in′ at z bs (λ j i. h j (there i)) in
+  tally-split f on in′ at y [] h = refl
+  tally-split f on in′ at y (k ∷ bs) h =
+      let r = tally-split f on in′ at y bs (λ j i. h j (there i)) in
       case (on k) (λ t. rw (t, h k (here refl) t, r) (omega arith)) (λ u. rw (u, r) (omega arith))
 
   -- a sum by test is the sum over those that pass
-  pub tally-sum : (f : ℕ → ℕ → ℕ → ℕ) (on : ℕ → Bool) (at : ℕ → ℕ) (z : ℕ) (bs : List ℕ) → tally P f on at z bs ≡ sum (λ k. f k (at (P .yr k)) z) (sift on bs)
+  pub tally-sum : (f : ℕ → ℕ → ℕ → ℕ) (on : ℕ → Bool) (at : ℕ → ℕ) (y : ℕ) (bs : List ℕ) → tally P f on at y bs ≡ sum (λ k. f k (at (P .yr k)) y) (sift on bs)
   unfolding tally sum
-  tally-sum f on at z [] = refl
-  tally-sum f on at z (k ∷ bs) =
-      let r = tally-sum f on at z bs in
+  tally-sum f on at y [] = refl
+  tally-sum f on at y (k ∷ bs) =
+      let r = tally-sum f on at y bs in
       case (on k) (λ t. rw (t, r) (omega arith)) (λ u. rw (u, r) (omega arith))
 
   -- c is a part of the pot's bids, in their order

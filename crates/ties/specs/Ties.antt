@@ -1,103 +1,150 @@
 -- What the functions of `ties` compute from a sheet and rows of numbers, and what they need. No rule of document 01 is stated here. Assumes nothing.
 use Prim.Native.Nat.{ℕ, zero, suc, _+_, _-_, _*_, _/_, _%_, _^_, _≤_, _<_}
+use mathlib.Core.Path.{_≡_}
 use mathlib.Core.Bool.{Bool, true, false, _&&_}
 use mathlib.Core.List.{List, [], _∷_}
 use lib.Bits.{bitOr}
 use lib.ListN.{length, getD, set, replicate}
 use lib.Dec.{leb, ltb}
+use Rattle.rules.specs.Names.{mostNumbers, mostDeliveries, widestTie}
 use Rattle.rules.specs.Value.{dearest}
 use Rattle.rules.specs.Lists.{pick, sift}
 use Rattle.rules.specs.Pot.{has, best}
 use Rattle.arrays.specs.Sets.{fill, none, members}
 use Rattle.sheet.specs.declared.Size.{Size}
-use Rattle.sheet.specs.Sheet.{rowYear, rowDraw}
+use Rattle.sheet.specs.Sheet.{columns, rowYear, rowDraw, Ready}
 use Rattle.totals.specs.Totals.{worthOf, totalOf, fitsTo}
-use Rattle.ties.specs.declared.Best.{Best}
+use Rattle.ties.specs.declared.tied.Tied.{Tied}
+use Rattle.ties.specs.declared.search.Best.{Best}
+
+-- ---- numbers as sets, by their binary places
+
+-- the sets of delivery years; the combinations of as many bids as a tie may have; the places of one part of a combination's number, the numbers of a
+-- part, and these with a row of years for each
+abbrev pub yearSets : ℕ
+yearSets = 16
+
+abbrev pub combinations : ℕ
+combinations = 1024
+
+abbrev pub parts : ℕ
+parts = 2
+
+abbrev pub partPlaces : ℕ
+partPlaces = 5
+
+abbrev pub partSize : ℕ
+partSize = 32
+
+abbrev pub partRows : ℕ
+partRows = partSize * columns
+
+-- no number of a list is above so much
+pub record Bounded (l : List ℕ) (most : ℕ) : Type 0 where
+  pub small : (i : ℕ) → getD l i 0 ≤ most
 
 -- ---- the present winners, for each set t of delivery years, a number with one binary place for each
 
--- the clearing prices of a trial: p in the years below n of the set
-unfoldable pub raisedTo : (prices : List ℕ) (p t : ℕ) → ℕ → List ℕ
-raisedTo prices p t zero = prices
-raisedTo prices p t (suc d) = pick (has t d) (set (raisedTo prices p t d) d p) (raisedTo prices p t d)
+-- the clearing prices of a trial: one price in the years below n of the set
+unfoldable pub repricedTo : (prices : List ℕ) (price t : ℕ) → ℕ → List ℕ
+repricedTo prices price t zero = prices
+repricedTo prices price t (suc d) = pick (has t d) (set (repricedTo prices price t d) d price) (repricedTo prices price t d)
 
--- what the winners cost: 8 years to a set
-unfoldable pub baseAt : (sheet : List ℕ) (of : Size) (marks prices : List ℕ) (p i : ℕ) → ℕ
-baseAt sheet of marks prices p i = pick (ltb (i % 8) (of .years)) (totalOf sheet marks (raisedTo prices p (i / 8) 4) (i % 8) (of .bids)) 0
+-- what the winners cost: a row of years to a set
+unfoldable pub baseAt : (sheet : List ℕ) (of : Size) (marks prices : List ℕ) (price i : ℕ) → ℕ
+baseAt sheet of marks prices price i =
+    pick (ltb (i % columns) (of .years)) (totalOf sheet marks (repricedTo prices price (i / columns) mostDeliveries) (i % columns) (of .bids)) 0
 
 unfoldable pub noBase : List ℕ
-noBase = replicate 128 0
+noBase = replicate (yearSets * columns) 0
 
-abbrev pub basesOf : (sheet : List ℕ) (of : Size) (marks prices : List ℕ) (p : ℕ) → List ℕ
-basesOf sheet of marks prices p = fill noBase (baseAt sheet of marks prices p) 128
-
--- the first n places of a row, laid at place t of a table of rows of 8
-unfoldable pub laidTo : (table row : List ℕ) (t : ℕ) → ℕ → List ℕ
-laidTo table row t zero = table
-laidTo table row t (suc z) = set (laidTo table row t z) (t * 8 + z) (getD row z 0)
+abbrev pub basesOf : (sheet : List ℕ) (of : Size) (marks prices : List ℕ) (price : ℕ) → List ℕ
+basesOf sheet of marks prices price = fill noBase (baseAt sheet of marks prices price) (yearSets * columns)
 
 -- no winner is dearer than the dearest
-pub record Base (base : List ℕ) : Type 0 where
-  pub room : 128 ≤ length base
-  pub small : (i : ℕ) → getD base i 0 ≤ dearest * 320
+abbrev pub mostBase : ℕ
+mostBase = dearest * mostNumbers
 
 -- ---- a bid alone
 
-unfoldable pub aloneTotal : (sheet base : List ℕ) (p k z : ℕ) → ℕ
-aloneTotal sheet base p k z = getD base (2 ^ rowYear sheet k * 8 + z) 0 + worthOf sheet k p z
+unfoldable pub aloneTotal : (sheet base : List ℕ) (price k y : ℕ) → ℕ
+aloneTotal sheet base price k y = getD base (2 ^ rowYear sheet k * columns + y) 0 + worthOf sheet k price y
 
-abbrev pub aloneFits : (sheet : List ℕ) (of : Size) (base : List ℕ) (p k : ℕ) → Bool
-aloneFits sheet of base p k = fitsTo (aloneTotal sheet base p k) sheet (of .years)
+abbrev pub aloneFits : (sheet : List ℕ) (of : Size) (base : List ℕ) (price k : ℕ) → Bool
+aloneFits sheet of base price k = fitsTo (aloneTotal sheet base price k) sheet (of .years)
 
 -- of the set, and fits alone
-unfoldable pub keepsOf : (sheet : List ℕ) (of : Size) (base : List ℕ) (p : ℕ) → List Bool → ℕ → Bool
-keepsOf sheet of base p l k = getD l k false && aloneFits sheet of base p k
+unfoldable pub keepsOf : (sheet : List ℕ) (of : Size) (base : List ℕ) (price : ℕ) → List Bool → ℕ → Bool
+keepsOf sheet of base price l k = getD l k false && aloneFits sheet of base price k
+
+-- what a trial of bid k alone reads
+pub record Trying (sheet : List ℕ) (of : Size) (base : List ℕ) (k : ℕ) : Type 0 where
+  pub ready : Ready sheet of
+  pub bid : k < of .bids
+  pub winners : Bounded base mostBase
 
 -- ---- the bids that remain, as a list of numbers
 
--- the first k of an array, the last first
+-- the first n of an array, the last first
 unfoldable pub listed : List ℕ → ℕ → List ℕ
 listed a zero = []
-listed a (suc k) = getD a k 0 ∷ listed a k
+listed a (suc n) = getD a n 0 ∷ listed a n
 
 unfoldable pub noList : List ℕ
-noList = replicate 10 0
+noList = replicate widestTie 0
 
 -- the members of a set below n, written one after the other
 unfoldable pub compactOf : List Bool → ℕ → List ℕ
 compactOf l zero = noList
 compactOf l (suc i) = pick (getD l i false) (set (compactOf l i) (length (members l i)) i) (compactOf l i)
 
--- how many of the first k have a draw above x; the binary place, the start year of the bid at place j
-unfoldable pub aboveOf : (sheet list : List ℕ) (x k : ℕ) → ℕ
-aboveOf sheet list x k = length (sift (λ c. ltb x (rowDraw sheet c)) (listed list k))
+-- how many of the first have a draw above x; the binary place, the start year of the bid at place j
+unfoldable pub aboveOf : (sheet list : List ℕ) (x count : ℕ) → ℕ
+aboveOf sheet list x count = length (sift (λ k. ltb x (rowDraw sheet k)) (listed list count))
 
-unfoldable pub rankOf : (sheet list : List ℕ) (k j : ℕ) → ℕ
-rankOf sheet list k j = aboveOf sheet list (rowDraw sheet (getD list j 0)) k
+unfoldable pub rankOf : (sheet list : List ℕ) (count j : ℕ) → ℕ
+rankOf sheet list count j = aboveOf sheet list (rowDraw sheet (getD list j 0)) count
 
 unfoldable pub startOf : (sheet list : List ℕ) (j : ℕ) → ℕ
 startOf sheet list j = rowYear sheet (getD list j 0)
 
-abbrev pub ranksOf : (sheet list : List ℕ) (k : ℕ) → List ℕ
-ranksOf sheet list k = fill noList (rankOf sheet list k) k
+abbrev pub ranksOf : (sheet list : List ℕ) (count : ℕ) → List ℕ
+ranksOf sheet list count = fill noList (rankOf sheet list count) count
 
-abbrev pub startsOf : (sheet list : List ℕ) (k : ℕ) → List ℕ
-startsOf sheet list k = fill noList (startOf sheet list) k
+abbrev pub startsOf : (sheet list : List ℕ) (count : ℕ) → List ℕ
+startsOf sheet list count = fill noList (startOf sheet list) count
 
--- what the bids cost at price p: 8 years to a bid
-unfoldable pub ownAt : (sheet : List ℕ) (of : Size) (list : List ℕ) (p i : ℕ) → ℕ
-ownAt sheet of list p i = pick (ltb (i % 8) (of .years)) (worthOf sheet (getD list (i / 8) 0) p (i % 8)) 0
+unfoldable pub tiedOf : (sheet : List ℕ) (of : Size) (l : List Bool) (count : ℕ) → Tied
+tiedOf sheet of l count = record {
+  count = count;
+  bids = compactOf l (of .bids);
+  ranks = ranksOf sheet (compactOf l (of .bids)) count;
+  starts = startsOf sheet (compactOf l (of .bids)) count;
+}
+
+-- a set of few bids; few numbers of bids, below m; and their binary places and start years
+pub record Few (of : Size) (l : List Bool) (count : ℕ) : Type 0 where
+  pub counted : count ≡ length (members l (of .bids))
+  pub few : count ≤ widestTie
+
+pub record Numbers (list : List ℕ) (count m : ℕ) : Type 0 where
+  pub few : count ≤ widestTie
+  pub small : (j : ℕ) → j < count → getD list j 0 < m
+
+pub record Placed (tied : Tied) : Type 0 where
+  pub few : tied .count ≤ widestTie
+  pub ranks : (j : ℕ) → j < tied .count → getD (tied .ranks) j 0 < 32
+  pub starts : (j : ℕ) → j < tied .count → getD (tied .starts) j 0 < mostDeliveries
+
+-- what the bids cost at a price: a row of years to a bid
+unfoldable pub ownAt : (sheet : List ℕ) (of : Size) (list : List ℕ) (price i : ℕ) → ℕ
+ownAt sheet of list price i = pick (ltb (i % columns) (of .years)) (worthOf sheet (getD list (i / columns) 0) price (i % columns)) 0
 
 unfoldable pub noOwn : List ℕ
-noOwn = replicate 80 0
+noOwn = replicate (widestTie * columns) 0
 
-abbrev pub ownsOf : (sheet : List ℕ) (of : Size) (list : List ℕ) (p k : ℕ) → List ℕ
-ownsOf sheet of list p k = fill noOwn (ownAt sheet of list p) (k * 8)
-
--- the first k of the list are numbers of bids below m
-pub record Numbers (list : List ℕ) (k m : ℕ) : Type 0 where
-  pub room : k ≤ length list
-  pub small : (j : ℕ) → j < k → getD list j 0 < m
+abbrev pub ownsOf : (sheet : List ℕ) (of : Size) (list : List ℕ) (price count : ℕ) → List ℕ
+ownsOf sheet of list price count = fill noOwn (ownAt sheet of list price) (count * columns)
 
 -- ---- combinations: the j-th bid is in the combination number `mask` where that has its binary place
 
@@ -105,139 +152,117 @@ pub record Numbers (list : List ℕ) (k m : ℕ) : Type 0 where
 unfoldable pub touchOf : (t d : ℕ) → ℕ
 touchOf t d = pick (has t d) t (t + 2 ^ d)
 
-unfoldable pub touchedOf : (ranks starts : List ℕ) (mask k : ℕ) → ℕ
+unfoldable pub touchedOf : (ranks starts : List ℕ) (mask count : ℕ) → ℕ
 touchedOf ranks starts mask zero = 0
-touchedOf ranks starts mask (suc j) = pick (has mask (getD ranks j 0)) (touchOf (touchedOf ranks starts mask j) (getD starts j 0)) (touchedOf ranks starts mask j)
+touchedOf ranks starts mask (suc j) =
+    pick (has mask (getD ranks j 0)) (touchOf (touchedOf ranks starts mask j) (getD starts j 0)) (touchedOf ranks starts mask j)
 
--- the total in year z with the combination added to the winners, whose years are t
-unfoldable pub maskTotal : (base own ranks : List ℕ) (mask t z k : ℕ) → ℕ
-maskTotal base own ranks mask t z zero = getD base (t * 8 + z) 0
-maskTotal base own ranks mask t z (suc j) = maskTotal base own ranks mask t z j + pick (has mask (getD ranks j 0)) (getD own (j * 8 + z) 0) 0
+-- the total in year y with the combination added to the winners, whose years are t
+unfoldable pub maskTotal : (base own ranks : List ℕ) (mask t y count : ℕ) → ℕ
+maskTotal base own ranks mask t y zero = getD base (t * columns + y) 0
+maskTotal base own ranks mask t y (suc j) =
+    maskTotal base own ranks mask t y j + pick (has mask (getD ranks j 0)) (getD own (j * columns + y) 0) 0
 
-unfoldable pub figure : (base own ranks : List ℕ) (k mask t z : ℕ) → ℕ
-figure base own ranks k mask t z = maskTotal base own ranks mask t z k
+unfoldable pub figure : (base own ranks : List ℕ) (count mask t y : ℕ) → ℕ
+figure base own ranks count mask t y = maskTotal base own ranks mask t y count
 
-unfoldable pub okMask : (sheet : List ℕ) (of : Size) (base own ranks starts : List ℕ) (k mask : ℕ) → Bool
-okMask sheet of base own ranks starts k mask = fitsTo (figure base own ranks k mask (touchedOf ranks starts mask k)) sheet (of .years)
+unfoldable pub okMask : (sheet : List ℕ) (of : Size) (base own ranks starts : List ℕ) (count mask : ℕ) → Bool
+okMask sheet of base own ranks starts count mask = fitsTo (figure base own ranks count mask (touchedOf ranks starts mask count)) sheet (of .years)
 
-unfoldable pub lastMask : (of : Size) (base own ranks starts : List ℕ) (k mask : ℕ) → ℕ
-lastMask of base own ranks starts k mask = figure base own ranks k mask (touchedOf ranks starts mask k) (of .years - 1)
+unfoldable pub lastMask : (of : Size) (base own ranks starts : List ℕ) (count mask : ℕ) → ℕ
+lastMask of base own ranks starts count mask = figure base own ranks count mask (touchedOf ranks starts mask count) (of .years - 1)
 
 -- the best combination so far, with its figure
 abbrev pub bestOf : (ℕ → Bool) → (ℕ → ℕ) → ℕ → Best
 bestOf ok tot n = record { mask = best ok tot n; total = tot (best ok tot n) }
 
-unfoldable pub considered : (ℕ → Bool) → (ℕ → ℕ) → ℕ → Best → Best
-considered ok tot n b = pick (ok n && leb (b .total) (tot n)) (record { mask = n; total = tot n }) b
-
-unfoldable pub bestMask : (sheet : List ℕ) (of : Size) (base own ranks starts : List ℕ) (k : ℕ) → ℕ
-bestMask sheet of base own ranks starts k = best (okMask sheet of base own ranks starts k) (lastMask of base own ranks starts k) (2 ^ k)
+unfoldable pub bestMask : (sheet : List ℕ) (of : Size) (base own ranks starts : List ℕ) (count : ℕ) → ℕ
+bestMask sheet of base own ranks starts count = best (okMask sheet of base own ranks starts count) (lastMask of base own ranks starts count) (2 ^ count)
 
 -- the bids of a combination, as a set
-unfoldable pub combinationOf : (list ranks : List ℕ) (mask k : ℕ) → List Bool
+unfoldable pub combinationOf : (list ranks : List ℕ) (mask count : ℕ) → List Bool
 combinationOf list ranks mask zero = none
-combinationOf list ranks mask (suc j) = pick (has mask (getD ranks j 0)) (set (combinationOf list ranks mask j) (getD list j 0) true) (combinationOf list ranks mask j)
+combinationOf list ranks mask (suc j) =
+    pick (has mask (getD ranks j 0)) (set (combinationOf list ranks mask j) (getD list j 0) true) (combinationOf list ranks mask j)
 
--- what the sums read, and what the years are read off
-pub record Summed (own ranks : List ℕ) (k : ℕ) : Type 0 where
-  pub few : k ≤ 10
-  pub own-room : k * 8 ≤ length own
-  pub own-small : (i : ℕ) → getD own i 0 ≤ dearest
-  pub ranks-room : k ≤ length ranks
-  pub ranks-low : (j : ℕ) → j < k → getD ranks j 0 < 32
+-- what the bids of a tie cost, and where these stand
+pub record Owned (own : List ℕ) (tied : Tied) : Type 0 where
+  pub bids : Bounded own dearest
+  pub placed : Placed tied
 
-pub record Placed (ranks starts : List ℕ) (k : ℕ) : Type 0 where
-  pub ranks-in : k ≤ length ranks
-  pub ranks-small : (j : ℕ) → j < k → getD ranks j 0 < 32
-  pub starts-in : k ≤ length starts
-  pub starts-small : (j : ℕ) → j < k → getD starts j 0 < 4
+-- ---- the same by the two parts of its number: v + 32 * u is that of its five low places and that of its five high ones
 
--- ---- the same by halves: the number v + 32 * u of a combination is that of its five low places and that of its five high ones
+-- what the bids of a combination cost in year y
+unfoldable pub combinedOf : (own ranks : List ℕ) (mask y count : ℕ) → ℕ
+combinedOf own ranks mask y zero = 0
+combinedOf own ranks mask y (suc j) = combinedOf own ranks mask y j + pick (has mask (getD ranks j 0)) (getD own (j * columns + y) 0) 0
 
--- what the bids of a combination cost in year z
-unfoldable pub addedOf : (own ranks : List ℕ) (mask z k : ℕ) → ℕ
-addedOf own ranks mask z zero = 0
-addedOf own ranks mask z (suc j) = addedOf own ranks mask z j + pick (has mask (getD ranks j 0)) (getD own (j * 8 + z) 0) 0
+-- of the combination of one place alone, and of each combination of the places of one part: a row of years to each
+unfoldable pub oneAt : (own ranks : List ℕ) (count i : ℕ) → ℕ
+oneAt own ranks count i = combinedOf own ranks (2 ^ (i / columns)) (i % columns) count
 
--- of the combination of one place alone, and of each combination of five places, from place s on: 8 years to each
-unfoldable pub oneAt : (own ranks : List ℕ) (k s i : ℕ) → ℕ
-oneAt own ranks k s i = addedOf own ranks (2 ^ (s + i / 8)) (i % 8) k
+abbrev pub onesOf : (own ranks : List ℕ) (count : ℕ) → List ℕ
+onesOf own ranks count = fill noOwn (oneAt own ranks count) (widestTie * columns)
 
-unfoldable pub noOnes : List ℕ
-noOnes = replicate 40 0
-
-abbrev pub onesOf : (own ranks : List ℕ) (k s : ℕ) → List ℕ
-onesOf own ranks k s = fill noOnes (oneAt own ranks k s) 40
-
-unfoldable pub costAt : (own ranks : List ℕ) (k s i : ℕ) → ℕ
-costAt own ranks k s i = addedOf own ranks (i / 8 * 2 ^ s) (i % 8) k
+unfoldable pub costAt : (own ranks : List ℕ) (count i : ℕ) → ℕ
+costAt own ranks count i = combinedOf own ranks (i / columns % partSize * 2 ^ (i / partRows * partPlaces)) (i % columns) count
 
 unfoldable pub noCosts : List ℕ
-noCosts = replicate 256 0
+noCosts = replicate (parts * partRows) 0
 
-abbrev pub costsOf : (own ranks : List ℕ) (k s : ℕ) → List ℕ
-costsOf own ranks k s = fill noCosts (costAt own ranks k s) 256
+abbrev pub costsOf : (own ranks : List ℕ) (count : ℕ) → List ℕ
+costsOf own ranks count = fill noCosts (costAt own ranks count) (parts * partRows)
 
 -- and the years that they touch
-unfoldable pub oneYearAt : (ranks starts : List ℕ) (k s i : ℕ) → ℕ
-oneYearAt ranks starts k s i = touchedOf ranks starts (2 ^ (s + i)) k
+unfoldable pub oneYearAt : (ranks starts : List ℕ) (count i : ℕ) → ℕ
+oneYearAt ranks starts count i = touchedOf ranks starts (2 ^ i) count
 
-unfoldable pub noOneYears : List ℕ
-noOneYears = replicate 5 0
+abbrev pub oneYearsOf : (ranks starts : List ℕ) (count : ℕ) → List ℕ
+oneYearsOf ranks starts count = fill noList (oneYearAt ranks starts count) widestTie
 
-abbrev pub oneYearsOf : (ranks starts : List ℕ) (k s : ℕ) → List ℕ
-oneYearsOf ranks starts k s = fill noOneYears (oneYearAt ranks starts k s) 5
-
-unfoldable pub yearAt : (ranks starts : List ℕ) (k s v : ℕ) → ℕ
-yearAt ranks starts k s v = touchedOf ranks starts (v * 2 ^ s) k
+unfoldable pub yearAt : (ranks starts : List ℕ) (count i : ℕ) → ℕ
+yearAt ranks starts count i = touchedOf ranks starts (i % partSize * 2 ^ (i / partSize * partPlaces)) count
 
 unfoldable pub noYears : List ℕ
-noYears = replicate 32 0
+noYears = replicate (parts * partSize) 0
 
-abbrev pub yearsOf : (ranks starts : List ℕ) (k s : ℕ) → List ℕ
-yearsOf ranks starts k s = fill noYears (yearAt ranks starts k s) 32
+abbrev pub yearsOf : (ranks starts : List ℕ) (count : ℕ) → List ℕ
+yearsOf ranks starts count = fill noYears (yearAt ranks starts count) (parts * partSize)
 
--- tables of halves: the total of a combination, the years that it touches, whether it fits, and its total in the last year
-unfoldable pub jointOf : (base low high : List ℕ) (mask t z : ℕ) → ℕ
-jointOf base low high mask t z = getD base (t * 8 + z) 0 + getD low (mask % 32 * 8 + z) 0 + getD high (mask / 32 * 8 + z) 0
+-- by the tables: the total of a combination, the years that it touches, whether it fits, and its total in the last year
+unfoldable pub jointOf : (base costs : List ℕ) (mask t y : ℕ) → ℕ
+jointOf base costs mask t y =
+    getD base (t * columns + y) 0 + getD costs (mask % partSize * columns + y) 0 + getD costs (partRows + mask / partSize * columns + y) 0
 
-unfoldable pub unionOf : (lows highs : List ℕ) (mask : ℕ) → ℕ
-unionOf lows highs mask = bitOr (getD lows (mask % 32) 0) (getD highs (mask / 32) 0)
+unfoldable pub unionOf : (dates : List ℕ) (mask : ℕ) → ℕ
+unionOf dates mask = bitOr (getD dates (mask % partSize) 0) (getD dates (partSize + mask / partSize) 0)
 
-unfoldable pub okBy : (sheet : List ℕ) (of : Size) (base low high lows highs : List ℕ) (mask : ℕ) → Bool
-okBy sheet of base low high lows highs mask = fitsTo (jointOf base low high mask (unionOf lows highs mask)) sheet (of .years)
+unfoldable pub okBy : (sheet : List ℕ) (of : Size) (base costs dates : List ℕ) (mask : ℕ) → Bool
+okBy sheet of base costs dates mask = fitsTo (jointOf base costs mask (unionOf dates mask)) sheet (of .years)
 
-unfoldable pub lastBy : (of : Size) (base low high lows highs : List ℕ) (mask : ℕ) → ℕ
-lastBy of base low high lows highs mask = jointOf base low high mask (unionOf lows highs mask) (of .years - 1)
+unfoldable pub lastBy : (of : Size) (base costs dates : List ℕ) (mask : ℕ) → ℕ
+lastBy of base costs dates mask = jointOf base costs mask (unionOf dates mask) (of .years - 1)
 
--- a look at one of them, which touches the years t; and the best of those of k bids
-unfoldable pub lookedAt : (sheet : List ℕ) (of : Size) (base low high : List ℕ) (mask t : ℕ) → Best → Best
-lookedAt sheet of base low high mask t b =
-    pick (fitsTo (jointOf base low high mask t) sheet (of .years) && leb (b .total) (jointOf base low high mask t (of .years - 1)))
-    (record { mask = mask; total = jointOf base low high mask t (of .years - 1) }) b
+-- the better of the best so far and a combination that fits; and the best of those of so many bids
+unfoldable pub betterOf : Best → (mask total : ℕ) → Best
+betterOf b mask total = pick (leb (b .total) total) (record { mask = mask; total = total }) b
 
-unfoldable pub bestBy : (sheet : List ℕ) (of : Size) (base low high lows highs : List ℕ) (k : ℕ) → ℕ
-bestBy sheet of base low high lows highs k = best (okBy sheet of base low high lows highs) (lastBy of base low high lows highs) (2 ^ k)
+unfoldable pub bestBy : (sheet : List ℕ) (of : Size) (base costs dates : List ℕ) (count : ℕ) → ℕ
+bestBy sheet of base costs dates count = best (okBy sheet of base costs dates) (lastBy of base costs dates) (2 ^ count)
 
 -- what the tables hold: no combination is dearer than its bids, and there are four delivery years
-pub record Tabled (base low high : List ℕ) : Type 0 where
-  pub base-ok : Base base
-  pub low-room : 256 ≤ length low
-  pub low-small : (i : ℕ) → getD low i 0 ≤ dearest * 10
-  pub high-room : 256 ≤ length high
-  pub high-small : (i : ℕ) → getD high i 0 ≤ dearest * 10
+pub record Tabled (base costs : List ℕ) : Type 0 where
+  pub winners : Bounded base mostBase
+  pub bids : Bounded costs (dearest * widestTie)
 
-pub record Dated (lows highs : List ℕ) : Type 0 where
-  pub low-room : 32 ≤ length lows
-  pub low-small : (v : ℕ) → getD lows v 0 < 16
-  pub high-room : 32 ≤ length highs
-  pub high-small : (v : ℕ) → getD highs v 0 < 16
+abbrev pub Dated : (dates : List ℕ) → Type 0
+Dated dates = Bounded dates (yearSets - 1)
 
--- ---- the combination that is chosen among the k bids of a set
-unfoldable pub choiceAt : (sheet : List ℕ) (of : Size) (base list : List ℕ) (p k : ℕ) → List Bool
-choiceAt sheet of base list p k =
-    combinationOf list (ranksOf sheet list k)
-    (bestMask sheet of base (ownsOf sheet of list p k) (ranksOf sheet list k) (startsOf sheet list k) k) k
+-- ---- the combination that is chosen among the bids of a set
+unfoldable pub choiceAt : (sheet : List ℕ) (of : Size) (base list : List ℕ) (price count : ℕ) → List Bool
+choiceAt sheet of base list price count =
+    combinationOf list (ranksOf sheet list count)
+    (bestMask sheet of base (ownsOf sheet of list price count) (ranksOf sheet list count) (startsOf sheet list count) count) count
 
-unfoldable pub choiceOf : (sheet : List ℕ) (of : Size) (base : List ℕ) (l : List Bool) (k p : ℕ) → List Bool
-choiceOf sheet of base l k p = choiceAt sheet of base (compactOf l (of .bids)) p k
+unfoldable pub choiceOf : (sheet : List ℕ) (of : Size) (base : List ℕ) (l : List Bool) (count price : ℕ) → List Bool
+choiceOf sheet of base l count price = choiceAt sheet of base (compactOf l (of .bids)) price count

@@ -6,7 +6,7 @@ use mathlib.Core.List.{List, [], _∷_}
 use native.Mathlib.Numerals.{add-one}
 use native.Mathlib.Omega.{arith}
 use lib.ListN.{length, getD, set}
-use lib.Seq.{getD-set-other, ext-getD}
+use lib.Seq.{ext-getD}
 use lib.Dec.{eqb, ltb}
 use borrow.Author.Tests.{eq-eqb, ne-eqb, le-ltb, lt-ltb, lt-leb, le-leb, ltb-true, ltb-false}
 use Rattle.rules.specs.Names.{becauseWon}
@@ -15,7 +15,7 @@ use Rattle.rules.specs.Value.{ceilDiv, pound, dearest}
 use Rattle.pot_laws.specs.Lists.{case, In, here, there, below-in}
 use Rattle.arrays.specs.Sets.{fill}
 use Rattle.arrays.proofs.Laws.{done, fill-next}
-use Rattle.arrays.proofs.Arrays.{fill-at, fill-length, zeros}
+use Rattle.arrays.proofs.Arrays.{fill-at, fill-length, zeros, fill-rest}
 use Rattle.sheet.specs.declared.Size.{Size}
 use Rattle.sheet.specs.Sheet.{Ready, limitAt, rowStanding, rowYear, rowPrice, rowAdmin, figReference, figEnergy, figShare, sheetCost, inTest, absent}
 use Rattle.value.specs.Laws.{at-most}
@@ -82,12 +82,6 @@ fits-same f g sheet zero h = refl
 fits-same f g sheet (suc n) h = rw (h n (omega arith), fits-same f g sheet n (λ y l. h y (omega arith)))
 
 -- ---- rows of totals
-
--- a place that is not filled yet
-pub fill-rest : {A : Type 0} (l : List A) (f : ℕ → A) (n k : ℕ) (d : A) → n ≤ k → getD (fill l f n) k d ≡ getD l k d
-unfolding fill
-fill-rest l f zero k d h = refl
-fill-rest l f (suc n) k d h = getD-set-other (fill l f n) n k (f n) d (λ e. omega arith) ∙ fill-rest l f n k d (omega arith)
 
 -- a year that is not added yet is as low as before; and one year more is added
 pub added-low : (g : ℕ → ℕ) (before : List ℕ) (y : ℕ) {row : List ℕ} {q : ℕ} → row ≡ addedTo g before y → getD before y 0 ≤ q → getD row y 0 ≤ q

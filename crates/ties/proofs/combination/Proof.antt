@@ -12,26 +12,32 @@ use Rattle.ties.proofs.combination.Statement.{statement}
 use Rattle.ties.proofs.combination.Tie as tie
 
 abbrev Inv-loop : tie.InvT-loop
-Inv-loop list ranks k mask out₀ j₀ out j = (j ≤ k) × (out ≡ combinationOf list ranks mask j)
+Inv-loop mask tied out₀ count j₀ out j = (j ≤ count) × (out ≡ combinationOf (tied .bids) (tied .ranks) mask j)
 
 abbrev μ-loop : tie.MeasureT-loop
-μ-loop list ranks k mask out₀ j₀ out j = k - j
+μ-loop mask tied out₀ count j₀ out j = count - j
 
 loop-holds : tie.Need-loop-holds Inv-loop μ-loop
 unfolding combinationOf none
 loop-holds c = search needs
 
-shared-slice-read-member : tie.Need-shared-slice-read-member Inv-loop μ-loop
-shared-slice-read-member c = omega (arith, c .before .before .before .before .before .pre .1, c .before .loop-test .taken)
+mul-member : tie.Need-mul-member Inv-loop μ-loop
+mul-member c = omega (arith, c .loop-test .taken, c .before .before .pre .1 .few)
+
+element-copy-out-member : tie.Need-element-copy-out-member Inv-loop μ-loop
+element-copy-out-member c = omega (arith, c .loop-test .taken, c .before .before .pre .1 .few)
 
 member-requires : tie.Need-member-requires Inv-loop μ-loop
-member-requires c κs = c .before .before .before .before .before .pre .2 _ (c .before .loop-test .taken)
+member-requires c κs = c .before .before .before .pre .1 .ranks _ (c .before .loop-test .taken)
 
-shared-slice-read-out : tie.Need-shared-slice-read-out Inv-loop μ-loop
-shared-slice-read-out c = omega (arith, c .before .before .before .before .before .before .before .before .pre .0 .room, c .before .before .before .before .loop-test .taken)
+mul-out : tie.Need-mul-out Inv-loop μ-loop
+mul-out c = omega (arith, c .before .before .before .loop-test .taken, c .before .before .before .before .before .pre .1 .few)
+
+element-copy-out-out : tie.Need-element-copy-out-out Inv-loop μ-loop
+element-copy-out-out c = omega (arith, c .before .before .before .loop-test .taken, c .before .before .before .before .before .pre .1 .few)
 
 array-write-out : tie.Need-array-write-out Inv-loop μ-loop
-array-write-out c = c .before .before .before .before .before .before .before .before .pre .0 .small _ (c .before .before .before .before .loop-test .taken)
+array-write-out c = c .before .before .before .before .before .before .pre .0 .small _ (c .before .before .before .before .loop-test .taken)
 
 loop-again : tie.Need-loop-again Inv-loop μ-loop
 loop-again c = (omega arith, ⊎-elim (λ w. w .2 ∙ combination-hit _ _ _ (c .before .member .ensures) _ (c .before .before .before .before .loop .inv .1) (w .0 .taken)) (λ w. w .1 ∙ combination-miss _ _ _ (c .before .member .ensures) _ (c .before .before .before .before .loop .inv .1) (w .0 .left)) (c .if1 .came))
@@ -41,5 +47,5 @@ returns c = done (combinationOf _ _ _) (c .before .loop .inv .1) (c .before .loo
 
 pub combination-spec : {M : Type 1} → statement M
 combination-spec =
-    tie.close (tie.spec Inv-loop μ-loop loop-holds (λ c. search needs) shared-slice-read-member member-requires (λ c. search needs)
-    shared-slice-read-out array-write-out (λ c. omega arith) (λ c. omega arith) loop-again returns)
+    tie.close (tie.spec Inv-loop μ-loop loop-holds mul-member element-copy-out-member member-requires mul-out element-copy-out-out array-write-out
+    (λ c. omega arith) (λ c. omega arith) loop-again returns)

@@ -1,0 +1,23 @@
+-- `ties::search::joint` meets its contract.
+use borrow.Author.Needs.{needs}
+use native.Mathlib.Omega.{arith}
+use Prim.Native.Nat.{_+_, _*_, _/_, _%_}
+use mathlib.Core.Path.{refl}
+use Rattle.ties.proofs.Laws.{joint-is}
+use Rattle.ties.proofs.search.joint.Statement.{statement}
+use Rattle.ties.proofs.search.joint.Tie as tie
+
+add-result-2 : tie.Need-add-result-2
+add-result-2 c = let T = c .before .before .before .pre .0 in let a = c .before .before .before .args in omega (arith, T .winners .small (a .t * 8 + a .y), T .bids .small (a .mask % 32 * 8 + a .y))
+
+add-result-3 : tie.Need-add-result-3
+add-result-3 c = let T = c .before .before .before .pre .0 in let a = c .before .before .before .args in omega (arith, T .winners .small (a .t * 8 + a .y), T .bids .small (a .mask % 32 * 8 + a .y), T .bids .small (256 + a .mask / 32 * 8 + a .y))
+
+returns : tie.Need-returns
+returns c = joint-is _ _ _ _ _ refl
+
+pub joint-spec : {M : Type 1} → statement M
+joint-spec =
+    tie.close (tie.spec (λ c. search needs) (λ c. search needs) (λ c. search needs) (λ c. search needs) (λ c. search needs) (λ c. search needs)
+    (λ c. search needs) (λ c. search needs) (λ c. search needs) (λ c. search needs) (λ c. search needs) (λ c. search needs) (λ c. search needs)
+    add-result-2 add-result-3 returns)

@@ -1,0 +1,13 @@
+-- `ties::search::union` meets its contract.
+use borrow.Author.Needs.{needs}
+use mathlib.Core.Path.{refl}
+use Rattle.ties.proofs.Parts.{union-is, union-low}
+use Rattle.ties.proofs.search.union.Statement.{statement}
+use Rattle.ties.proofs.search.union.Tie as tie
+
+returns : tie.Need-returns
+returns c = (union-is _ _ refl, union-low (c .before .before .pre .0) _ _)
+
+pub union-spec : {M : Type 1} → statement M
+union-spec =
+    tie.close (tie.spec (λ c. search needs) (λ c. search needs) (λ c. search needs) (λ c. search needs) (λ c. search needs) returns)

@@ -1,0 +1,72 @@
+// "Drop those that do not fit alone".
+ghost use mathlib.Core.Path.{_≡_};
+ghost use mathlib.Core.Bool.{_&&_};
+ghost use Rattle.arrays.specs.Sets.{built};
+ghost use Rattle.sheet.specs.Sheet.{Ready};
+ghost use Rattle.totals.specs.Totals.{Asked};
+ghost use Rattle.ties.specs.Ties.{Bounded, mostBase, Trying, aloneTotal, aloneFits, keepsOf};
+use super::places::power;
+use super::winners::Base;
+use names::NUMBERS;
+use sheet::COLUMNS;
+use sheet::Sheet;
+use sheet::Size;
+
+// The total in year y where bid k alone is added to the winners.
+fn alone_total(sheet: &Sheet, of: Size, base: &Base, price: u64, k: usize, y: usize) -> u64
+    requires { ⌜ Asked (now sheet) of k y × Bounded (now base) mostBase ⌝ }
+    ensures { λ r. ⌜ r ≡ aloneTotal (now (sheet .entry)) (now (base .entry)) price k y ⌝ }
+{
+    let t = power(sheet::year(sheet, k) as u32) as usize;
+    base[t * COLUMNS + y] + totals::worth(sheet, of, k, price, y)
+}
+
+// Does bid k fit alone?
+fn fits_alone(sheet: &Sheet, of: Size, base: &Base, price: u64, k: usize) -> bool
+    requires { ⌜ Trying (now sheet) of (now base) k ⌝ }
+    ensures { λ r. ⌜ r ≡ aloneFits (now (sheet .entry)) of (now (base .entry)) price k ⌝ }
+{
+    let mut ok = true;
+    let years = of.years;
+    let mut y: usize = 0;
+    while y < years {
+        if alone_total(sheet, of, base, price, k, y) > sheet::limit(sheet, y) {
+            ok = false;
+        }
+        y += 1;
+    }
+    ok
+}
+
+// Is bid k of the set, and does it fit alone?
+fn keeps(sheet: &Sheet, of: Size, base: &Base, price: u64, taken: bool, k: usize) -> bool
+    requires { ⌜ Trying (now sheet) of (now base) k ⌝ }
+    ensures { λ r. ⌜ r ≡ (taken && aloneFits (now (sheet .entry)) of (now (base .entry)) price k) ⌝ }
+{
+    if taken {
+        fits_alone(sheet, of, base, price, k)
+    } else {
+        false
+    }
+}
+
+// Those of a set that fit alone.
+pub fn rest(
+    sheet: &Sheet,
+    of: Size,
+    base: &Base,
+    set: [bool; NUMBERS],
+    price: u64,
+) -> [bool; NUMBERS]
+    requires { ⌜ Ready (now sheet) of × Bounded (now base) mostBase ⌝ }
+    ensures { λ r. ⌜ r ≡ built (keepsOf (now (sheet .entry)) of (now (base .entry)) price set) (of .bids) ⌝ }
+{
+    let mut out = [false; NUMBERS];
+    let bids = of.bids;
+    let mut k: usize = 0;
+    while k < bids {
+        out[k] = keeps(sheet, of, base, price, set[k], k);
+        k += 1;
+    }
+    out
+}

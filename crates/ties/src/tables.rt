@@ -1,0 +1,159 @@
+// What the bids of a tie cost, and in which delivery years they start: of each bid, and of each combination of the places of one part of its number.
+ghost use mathlib.Core.Path.{_≡_};
+ghost use Prim.Native.Nat.{_*_, _/_, _<_};
+ghost use Rattle.sheet.specs.Sheet.{columns, Ready};
+ghost use Rattle.ties.specs.Ties.{yearSets, Numbers, Placed, Owned, ownAt, ownsOf, touchedOf, combinedOf, onesOf, costsOf, oneYearsOf, yearsOf};
+use super::places::PART;
+use super::places::PART_PLACES;
+use super::places::PARTS;
+use super::places::member;
+use super::places::power;
+use super::places::top;
+use super::places::touch;
+use super::tied::Tied;
+use names::WIDEST_TIE;
+use sheet::COLUMNS;
+use sheet::Sheet;
+use sheet::Size;
+
+// A row of years for each bid, or for each binary place.
+pub type Owns = [u64; WIDEST_TIE * COLUMNS];
+
+// The numbers of one part, with a row of years for each.
+pub const ROWS: usize = PART * COLUMNS;
+
+// A row of years, and the delivery years, of each number of each part.
+pub type Costs = [u64; PARTS * ROWS];
+
+pub type Dates = [u32; PARTS * PART];
+
+// One place of `owns`.
+fn own_at(sheet: &Sheet, of: Size, tied: Tied, price: u64, i: usize) -> u64
+    requires { ⌜ Ready (now sheet) of × Numbers (tied .bids) (tied .count) (of .bids) × (i / columns < tied .count) ⌝ }
+    ensures { λ r. ⌜ r ≡ ownAt (now (sheet .entry)) of (tied .bids) price i ⌝ }
+{
+    let y = i % COLUMNS;
+    if y < of.years {
+        return totals::worth(sheet, of, tied.bids[i / COLUMNS], price, y);
+    }
+    0
+}
+
+// What each bid costs at a price.
+pub fn owns(sheet: &Sheet, of: Size, tied: Tied, price: u64) -> Owns
+    requires { ⌜ Ready (now sheet) of × Numbers (tied .bids) (tied .count) (of .bids) ⌝ }
+    ensures { λ r. ⌜ r ≡ ownsOf (now (sheet .entry)) of (tied .bids) price (tied .count) ⌝ }
+{
+    let mut own = [0u64; WIDEST_TIE * COLUMNS];
+    let end = tied.count * COLUMNS;
+    let mut i: usize = 0;
+    while i < end {
+        own[i] = own_at(sheet, of, tied, price, i);
+        i += 1;
+    }
+    own
+}
+
+// The delivery years in which the bids of a combination start.
+fn touched(tied: Tied, mask: u32) -> u32
+    requires { ⌜ Placed tied ⌝ }
+    ensures { λ r. ⌜ (r ≡ touchedOf (tied .ranks) (tied .starts) mask (tied .count)) × (r < yearSets) ⌝ }
+{
+    let mut t: u32 = 0;
+    let count = tied.count;
+    let mut j: usize = 0;
+    while j < count {
+        if member(mask, tied.ranks[j]) {
+            t = touch(t, tied.starts[j]);
+        }
+        j += 1;
+    }
+    t
+}
+
+// What the bids of a combination cost in year y.
+fn combined(own: &Owns, tied: Tied, mask: u32, y: usize) -> u64
+    requires { ⌜ Owned (now own) tied × (y < columns) ⌝ }
+    ensures { λ r. ⌜ r ≡ combinedOf (now (own .entry)) (tied .ranks) mask y (tied .count) ⌝ }
+{
+    let mut sum: u64 = 0;
+    let count = tied.count;
+    let mut j: usize = 0;
+    while j < count {
+        if member(mask, tied.ranks[j]) {
+            sum += own[j * COLUMNS + y];
+        }
+        j += 1;
+    }
+    sum
+}
+
+// The same for each binary place alone.
+fn ones(own: &Owns, tied: Tied) -> Owns
+    requires { ⌜ Owned (now own) tied ⌝ }
+    ensures { λ r. ⌜ r ≡ onesOf (now (own .entry)) (tied .ranks) (tied .count) ⌝ }
+{
+    let mut out = [0u64; WIDEST_TIE * COLUMNS];
+    let mut i: usize = 0;
+    while i < WIDEST_TIE * COLUMNS {
+        let place = power((i / COLUMNS) as u32);
+        out[i] = combined(own, tied, place, i % COLUMNS);
+        i += 1;
+    }
+    out
+}
+
+// The same for each number of each part: that without its highest place, and that place.
+pub fn costs(own: &Owns, tied: Tied) -> Costs
+    requires { ⌜ Owned (now own) tied ⌝ }
+    ensures { λ r. ⌜ r ≡ costsOf (now (own .entry)) (tied .ranks) (tied .count) ⌝ }
+{
+    let one = ones(own, tied);
+    let mut out = [0u64; PARTS * ROWS];
+    let mut i: usize = 0;
+    while i < PARTS * ROWS {
+        let v = i / COLUMNS % PART;
+        if v > 0 {
+            let r = top(v) as usize;
+            let less = power(r as u32) as usize;
+            let alone = one[(i / ROWS * PART_PLACES + r) * COLUMNS + i % COLUMNS];
+            out[i] = out[i - less * COLUMNS] + alone;
+        }
+        i += 1;
+    }
+    out
+}
+
+// The delivery years that each binary place touches.
+fn one_years(tied: Tied) -> [u32; WIDEST_TIE]
+    requires { ⌜ Placed tied ⌝ }
+    ensures { λ r. ⌜ r ≡ oneYearsOf (tied .ranks) (tied .starts) (tied .count) ⌝ }
+{
+    let mut out = [0u32; WIDEST_TIE];
+    let mut i: usize = 0;
+    while i < WIDEST_TIE {
+        out[i] = touched(tied, power(i as u32));
+        i += 1;
+    }
+    out
+}
+
+// The same for each number of each part.
+pub fn years(tied: Tied) -> Dates
+    requires { ⌜ Placed tied ⌝ }
+    ensures { λ r. ⌜ r ≡ yearsOf (tied .ranks) (tied .starts) (tied .count) ⌝ }
+{
+    let one = one_years(tied);
+    let mut out = [0u32; PARTS * PART];
+    let mut i: usize = 0;
+    while i < PARTS * PART {
+        let v = i % PART;
+        if v > 0 {
+            let r = top(v) as usize;
+            let less = power(r as u32) as usize;
+            out[i] = out[i - less] | one[i / PART * PART_PLACES + r];
+        }
+        i += 1;
+    }
+    out
+}
