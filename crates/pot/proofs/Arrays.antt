@@ -16,10 +16,10 @@ use Rattle.pot.specs.Marks.{winOf, turnOf, winAll, turnAll}
 use Rattle.pot.specs.Rep.{Sizes}
 
 -- the clearing price after more winners, from what it was before them
-pub price-join : (P : Pot) (z : ℕ) (a b : List ℕ) (d : ℕ) → priceFrom P z (a ++ b) d ≡ priceFrom P (priceFrom P z b d) a d
+pub price-join : (P : Pot) (y : ℕ) (a b : List ℕ) (d : ℕ) → priceFrom P y (a ++ b) d ≡ priceFrom P (priceFrom P y b d) a d
 unfolding priceFrom
-price-join P z [] b d = refl
-price-join P z (w ∷ a) b d = rw (price-join P z a b d)
+price-join P y [] b d = refl
+price-join P y (w ∷ a) b d = rw (price-join P y a b d)
 
 module _ (sheet : List ℕ) (p : ℕ) (s : PotState) (S : Sizes s) where
   pub win-sizes : (l : List ℕ) → Sizes (winAll sheet p s l)
@@ -83,12 +83,12 @@ module _ (sheet : List ℕ) (v : ℕ) (s : PotState) (S : Sizes s) where
       put-is ((turnAll sheet v s l) .marks) i b v 0 (omega (arith, turn-sizes l .marks, h i (here refl)))
       ∙ ap (pick (eqb b i) v) (turn-marks l b (λ k j. h k (there j))) ∙ pick-or (eqb b i) (memb b l) v (getD (s .marks) b 0)
 
-  pub turn-opened : (l : List ℕ) (y : ℕ) → ((i : ℕ) → In i l → rowYear sheet i < 4) → getD ((turnAll sheet v s l) .opened) y false ≡ (not (memb y (map (rowYear sheet) l)) && getD (s .opened) y false)
+  pub turn-opened : (l : List ℕ) (d : ℕ) → ((i : ℕ) → In i l → rowYear sheet i < 4) → getD ((turnAll sheet v s l) .opened) d false ≡ (not (memb d (map (rowYear sheet) l)) && getD (s .opened) d false)
   unfolding turnAll turnOf
-  turn-opened [] y h = refl
-  turn-opened (i ∷ l) y h =
-      put-is ((turnAll sheet v s l) .opened) (rowYear sheet i) y false false (omega (arith, turn-sizes l .opened, h i (here refl)))
-      ∙ case (eqb y (rowYear sheet i)) (λ t. rw t) (λ f. rw f (turn-opened l y (λ k j. h k (there j))))
+  turn-opened [] d h = refl
+  turn-opened (i ∷ l) d h =
+      put-is ((turnAll sheet v s l) .opened) (rowYear sheet i) d false false (omega (arith, turn-sizes l .opened, h i (here refl)))
+      ∙ case (eqb d (rowYear sheet i)) (λ t. rw t) (λ f. rw f (turn-opened l d (λ k j. h k (there j))))
 
   pub turn-won : (l : List ℕ) → (turnAll sheet v s l) .won ≡ s .won
   unfolding turnAll turnOf

@@ -8,14 +8,14 @@ use native.Mathlib.Nat.{le-antisymm}
 use lib.ListN.{getD, length, set, replicate}
 use lib.Dec.{eqb}
 use borrow.Author.Tests.{eq-eqb, ne-eqb, lt-ltb, le-ltb}
-use Rattle.rules.specs.Names.{noPrice, widestTie, downTied}
+use Rattle.rules.specs.Names.{mostApps, mostDeliveries, noPrice, widestTie, downTied}
 use Rattle.arrays.specs.Sets.{fill, built, members, without}
 use Rattle.sheet.specs.declared.Size.{Size}
-use Rattle.sheet.specs.Sheet.{Ready, rowStanding, rowApp, rowYear, rowPrice}
+use Rattle.sheet.specs.Sheet.{columns, Ready, rowStanding, rowApp, rowYear, rowPrice}
 use Rattle.ties.specs.Ties.{basesOf, keepsOf, choiceOf}
 use Rattle.pot.specs.declared.PotState.{PotState}
 use Rattle.pot.specs.declared.Look.{Look}
-use Rattle.pot.specs.Marks.{liveOf, atOf, winOf, turnOf, winAll, turnAll, turnedOf, hungOf, shutOf, settledOf, widened, soleOf, followsOf, aloneOf, sharedOf, restOf, choiceIn, tieOf, Others, Looked, firstMark, noMarks, startedOf, revaluedOf}
+use Rattle.pot.specs.Marks.{liveOf, atOf, winOf, turnOf, winAll, turnAll, turnedOf, hungOf, shutOf, settledOf, widened, soleOf, followsOf, aloneOf, sharedOf, restOf, choiceIn, tieOf, Others, Looked, noYear, sumsSize, firstMark, noMarks, startedOf, revaluedOf}
 
 -- the bounds of a bid's application and year, at what the accessors return
 pub app-ok : {sheet : List ℕ} {of : Size} (i : ℕ) {a : ℕ} → Ready sheet of → i < of .bids → a ≡ rowApp sheet i → a < 64
@@ -81,9 +81,9 @@ module _ (sheet : List ℕ) (of : Size) (i : ℕ) (s : PotState) {l : Look} (K :
     unfolding followsOf soleOf
     follows-other g = rw (← K .count, eq-eqb (l .count) 1 h, ← K .last, ← ex, ← ey, ne-eqb q x g)
 
-    pub follows-year : {z w : ℕ} → q ≡ x → z ≡ rowYear sheet i → w ≡ rowYear sheet (l .last) → eqb w z ≡ followsOf sheet of i s
+    pub follows-year : {y w : ℕ} → q ≡ x → y ≡ rowYear sheet i → w ≡ rowYear sheet (l .last) → eqb w y ≡ followsOf sheet of i s
     unfolding followsOf soleOf
-    follows-year {z} {w} g ez ew = rw (← K .count, eq-eqb (l .count) 1 h, ← K .last, ← ex, ← ey, eq-eqb q x g, ez, ew)
+    follows-year {y} {w} g ez ew = rw (← K .count, eq-eqb (l .count) 1 h, ← K .last, ← ex, ← ey, eq-eqb q x g, ez, ew)
 
 -- a bid that is turned down is not fresh, and no other gets so
 not-fresh : (l : List ℕ) (i k : ℕ) → eqb (getD l k 0) 0 ≡ false → eqb (getD (set l i 2) k 0) 0 ≡ false
@@ -108,7 +108,7 @@ module _ (sheet : List ℕ) (of : Size) (i : ℕ) (s : PotState) {t r : PotState
 
 -- ---- several
 pub shared-is : (sheet : List ℕ) (of : Size) (l wins : List Bool) (p : ℕ) (s : PotState) {t u r : PotState} {o : List Bool} → t ≡ winAll sheet p s (members wins (of .bids)) → o ≡ built (without l wins) (of .bids)
-    → u ≡ turnAll sheet downTied t (members o (of .bids)) → r ≡ hungOf 4 u → r ≡ sharedOf sheet of l wins p s
+    → u ≡ turnAll sheet downTied t (members o (of .bids)) → r ≡ hungOf noYear u → r ≡ sharedOf sheet of l wins p s
 unfolding sharedOf
 shared-is sheet of l wins p s et eo eu er = rw (er, eu, et, eo)
 
@@ -135,7 +135,16 @@ pub first-no : {q : ℕ} → (q ≡ 1 → ⊥) → 9 ≡ firstMark q
 unfolding firstMark
 first-no {q} h = rw (ne-eqb q 1 h)
 
-pub started-done : (sheet : List ℕ) (n : ℕ) {l : List ℕ} {i : ℕ} → l ≡ fill noMarks (λ k. firstMark (rowStanding sheet k)) i → i ≤ n → n ≤ i
-    → _≡_ {A = PotState} (record { marks = l; won = replicate 64 false; opened = replicate 4 true; prices = replicate 4 noPrice; sums = replicate 32 0; totals = replicate 8 0; hang = 4; wide = false }) (startedOf sheet n)
+pub started-done : (sheet : List ℕ) (of : Size) {l : List ℕ} {k : ℕ} → l ≡ fill noMarks (λ k. firstMark (rowStanding sheet k)) k → k ≤ of .bids → of .bids ≤ k
+    → _≡_ {A = PotState} (record {
+      marks = l;
+      won = replicate mostApps false;
+      opened = replicate mostDeliveries true;
+      prices = replicate mostDeliveries noPrice;
+      sums = replicate sumsSize 0;
+      totals = replicate columns 0;
+      hang = noYear;
+      wide = false;
+    }) (startedOf sheet of)
 unfolding startedOf
-started-done sheet n e h g = rw (e, le-antisymm h g)
+started-done sheet of e h g = rw (e, le-antisymm h g)

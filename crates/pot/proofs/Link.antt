@@ -45,7 +45,7 @@ not-or false b = refl
 pub rep-did : (P : Pot) (t : Trace) (e : Event) (s r : PotState) → eqb (e .why) noReason ≡ false → eqb (e .why) becauseWon ≡ false
     → ((b : ℕ) → In b (e .downs) → memb b (winners t) ≡ false) → ((b : ℕ) → In b (e .wins) → In b (P .bids)) → ((b : ℕ) → In b (e .downs) → In b (P .bids)) → Rep P t s → Did P e s r → Rep P (e ∷ t) r
 unfolding mark winners seen closed hanging
-rep-did P t e s r z o un wi oi R D = record {
+rep-did P t e s r y o un wi oi R D = record {
   sizes = D .sizes;
   other = λ b h f. D .marks b ∙ rw (outside (e .wins) wi b f, outside (e .downs) oi b f) (R .other b h f);
   why = λ b i. D .marks b ∙ ap (λ (x : ℕ). pick (memb b (e .wins)) becauseWon (pick (memb b (e .downs)) (e .why) x)) (R .why b i);
@@ -59,7 +59,7 @@ rep-did P t e s r z o un wi oi R D = record {
       ap (λ (x : ℕ). eqb x noReason) (D .marks b) ∙
       rw (memb-join b (e .wins ++ e .downs) (seen t), memb-join b (e .wins) (e .downs)) (
       case (memb b (e .wins)) (λ w. rw w)
-      (λ w. rw w (case (memb b (e .downs)) (λ q. rw (q, z)) (λ q. rw q (R .fresh b i))))
+      (λ w. rw w (case (memb b (e .downs)) (λ q. rw (q, y)) (λ q. rw q (R .fresh b i))))
       );
   has = λ a h. D .won a h ∙ rw (memb-map-join a (P .app) (e .wins) (winners t), R .has a h);
   free = λ d h. D .opened d h ∙ rw (memb-join d (e .closes) (closed t), R .free d h) (sym (not-or (memb d (e .closes)) (memb d (closed t))));
@@ -102,10 +102,10 @@ module _ (sheet : List ℕ) (of : Size) (ok : Ready sheet of) where
   lawful = record {
     pos = omega arith;
     apart = λ c d i j e f. ok .apart c d (bid-lt c i) (bid-lt d j) (bid-in c i) (bid-in d j) e f;
-    mono = λ i p q z h. unfold sheetCost in up (ltb z (of .years)) (mul-le-mul-right _ (mul-le-mul-right _ (omega arith)));
+    mono = λ i p q y h. unfold sheetCost in up (ltb y (of .years)) (mul-le-mul-right _ (mul-le-mul-right _ (omega arith)));
   }
     where
-      up : (t : Bool) {x z : ℕ} → x ≤ z → pick t x 0 ≤ pick t z 0
+      up : (t : Bool) {x y : ℕ} → x ≤ y → pick t x 0 ≤ pick t y 0
       up true h = h
       up false h = omega arith
 
@@ -131,7 +131,7 @@ module _ (sheet : List ℕ) (of : Size) (ok : Ready sheet of) where
     least-is : (x : ℕ) (l : List ℕ) → ((k : ℕ) → In k (x ∷ l) → rowPrice sheet k ≤ highestPrice) → leastOr sheet (x ∷ l) ≡ least P x l
     unfolding leastOr least potIn
     least-is x [] h = omega (arith, h x (here refl))
-    least-is x (z ∷ l) h = ap (min (rowPrice sheet x)) (least-is z l (λ k i. h k (there i)))
+    least-is x (y ∷ l) h = ap (min (rowPrice sheet x)) (least-is y l (λ k i. h k (there i)))
 
     lowest-is : (l : List ℕ) → ((k : ℕ) → In k l → rowPrice sheet k ≤ highestPrice) → sift (λ i. eqb (rowPrice sheet i) (leastOr sheet l)) l ≡ lowest P l
     unfolding lowest potIn
@@ -174,8 +174,8 @@ module _ (sheet : List ℕ) (of : Size) (ok : Ready sheet of) where
 
   -- ---- what fits
   module _ (ws : List ℕ) (s : PotState) (H : Holds P ws s) where
-    pub total-is : (z : ℕ) → z < of .years → totalOf sheet (s .marks) (s .prices) z (of .bids) ≡ total P ws z
-    total-is z h = link.total-at sheet of ok ws (s .marks) (s .prices) (H .marked) (clearing P ws) same z h
+    pub total-is : (y : ℕ) → y < of .years → totalOf sheet (s .marks) (s .prices) y (of .bids) ≡ total P ws y
+    total-is y h = link.total-at sheet of ok ws (s .marks) (s .prices) (H .marked) (clearing P ws) same y h
       where
         same : (i : ℕ) → In i (P .bids) → memb i ws ≡ true → getD (s .prices) (rowYear sheet i) 0 ≡ clearing P ws (rowYear sheet i)
         same i j w = H .price (rowYear sheet i) (ok .year i (bid-lt i j)) ∙ opened (price-won P noPrice i ws (memb-in i ws w))
@@ -183,11 +183,11 @@ module _ (sheet : List ℕ) (of : Size) (ok : Ready sheet of) where
             opened : priceFrom P noPrice ws (P .yr i) ≡ clearing P ws (P .yr i) → priceFrom P noPrice ws (rowYear sheet i) ≡ clearing P ws (rowYear sheet i)
             opened e = unfold potIn in e
 
-    pub row-at : (z : ℕ) → z < of .years → getD (filled (λ x. totalOf sheet (s .marks) (s .prices) x (of .bids)) (of .years)) z 0 ≡ total P ws z
-    row-at z h = link.row-at sheet of ok (λ x. totalOf sheet (s .marks) (s .prices) x (of .bids)) z h ∙ total-is z h
+    pub row-at : (y : ℕ) → y < of .years → getD (filled (λ x. totalOf sheet (s .marks) (s .prices) x (of .bids)) (of .years)) y 0 ≡ total P ws y
+    row-at y h = link.row-at sheet of ok (λ x. totalOf sheet (s .marks) (s .prices) x (of .bids)) y h ∙ total-is y h
 
-    pub fits-is : (f : ℕ → ℕ) → ((z : ℕ) → z < of .years → f z ≡ totalOf sheet (s .marks) (s .prices) z (of .bids)) → fitsTo f sheet (of .years) ≡ fits P ws
-    fits-is f e = link.fits-is sheet of ok f (total P ws) (of .years) (omega arith) (λ z h. e z h ∙ total-is z h) ∙ opened
+    pub fits-is : (f : ℕ → ℕ) → ((y : ℕ) → y < of .years → f y ≡ totalOf sheet (s .marks) (s .prices) y (of .bids)) → fitsTo f sheet (of .years) ≡ fits P ws
+    fits-is f e = link.fits-is sheet of ok f (total P ws) (of .years) (omega arith) (λ y h. e y h ∙ total-is y h) ∙ opened
       where
         opened : within P (total P ws) (of .years) ≡ fits P ws
         opened = unfold potIn in refl

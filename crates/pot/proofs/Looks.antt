@@ -31,7 +31,7 @@ follows-is : (P : Pot) (i : ℕ) (l : List ℕ) → follows P i l ≡ (eqb (leng
 unfolding follows
 follows-is P i [] = refl
 follows-is P i (c ∷ []) = refl
-follows-is P i (c ∷ d ∷ l) = rw (ne-eqb (Prim.Native.Nat.suc (Prim.Native.Nat.suc (length l))) 1 (λ e. let z : ⊥ = omega arith in z))
+follows-is P i (c ∷ d ∷ l) = rw (ne-eqb (Prim.Native.Nat.suc (Prim.Native.Nat.suc (length l))) 1 (λ e. let y : ⊥ = omega arith in y))
 
 -- what is live has not won
 pub not-won : (P : Pot) (t : Trace) (b : ℕ) → live P t b ≡ true → memb b (winners t) ≡ false
@@ -69,13 +69,13 @@ module _ (sheet : List ℕ) (of : Size) (ok : Ready sheet of) where
     su = win-sizes sheet p s (R .sizes) l
 
     won-by : Holds P (l ++ winners t) u
-    won-by = link.holds-win sheet of ok (winners t) s (R .sizes) p l (λ i j. let z = sound i j in (z .0, z .2, z .3)) (holds-rep R)
+    won-by = link.holds-win sheet of ok (winners t) s (R .sizes) p l (λ i j. let y = sound i j in (y .0, y .2, y .3)) (holds-rep R)
 
     -- the winners all entered the auction
     pub trial-others : (i : ℕ) → i < of .bids → inAuction sheet i ≡ false → eqb (getD (u .marks) i 0) becauseWon ≡ false
     trial-others i h f = won-by .marked .other i (link.small sheet of ok i h) (not-bid sheet of ok i f)
 
-    pub trial-fits : (f : ℕ → ℕ) → ((z : ℕ) → z < of .years → f z ≡ totalOf sheet (u .marks) (u .prices) z (of .bids)) → fitsTo f sheet (of .years) ≡ fits P (l ++ winners t)
+    pub trial-fits : (f : ℕ → ℕ) → ((y : ℕ) → y < of .years → f y ≡ totalOf sheet (u .marks) (u .prices) y (of .bids)) → fitsTo f sheet (of .years) ≡ fits P (l ++ winners t)
     trial-fits = link.fits-is sheet of ok (l ++ winners t) u won-by
 
     -- all win, and the year that hangs closes
@@ -85,9 +85,9 @@ module _ (sheet : List ℕ) (of : Size) (ok : Ready sheet of) where
     won-with r er ew eq sz op hg = record {
       sizes = sz;
       marks = λ i. ap (λ (x : List ℕ). getD x i 0) er ∙ win-marks sheet p s (R .sizes) l i few;
-      won = λ z j. ap (λ (x : List Bool). getD x z false) ew ∙ win-won sheet p s (R .sizes) l z (λ i h. ok .app i (sound i h .0));
+      won = λ y j. ap (λ (x : List Bool). getD x y false) ew ∙ win-won sheet p s (R .sizes) l y (λ i h. ok .app i (sound i h .0));
       opened = λ d j. op d j ∙ ap (λ (x : List ℕ). not (memb d x) && getD (s .opened) d false) (sym (R .hang));
-      prices = λ d j. ap (λ (x : List ℕ). getD x d 0) eq ∙ link.win-prices sheet of ok (winners t) s (R .sizes) p l d (λ i h. let z = sound i h in (z .0, z .2));
+      prices = λ d j. ap (λ (x : List ℕ). getD x d 0) eq ∙ link.win-prices sheet of ok (winners t) s (R .sizes) p l d (λ i h. let y = sound i h in (y .0, y .2));
       hang = rw hg;
     }
 
@@ -127,7 +127,7 @@ module _ (sheet : List ℕ) (of : Size) (ok : Ready sheet of) where
       down-did r sh ha er ew ep sz op hg = record {
         sizes = sz;
         marks = λ k. ap (λ (x : List ℕ). getD x k 0) er ∙ put-is (s .marks) i k downAlone 0 (omega (arith, R .sizes .marks, few i h)) ∙ case (eqb k i) (λ t. rw t) (λ f. rw f);
-        won = λ z j. ap (λ (x : List Bool). getD x z false) ew;
+        won = λ y j. ap (λ (x : List Bool). getD x y false) ew;
         opened = op;
         prices = λ d j. ap (λ (x : List ℕ). getD x d 0) ep;
         hang = hg;

@@ -38,7 +38,7 @@ run-on P n t x i = walk (taken P t) i
   where
     walk : (l : List ℕ) → In x l → onward P l t (pick (look P t (taken P t) .wide) (look P t (taken P t) ∷ t) (run P n (look P t (taken P t) ∷ t))) ≡ pick (look P t (taken P t) .wide) (look P t (taken P t) ∷ t) (run P n (look P t (taken P t) ∷ t))
     walk [] i = in-none i
-    walk (z ∷ l) i = refl
+    walk (y ∷ l) i = refl
 
 -- the state stands for a trace from which the auction runs on to its end in so many steps
 pub record Going (P : Pot) (s : PotState) : Type 0 where
@@ -67,13 +67,13 @@ module _ (sheet : List ℕ) (of : Size) (ok : Ready sheet of) where
   -- some price is below none where a bid is live
   some-live : (l : List ℕ) → leastOr sheet l < noPrice → (x : ℕ) × In x l
   unfolding leastOr
-  some-live [] e = absurd (let z : ⊥ = omega arith in z)
+  some-live [] e = absurd (let y : ⊥ = omega arith in y)
   some-live (x ∷ l) e = (x, here refl)
 
   none-live : (l : List ℕ) → ((k : ℕ) → In k l → rowPrice sheet k ≤ highestPrice) → noPrice ≤ leastOr sheet l → l ≡ []
   unfolding leastOr
   none-live [] h e = refl
-  none-live (x ∷ l) h e = absurd (let z : ⊥ = omega (arith, h x (here refl)) in z)
+  none-live (x ∷ l) h e = absurd (let y : ⊥ = omega (arith, h x (here refl)) in y)
 
   module _ (s : PotState) (G : Going P s) where
     abbrev t : Trace
@@ -93,8 +93,8 @@ module _ (sheet : List ℕ) (of : Size) (ok : Ready sheet of) where
       found : (x : ℕ) × In x (sift (live P t) (P .bids))
       unfolding lowestOf
       found =
-          let z = some-live (sift (liveOf sheet s) (below (of .bids))) (rw ep at e) in
-          (z .0, rw (sym (link.live-list sheet of ok t s R)) (z .1))
+          let y = some-live (sift (liveOf sheet s) (below (of .bids))) (rw ep at e) in
+          (y .0, rw (sym (link.live-list sheet of ok t s R)) (y .1))
 
       held : In (found .0) (P .bids) × (live P t (found .0) ≡ true)
       held = sift-in (found .0) (live P t) (P .bids) (found .1)
@@ -151,7 +151,7 @@ module _ (sheet : List ℕ) (of : Size) (ok : Ready sheet of) where
 
         none : (l : List ℕ) → Lows P t l → l ≡ []
         none [] h = refl
-        none (x ∷ l) h = let z = h .sound x (here refl) in in-none (rw empty at (in-sift (live P t) (z .0) (z .1)))
+        none (x ∷ l) h = let y = h .sound x (here refl) in in-none (rw empty at (in-sift (live P t) (y .0) (y .1)))
 
   -- ---- no bid has been looked at
   size : of .bids ≤ length noMarks
@@ -159,7 +159,7 @@ module _ (sheet : List ℕ) (of : Size) (ok : Ready sheet of) where
   size = ok .few
 
   -- the marks at the start: of the auction's own bids, and of all others
-  started-at : (i : ℕ) → i < of .bids → getD ((startedOf sheet (of .bids)) .marks) i 0 ≡ pick (inAuction sheet i) noReason notHere
+  started-at : (i : ℕ) → i < of .bids → getD ((startedOf sheet of) .marks) i 0 ≡ pick (inAuction sheet i) noReason notHere
   unfolding startedOf firstMark
   started-at i h = fill-at noMarks (λ i. pick (inAuction sheet i) noReason notHere) (of .bids) i 0 size h
 
@@ -168,9 +168,9 @@ module _ (sheet : List ℕ) (of : Size) (ok : Ready sheet of) where
   started-past zero i h g k = at-start 320 i notHere 0 k
   started-past (suc n) i h g k =
       put-is (fill noMarks (λ i. firstMark (rowStanding sheet i)) n) n i (firstMark (rowStanding sheet n)) 0 (omega (arith, fill-length noMarks (λ i. firstMark (rowStanding sheet i)) n))
-      ∙ rw (ne-eqb i n (λ e. let z : ⊥ = omega arith in z)) (started-past n i (omega arith) (omega arith) k)
+      ∙ rw (ne-eqb i n (λ e. let y : ⊥ = omega arith in y)) (started-past n i (omega arith) (omega arith) k)
 
-  pub started-stands : {s : PotState} → s ≡ startedOf sheet (of .bids) → Stands P [] s
+  pub started-stands : {s : PotState} → s ≡ startedOf sheet of → Stands P [] s
   unfolding wideEnd winners seen closed hanging mark priceFrom hangs startedOf noMarks
   started-stands e = rw e (record {
     wide = refl;
@@ -187,14 +187,14 @@ module _ (sheet : List ℕ) (of : Size) (ok : Ready sheet of) where
     };
   })
     where
-      own : (i : ℕ) → In i (P .bids) → getD ((startedOf sheet (of .bids)) .marks) i 0 ≡ noReason
+      own : (i : ℕ) → In i (P .bids) → getD ((startedOf sheet of) .marks) i 0 ≡ noReason
       own i j = started-at i (link.bid-lt sheet of ok i j) ∙ rw (link.bid-in sheet of ok i j)
 
-      others : (i : ℕ) → i < 320 → memb i (P .bids) ≡ false → getD ((startedOf sheet (of .bids)) .marks) i 0 ≡ notHere
+      others : (i : ℕ) → i < 320 → memb i (P .bids) ≡ false → getD ((startedOf sheet of) .marks) i 0 ≡ notHere
       others i h f =
           case (ltb i (of .bids))
           (λ t. started-at i (ltb-true i (of .bids) t) ∙ case (inAuction sheet i) (λ e. clash (in-memb (link.bid sheet of ok i (ltb-true i (of .bids) t) e)) f) (λ g. rw g))
           (λ t. past i (ltb-false i (of .bids) t) h)
         where
-          past : (i : ℕ) → of .bids ≤ i → i < 320 → getD ((startedOf sheet (of .bids)) .marks) i 0 ≡ notHere
+          past : (i : ℕ) → of .bids ≤ i → i < 320 → getD ((startedOf sheet of) .marks) i 0 ≡ notHere
           past i g h = unfold startedOf in started-past (of .bids) i g (ok .few) h

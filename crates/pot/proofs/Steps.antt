@@ -23,15 +23,15 @@ use Rattle.pot.proofs.Sums.{revalued-sums, sum-total, row-fits, stands-
 
 -- one taken, or several
 only : (l : List ℕ) {c i : ℕ} → c ≡ length l → c ≡ 1 → i ≡ headOr 0 l → l ≡ i ∷ []
-only [] ec h e = absurd (let z : ⊥ = omega arith in z)
+only [] ec h e = absurd (let y : ⊥ = omega arith in y)
 only (x ∷ []) ec h e = rw e
-only (x ∷ z ∷ l) ec h e = absurd (let z : ⊥ = omega arith in z)
+only (x ∷ y ∷ l) ec h e = absurd (let y : ⊥ = omega arith in y)
 
 several : (P : Pot) (t : Trace) (l : List ℕ) {c x : ℕ} → c ≡ length l → (c ≡ 1 → ⊥) → In x l → lost P t l ≡ tied P t l
 unfolding lost
 several P t [] ec h i = in-none i
 several P t (x ∷ []) ec h i = absurd (h ec)
-several P t (x ∷ z ∷ l) ec h i = refl
+several P t (x ∷ y ∷ l) ec h i = refl
 
 lost-one : (P : Pot) (t : Trace) (i : ℕ) → lost P t (i ∷ []) ≡ alone P t i
 unfolding lost
@@ -80,7 +80,7 @@ module _ (sheet : List ℕ) (of : Size) (ok : Ready sheet of) (s : PotState) {p 
     unfolding withSums
     fits-is R =
         row-fits (yearSum (v .sums)) sheet (of .years) (ok .years) (Sv .row) ef ∙ looks.trial-fits sheet of ok t s R (yearSum (v .sums))
-        (λ z h. sum-total (Sv .parts) z h ok (others R) ∙ ap (λ (u : PotState). totalOf sheet (u .marks) (u .prices) z (of .bids)) (tried R))
+        (λ y h. sum-total (Sv .parts) y h ok (others R) ∙ ap (λ (u : PotState). totalOf sheet (u .marks) (u .prices) y (of .bids)) (tried R))
 
   -- all that were taken fit
   pub step-fits : {r : PotState} → f ≡ true → r ≡ settledOf v → Stepped (potIn sheet of) s r
@@ -103,9 +103,9 @@ module _ (sheet : List ℕ) (of : Size) (ok : Ready sheet of) (s : PotState) {p 
     step-alone {i} q e t x S n j =
         let P = potIn sheet of in
         let R = S .rep n in
-        let z : taken P t ≡ i ∷ [] = sym (of-set t R) ∙ q in
-        let w : In i (taken P t) = rw z (here refl) in
-        rw (look-lost t R ∙ ap (lost P t) z ∙ lost-one P t i, e) (record {
+        let y : taken P t ≡ i ∷ [] = sym (of-set t R) ∙ q in
+        let w : In i (taken P t) = rw y (here refl) in
+        rw (look-lost t R ∙ ap (lost P t) y ∙ lost-one P t i, e) (record {
           wide = looks.alone-wide sheet of ok t s R i ∙ S .wide ∙ n ∙ sym (not-wide P t i);
           rep = λ u. looks.alone-rep sheet of ok t s R i w;
         })

@@ -14,50 +14,31 @@ use Rattle.rules.specs.Names.{becauseWon, widestTie}
 use Rattle.rules.specs.Lists.{pick, sift, below}
 use Rattle.rules.specs.Pot.{Pot, Trace}
 use Rattle.pot_laws.specs.Lists.{case, In, here, there, sift-in, below-in}
-use Rattle.arrays.specs.Sets.{fill, members}
-use Rattle.arrays.proofs.Arrays.{put-is, zeros, fill-at}
+use Rattle.arrays.specs.Sets.{fill, placed, members}
+use Rattle.arrays.proofs.Arrays.{put-is, zeros, fill-at, placed-length, placed-at, placed-other}
 use Rattle.sheet.specs.declared.Size.{Size}
-use Rattle.sheet.specs.Sheet.{Ready, inAuction, rowStanding, rowYear}
+use Rattle.sheet.specs.Sheet.{columns, Ready, inAuction, rowStanding, rowYear}
 use Rattle.totals.specs.Totals.{worthOf, totalOf, partOn, partOf, noRow, filled, fitsTo, rowFits}
 use Rattle.totals.proofs.Laws.{fits-same, row-none}
-use Rattle.ties.specs.Ties.{laidTo}
 use Rattle.totals.proofs.Parts.{part-most, total-parts}
 use Rattle.pot.specs.declared.PotState.{PotState}
-use Rattle.pot.specs.Marks.{winOf, winAll, turnAll, turnOf, turnedOf, hungOf, shutOf, settledOf, widened, aloneOf, followsOf, sharedOf, choiceIn, restOf, tieOf, firstMark, noMarks, startedOf, yearSum, mostSum, withSums, renewedOf, renewedTo, totalledOf, revaluedOf, triedOf, trialOf, Parted, Summed}
+use Rattle.pot.specs.Marks.{winOf, winAll, turnAll, turnOf, turnedOf, hungOf, shutOf, settledOf, widened, aloneOf, followsOf, sharedOf, choiceIn, restOf, tieOf, firstMark, noMarks, startedOf, sumsSize, yearSum, mostSum, withSums, renewedRow, renewedOf, renewedTo, totalledOf, revaluedOf, triedOf, trialOf, Parted, Summed}
 use Rattle.pot.specs.Rep.{Rep, Stands}
 
--- ---- a row of the sums is written
-module _ (l : List ℕ) (d : ℕ) (row : List ℕ) where
-  laid-length : (n : ℕ) → length (laidTo l row d n) ≡ length l
-  unfolding laidTo
-  laid-length zero = refl
-  laid-length (suc n) = length-set (laidTo l row d n) (d * 8 + n) (getD row n 0) ∙ laid-length n
-
-  -- its own places, and those of another year
-  laid-own : (n z : ℕ) → length l ≡ 32 → d < 4 → n ≤ 8 → z < n → getD (laidTo l row d n) (d * 8 + z) 0 ≡ getD row z 0
-  unfolding laidTo
-  laid-own zero z h g k i = absurd (omega arith)
-  laid-own (suc n) z h g k i =
-      put-is (laidTo l row d n) (d * 8 + n) (d * 8 + z) (getD row n 0) 0 (omega (arith, laid-length n))
-      ∙ case (eqb z n)
-      (λ t. let e = eqb-true z n t in rw (e, eq-eqb (d * 8 + n) (d * 8 + n) refl))
-      (λ t. let e = eqb-false z n t in rw (ne-eqb (d * 8 + z) (d * 8 + n) (λ q. e (omega arith))) (laid-own n z h g (omega arith) (omega arith)))
-
-  laid-other : (n c z : ℕ) → (c ≡ d → ⊥) → n ≤ 8 → z < 8 → getD (laidTo l row d n) (c * 8 + z) 0 ≡ getD l (c * 8 + z) 0
-  unfolding laidTo
-  laid-other zero c z h k i = refl
-  laid-other (suc n) c z h k i =
-      getD-set-other (laidTo l row d n) (d * 8 + n) (c * 8 + z) (getD row n 0) 0 (λ q. h (omega arith)) ∙ laid-other n c z h (omega arith) i
-
--- where the row was filled
-laid-filled : (l : List ℕ) (d : ℕ) (f : ℕ → ℕ) (n z : ℕ) → length l ≡ 32 → d < 4 → n ≤ 8 → z < n → getD (laidTo l (filled f n) d n) (d * 8 + z) 0 ≡ f z
-laid-filled l d f n z h g k i = laid-own l d (filled f n) n z h g k i ∙ fill-at noRow f n z 0 (size k) i
+-- ---- a row of the sums is written: its own places, and those of another year
+laid-filled : (l : List ℕ) (d : ℕ) (f : ℕ → ℕ) (n y : ℕ) → length l ≡ sumsSize → d < 4 → n ≤ 8 → y < n
+    → getD (placed (λ x. getD (filled f n) x 0) l (d * columns) n) (d * columns + y) 0 ≡ f y
+laid-filled l d f n y h g k i = placed-at (λ x. getD (filled f n) x 0) l (d * 8) n y 0 (omega arith) i ∙ fill-at noRow f n y 0 (size k) i
   where
     size : n ≤ 8 → n ≤ length noRow
     size g = unfold noRow in g
 
-pub renewed-is : (sheet : List ℕ) (of : Size) (d : ℕ) (s : PotState) {row sums : List ℕ} → row ≡ filled (λ z. partOf sheet (s .marks) (getD (s .prices) d 0) d z (of .bids)) (of .years)
-    → sums ≡ laidTo (s .sums) row d (of .years)
+laid-other : (l : List ℕ) (d : ℕ) (row : List ℕ) (n c y : ℕ) → (c ≡ d → ⊥) → n ≤ 8 → y < 8
+    → getD (placed (λ x. getD row x 0) l (d * columns) n) (c * columns + y) 0 ≡ getD l (c * columns + y) 0
+laid-other l d row n c y h k i = placed-other (λ x. getD row x 0) l (d * 8) n (c * 8 + y) 0 (λ j g q. h (omega arith))
+
+pub renewed-is : (sheet : List ℕ) (of : Size) (d : ℕ) (s : PotState) {row sums : List ℕ} → row ≡ renewedRow sheet of d s
+    → sums ≡ placed (λ y. getD row y 0) (s .sums) (d * columns) (of .years)
     → _≡_ {A = PotState} (record { marks = s .marks; won = s .won; opened = s .opened; prices = s .prices; sums = sums; totals = s .totals; hang = s .hang; wide = s .wide }) (renewedOf sheet of d s)
 unfolding renewedOf withSums
 renewed-is sheet of d s er es = rw (es, er)
@@ -87,39 +68,39 @@ renewed-next sheet of s d et er = rw (add-one d, er, et)
 -- ---- marks and the sums of a year
 module _ (sheet marks : List ℕ) (price i v : ℕ) where
   -- a bid of another year
-  part-other : (d z : ℕ) (l : List ℕ) → (rowYear sheet i ≡ d → ⊥) → partOn sheet (set marks i v) price d z l ≡ partOn sheet marks price d z l
+  part-other : (d y : ℕ) (l : List ℕ) → (rowYear sheet i ≡ d → ⊥) → partOn sheet (set marks i v) price d y l ≡ partOn sheet marks price d y l
   unfolding partOn
-  part-other d z [] h = refl
-  part-other d z (n ∷ l) h = rw (part-other d z l h) (ap (λ (x : ℕ). partOn sheet marks price d z l + x) (same (eqb n i) refl))
+  part-other d y [] h = refl
+  part-other d y (n ∷ l) h = rw (part-other d y l h) (ap (λ (x : ℕ). partOn sheet marks price d y l + x) (same (eqb n i) refl))
     where
-      same : (b : Bool) → eqb n i ≡ b → pick (eqb (getD (set marks i v) n 0) becauseWon && eqb (rowYear sheet n) d) (worthOf sheet n price z) 0 ≡ pick (eqb (getD marks n 0) becauseWon && eqb (rowYear sheet n) d) (worthOf sheet n price z) 0
+      same : (b : Bool) → eqb n i ≡ b → pick (eqb (getD (set marks i v) n 0) becauseWon && eqb (rowYear sheet n) d) (worthOf sheet n price y) 0 ≡ pick (eqb (getD marks n 0) becauseWon && eqb (rowYear sheet n) d) (worthOf sheet n price y) 0
       same true t = rw (eqb-true n i t, ne-eqb (rowYear sheet i) d h) (none (eqb (getD (set marks i v) i 0) becauseWon) ∙ sym (none (eqb (getD marks i 0) becauseWon)))
         where
-          none : (b : Bool) → pick (b && false) (worthOf sheet i price z) 0 ≡ 0
+          none : (b : Bool) → pick (b && false) (worthOf sheet i price y) 0 ≡ 0
           none true = refl
           none false = refl
       same false f = rw (getD-set-other marks i n v 0 (eqb-false n i f))
 
   -- a bid that did not win and does not
-  part-down : (d z : ℕ) (l : List ℕ) → eqb v becauseWon ≡ false → eqb (getD marks i 0) becauseWon ≡ false → partOn sheet (set marks i v) price d z l ≡ partOn sheet marks price d z l
+  part-down : (d y : ℕ) (l : List ℕ) → eqb v becauseWon ≡ false → eqb (getD marks i 0) becauseWon ≡ false → partOn sheet (set marks i v) price d y l ≡ partOn sheet marks price d y l
   unfolding partOn
-  part-down d z [] g h = refl
-  part-down d z (n ∷ l) g h = rw (part-down d z l g h) (ap (λ (x : ℕ). partOn sheet marks price d z l + x) (same (eqb n i) refl))
+  part-down d y [] g h = refl
+  part-down d y (n ∷ l) g h = rw (part-down d y l g h) (ap (λ (x : ℕ). partOn sheet marks price d y l + x) (same (eqb n i) refl))
     where
       lost : (l : List ℕ) (k : ℕ) → eqb (getD l k 0) becauseWon ≡ false → eqb (getD (set l k v) k 0) becauseWon ≡ false
       lost [] k e = e
       lost (x ∷ l) zero e = g
       lost (x ∷ l) (suc k) e = lost l k e
 
-      same : (b : Bool) → eqb n i ≡ b → pick (eqb (getD (set marks i v) n 0) becauseWon && eqb (rowYear sheet n) d) (worthOf sheet n price z) 0 ≡ pick (eqb (getD marks n 0) becauseWon && eqb (rowYear sheet n) d) (worthOf sheet n price z) 0
+      same : (b : Bool) → eqb n i ≡ b → pick (eqb (getD (set marks i v) n 0) becauseWon && eqb (rowYear sheet n) d) (worthOf sheet n price y) 0 ≡ pick (eqb (getD marks n 0) becauseWon && eqb (rowYear sheet n) d) (worthOf sheet n price y) 0
       same true t = rw (eqb-true n i t, lost marks i h, h)
       same false f = rw (getD-set-other marks i n v 0 (eqb-false n i f))
 
 -- no bid has won
-part-none : (sheet marks : List ℕ) (price d z : ℕ) (l : List ℕ) → ((k : ℕ) → In k l → eqb (getD marks k 0) becauseWon ≡ false) → partOn sheet marks price d z l ≡ 0
+part-none : (sheet marks : List ℕ) (price d y : ℕ) (l : List ℕ) → ((k : ℕ) → In k l → eqb (getD marks k 0) becauseWon ≡ false) → partOn sheet marks price d y l ≡ 0
 unfolding partOn
-part-none sheet marks price d z [] h = refl
-part-none sheet marks price d z (n ∷ l) h = rw (part-none sheet marks price d z l (λ k i. h k (there i)), h n (here refl))
+part-none sheet marks price d y [] h = refl
+part-none sheet marks price d y (n ∷ l) h = rw (part-none sheet marks price d y l (λ k i. h k (there i)), h n (here refl))
 
 module _ (sheet : List ℕ) (of : Size) where
   -- ---- what keeps the sums and totals right
@@ -128,7 +109,7 @@ module _ (sheet : List ℕ) (of : Size) where
   summed-turned i s h S = record {
     parts = record {
       size = S .parts .size;
-      part = λ d z g k. S .parts .part d z g k ∙ sym (part-down sheet (s .marks) (getD (s .prices) d 0) i 2 d z (sift (inAuction sheet) (below (of .bids))) refl h);
+      part = λ d y g k. S .parts .part d y g k ∙ sym (part-down sheet (s .marks) (getD (s .prices) d 0) i 2 d y (sift (inAuction sheet) (below (of .bids))) refl h);
     };
     row = S .row;
   }
@@ -171,17 +152,17 @@ module _ (sheet : List ℕ) (of : Size) where
   pub parted-win : (p i : ℕ) (s : PotState) {d : ℕ} {u r : PotState} → of .years ≤ 8 → rowYear sheet i < 4 → d ≡ rowYear sheet i → u ≡ winOf sheet p i s → r ≡ renewedOf sheet of d u → Parted sheet of s → Parted sheet of r
   unfolding renewedOf withSums winOf partOf
   parted-win p i s {d} ly ld ed eu er S = rw (er, eu, ed) (record {
-    size = laid-length (s .sums) (rowYear sheet i) (filled part (of .years)) (of .years) ∙ S .size;
-    part = λ c z g k. case (eqb c (rowYear sheet i))
-        (λ t. rw (eqb-true c (rowYear sheet i) t) (laid-filled (s .sums) (rowYear sheet i) part (of .years) z (S .size) ld ly k))
+    size = placed-length (λ x. getD (filled part (of .years)) x 0) (s .sums) (rowYear sheet i * 8) (of .years) ∙ S .size;
+    part = λ c y g k. case (eqb c (rowYear sheet i))
+        (λ t. rw (eqb-true c (rowYear sheet i) t) (laid-filled (s .sums) (rowYear sheet i) part (of .years) y (S .size) ld ly k))
         (λ f.
         let n = eqb-false c (rowYear sheet i) f in
-        laid-other (s .sums) (rowYear sheet i) (filled part (of .years)) (of .years) c z n ly (omega arith) ∙ S .part c z g k
-        ∙ rw (getD-set-other (s .prices) (rowYear sheet i) c p 0 n) (sym (part-other sheet (s .marks) (getD (s .prices) c 0) i becauseWon c z (sift (inAuction sheet) (below (of .bids))) (λ e. n (sym e)))));
+        laid-other (s .sums) (rowYear sheet i) (filled part (of .years)) (of .years) c y n ly (omega arith) ∙ S .part c y g k
+        ∙ rw (getD-set-other (s .prices) (rowYear sheet i) c p 0 n) (sym (part-other sheet (s .marks) (getD (s .prices) c 0) i becauseWon c y (sift (inAuction sheet) (below (of .bids))) (λ e. n (sym e)))));
   })
     where
       part : ℕ → ℕ
-      part z = partOf sheet (set (s .marks) i becauseWon) (getD (set (s .prices) (rowYear sheet i) p) (rowYear sheet i) 0) (rowYear sheet i) z (of .bids)
+      part y = partOf sheet (set (s .marks) i becauseWon) (getD (set (s .prices) (rowYear sheet i) p) (rowYear sheet i) 0) (rowYear sheet i) y (of .bids)
 
   pub summed-one : (p i : ℕ) {s r : PotState} → of .years ≤ 8 → rowYear sheet i < 4 → r ≡ triedOf sheet of p i s → Summed sheet of s → Summed sheet of r
   unfolding triedOf
@@ -197,50 +178,50 @@ module _ (sheet : List ℕ) (of : Size) where
     renewed-size : (n : ℕ) → length ((renewedTo sheet of s n) .sums) ≡ length (s .sums)
     unfolding renewedTo renewedOf withSums
     renewed-size zero = refl
-    renewed-size (suc n) = laid-length ((renewedTo sheet of s n) .sums) n _ (of .years) ∙ renewed-size n
+    renewed-size (suc n) = placed-length _ ((renewedTo sheet of s n) .sums) (n * 8) (of .years) ∙ renewed-size n
 
-    renewed-parts : (n : ℕ) → length (s .sums) ≡ 32 → of .years ≤ 8 → n ≤ 4 → (d z : ℕ) → d < n → z < of .years
-        → getD ((renewedTo sheet of s n) .sums) (d * 8 + z) 0 ≡ partOf sheet (s .marks) (getD (s .prices) d 0) d z (of .bids)
+    renewed-parts : (n : ℕ) → length (s .sums) ≡ sumsSize → of .years ≤ 8 → n ≤ 4 → (d y : ℕ) → d < n → y < of .years
+        → getD ((renewedTo sheet of s n) .sums) (d * 8 + y) 0 ≡ partOf sheet (s .marks) (getD (s .prices) d 0) d y (of .bids)
     unfolding renewedTo renewedOf withSums
-    renewed-parts zero h g k d z i j = absurd (omega arith)
-    renewed-parts (suc n) h g k d z i j = case (eqb d n)
-        (λ t. rw (eqb-true d n t) (laid-filled ((renewedTo sheet of s n) .sums) n part (of .years) z (renewed-size n ∙ h) k g j ∙ same))
-        (λ f. let e = eqb-false d n f in laid-other ((renewedTo sheet of s n) .sums) n (filled part (of .years)) (of .years) d z e g (omega arith) ∙ renewed-parts n h g (omega arith) d z (omega arith) j)
+    renewed-parts zero h g k d y i j = absurd (omega arith)
+    renewed-parts (suc n) h g k d y i j = case (eqb d n)
+        (λ t. rw (eqb-true d n t) (laid-filled ((renewedTo sheet of s n) .sums) n part (of .years) y (renewed-size n ∙ h) k g j ∙ same))
+        (λ f. let e = eqb-false d n f in laid-other ((renewedTo sheet of s n) .sums) n (filled part (of .years)) (of .years) d y e g (omega arith) ∙ renewed-parts n h g (omega arith) d y (omega arith) j)
       where
         part : ℕ → ℕ
-        part z = partOf sheet ((renewedTo sheet of s n) .marks) (getD ((renewedTo sheet of s n) .prices) n 0) n z (of .bids)
+        part y = partOf sheet ((renewedTo sheet of s n) .marks) (getD ((renewedTo sheet of s n) .prices) n 0) n y (of .bids)
 
-        same : part z ≡ partOf sheet (s .marks) (getD (s .prices) n 0) n z (of .bids)
-        same = ap (λ (t : PotState). partOf sheet (t .marks) (getD (t .prices) n 0) n z (of .bids)) (renewed-sums n)
+        same : part y ≡ partOf sheet (s .marks) (getD (s .prices) n 0) n y (of .bids)
+        same = ap (λ (t : PotState). partOf sheet (t .marks) (getD (t .prices) n 0) n y (of .bids)) (renewed-sums n)
 
-    pub parted-renewed : {r : PotState} → length (s .sums) ≡ 32 → of .years ≤ 8 → r ≡ renewedTo sheet of s 4 → Parted sheet of r
+    pub parted-renewed : {r : PotState} → length (s .sums) ≡ sumsSize → of .years ≤ 8 → r ≡ renewedTo sheet of s 4 → Parted sheet of r
     unfolding withSums
     parted-renewed h g e = rw e (record {
       size = renewed-size 4 ∙ h;
-      part = λ d z i j. renewed-parts 4 h g (omega arith) d z i j ∙ sym (ap (λ (t : PotState). partOf sheet (t .marks) (getD (t .prices) d 0) d z (of .bids)) (renewed-sums 4));
+      part = λ d y i j. renewed-parts 4 h g (omega arith) d y i j ∙ sym (ap (λ (t : PotState). partOf sheet (t .marks) (getD (t .prices) d 0) d y (of .bids)) (renewed-sums 4));
     })
 
     pub revalued-sums : revaluedOf sheet of s ≡ withSums ((revaluedOf sheet of s) .sums) ((revaluedOf sheet of s) .totals) s
     unfolding revaluedOf totalledOf withSums
     revalued-sums = ap (λ (t : PotState). withSums ((renewedTo sheet of s 4) .sums) (filled (yearSum ((renewedTo sheet of s 4) .sums)) (of .years)) t) (renewed-sums 4)
 
-    pub summed-revalued : {r : PotState} → length (s .sums) ≡ 32 → of .years ≤ 8 → r ≡ revaluedOf sheet of s → Summed sheet of r
+    pub summed-revalued : {r : PotState} → length (s .sums) ≡ sumsSize → of .years ≤ 8 → r ≡ revaluedOf sheet of s → Summed sheet of r
     unfolding revaluedOf
     summed-revalued h g e = summed-totalled e (parted-renewed h g refl)
 
   -- no bid has been looked at
-  pub summed-started : {s : PotState} → of .bids ≤ 320 → of .years ≤ 8 → s ≡ startedOf sheet (of .bids) → Summed sheet of s
+  pub summed-started : {s : PotState} → of .bids ≤ 320 → of .years ≤ 8 → s ≡ startedOf sheet of → Summed sheet of s
   unfolding startedOf partOf
   summed-started h g e = rw e (record {
-    parts = record { size = refl; part = λ d z i j. zeros 32 (d * 8 + z) ∙ sym (part-none sheet (fill noMarks (λ i. firstMark (rowStanding sheet i)) (of .bids)) (getD (replicate 4 _) d 0) d z (sift (inAuction sheet) (below (of .bids))) (λ k i. fresh k (below-in k (of .bids) (sift-in k (inAuction sheet) (below (of .bids)) i .0)))) };
-    row = start g ∙ ap (λ (f : ℕ → ℕ). filled f (of .years)) (λ j z. sym (blank z) j);
+    parts = record { size = refl; part = λ d y i j. zeros 32 (d * 8 + y) ∙ sym (part-none sheet (fill noMarks (λ i. firstMark (rowStanding sheet i)) (of .bids)) (getD (replicate 4 _) d 0) d y (sift (inAuction sheet) (below (of .bids))) (λ k i. fresh k (below-in k (of .bids) (sift-in k (inAuction sheet) (below (of .bids)) i .0)))) };
+    row = start g ∙ ap (λ (f : ℕ → ℕ). filled f (of .years)) (λ j y. sym (blank y) j);
   })
     where
       start : of .years ≤ 8 → replicate 8 0 ≡ filled (λ _. 0) (of .years)
       start g = unfold noRow in row-none (of .years) g
 
-      blank : (z : ℕ) → yearSum (replicate 32 0) z ≡ 0
-      blank z = unfold yearSum in rw (zeros 32 z, zeros 32 (8 + z), zeros 32 (16 + z), zeros 32 (24 + z))
+      blank : (y : ℕ) → yearSum (replicate 32 0) y ≡ 0
+      blank y = unfold yearSum in rw (zeros 32 y, zeros 32 (8 + y), zeros 32 (16 + y), zeros 32 (24 + y))
 
       size : of .bids ≤ length noMarks
       size = unfold noMarks in h
@@ -264,7 +245,7 @@ turn-sums sheet v s (i ∷ l) = turn-sums sheet v s l
 
 module _ (sheet : List ℕ) (of : Size) {s : PotState} (ly : of .years ≤ 8) (S : Summed sheet of s) where
   -- several are tried
-  pub win-size : (p : ℕ) (l : List ℕ) {u : PotState} → u ≡ winAll sheet p s l → length (u .sums) ≡ 32
+  pub win-size : (p : ℕ) (l : List ℕ) {u : PotState} → u ≡ winAll sheet p s l → length (u .sums) ≡ sumsSize
   win-size p l eu = ap (λ (t : PotState). length (t .sums)) eu ∙ ap length (win-sums sheet p s l) ∙ S .parts .size
 
   pub summed-trial : (p : ℕ) (l : List Bool) {r : PotState} → r ≡ trialOf sheet of p l s → Summed sheet of r
@@ -272,7 +253,7 @@ module _ (sheet : List ℕ) (of : Size) {s : PotState} (ly : of .years ≤ 8) (S
   summed-trial p l e = summed-revalued sheet of (winAll sheet p s (members l (of .bids))) (win-size p (members l (of .bids)) refl) ly e
 
   -- several do not fit
-  pub shared-size : (l wins : List Bool) (p : ℕ) {u : PotState} → u ≡ sharedOf sheet of l wins p s → length (u .sums) ≡ 32
+  pub shared-size : (l wins : List Bool) (p : ℕ) {u : PotState} → u ≡ sharedOf sheet of l wins p s → length (u .sums) ≡ sumsSize
   unfolding sharedOf hungOf
   shared-size l wins p eu = ap (λ (t : PotState). length (t .sums)) eu ∙ ap length (turn-sums sheet _ _ _ ∙ win-sums sheet p s _) ∙ S .parts .size
 
@@ -285,49 +266,49 @@ module _ (sheet : List ℕ) (of : Size) {s : PotState} (ly : of .years ≤ 8) (S
       go false = summed-revalued sheet of (sharedOf sheet of l (choiceIn sheet of l p s) p s) (shared-size l (choiceIn sheet of l p s) p refl) ly refl
 
 -- ---- the sums of a year together are its total
-module _ {sheet : List ℕ} {of : Size} {s : PotState} (S : Parted sheet of s) (z : ℕ) (h : z < of .years) where
+module _ {sheet : List ℕ} {of : Size} {s : PotState} (S : Parted sheet of s) (y : ℕ) (h : y < of .years) where
   abbrev part : ℕ → ℕ
-  part d = partOf sheet (s .marks) (getD (s .prices) d 0) d z (of .bids)
+  part d = partOf sheet (s .marks) (getD (s .prices) d 0) d y (of .bids)
 
-  four : yearSum (s .sums) z ≡ part 0 + (part 1 + (part 2 + part 3))
+  four : yearSum (s .sums) y ≡ part 0 + (part 1 + (part 2 + part 3))
   unfolding yearSum
   four = rw (at0, at1, at2, at3)
     where
-      at0 : getD (s .sums) z 0 ≡ part 0
-      at0 = let e : z ≡ 0 * 8 + z = omega arith in ap (λ (k : ℕ). getD (s .sums) k 0) e ∙ S .part 0 z (omega arith) h
+      at0 : getD (s .sums) y 0 ≡ part 0
+      at0 = let e : y ≡ 0 * 8 + y = omega arith in ap (λ (k : ℕ). getD (s .sums) k 0) e ∙ S .part 0 y (omega arith) h
 
-      at1 : getD (s .sums) (8 + z) 0 ≡ part 1
-      at1 = let e : 8 + z ≡ 1 * 8 + z = omega arith in ap (λ (k : ℕ). getD (s .sums) k 0) e ∙ S .part 1 z (omega arith) h
+      at1 : getD (s .sums) (8 + y) 0 ≡ part 1
+      at1 = let e : 8 + y ≡ 1 * 8 + y = omega arith in ap (λ (k : ℕ). getD (s .sums) k 0) e ∙ S .part 1 y (omega arith) h
 
-      at2 : getD (s .sums) (16 + z) 0 ≡ part 2
-      at2 = let e : 16 + z ≡ 2 * 8 + z = omega arith in ap (λ (k : ℕ). getD (s .sums) k 0) e ∙ S .part 2 z (omega arith) h
+      at2 : getD (s .sums) (16 + y) 0 ≡ part 2
+      at2 = let e : 16 + y ≡ 2 * 8 + y = omega arith in ap (λ (k : ℕ). getD (s .sums) k 0) e ∙ S .part 2 y (omega arith) h
 
-      at3 : getD (s .sums) (24 + z) 0 ≡ part 3
-      at3 = let e : 24 + z ≡ 3 * 8 + z = omega arith in ap (λ (k : ℕ). getD (s .sums) k 0) e ∙ S .part 3 z (omega arith) h
+      at3 : getD (s .sums) (24 + y) 0 ≡ part 3
+      at3 = let e : 24 + y ≡ 3 * 8 + y = omega arith in ap (λ (k : ℕ). getD (s .sums) k 0) e ∙ S .part 3 y (omega arith) h
 
   -- where the winners all entered the auction
-  pub sum-total : Ready sheet of → ((k : ℕ) → k < of .bids → inAuction sheet k ≡ false → eqb (getD (s .marks) k 0) becauseWon ≡ false) → yearSum (s .sums) z ≡ totalOf sheet (s .marks) (s .prices) z (of .bids)
-  sum-total ok others = four ∙ sym (total-parts sheet of (s .marks) (s .prices) z ok others)
+  pub sum-total : Ready sheet of → ((k : ℕ) → k < of .bids → inAuction sheet k ≡ false → eqb (getD (s .marks) k 0) becauseWon ≡ false) → yearSum (s .sums) y ≡ totalOf sheet (s .marks) (s .prices) y (of .bids)
+  sum-total ok others = four ∙ sym (total-parts sheet of (s .marks) (s .prices) y ok others)
 
-  pub sum-most : Ready sheet of → yearSum (s .sums) z ≤ mostSum
+  pub sum-most : Ready sheet of → yearSum (s .sums) y ≤ mostSum
   sum-most v =
       let few = v .few in
-      let most : (d : ℕ) → part d ≤ dearest * (of .bids) = λ d. part-most sheet (s .marks) (getD (s .prices) d 0) d of z v h in
+      let most : (d : ℕ) → part d ≤ dearest * (of .bids) = λ d. part-most sheet (s .marks) (getD (s .prices) d 0) d of y v h in
       omega (arith, four, most 0, most 1, most 2, most 3)
 
 -- added one after the other
-module _ (l : List ℕ) (z : ℕ) where
-  pub added-is : getD l z 0 + getD l (8 + z) 0 + getD l (16 + z) 0 + getD l (24 + z) 0 ≡ yearSum l z
+module _ (l : List ℕ) (y : ℕ) where
+  pub added-is : getD l y 0 + getD l (8 + y) 0 + getD l (16 + y) 0 + getD l (24 + y) 0 ≡ yearSum l y
   unfolding yearSum
   added-is = omega arith
 
-  pub added-low : yearSum l z ≤ mostSum
-      → (getD l z 0 + getD l (8 + z) 0 ≤ mostSum) × (getD l z 0 + getD l (8 + z) 0 + getD l (16 + z) 0 ≤ mostSum) × (getD l z 0 + getD l (8 + z) 0 + getD l (16 + z) 0 + getD l (24 + z) 0 ≤ mostSum)
+  pub added-low : yearSum l y ≤ mostSum
+      → (getD l y 0 + getD l (8 + y) 0 ≤ mostSum) × (getD l y 0 + getD l (8 + y) 0 + getD l (16 + y) 0 ≤ mostSum) × (getD l y 0 + getD l (8 + y) 0 + getD l (16 + y) 0 + getD l (24 + y) 0 ≤ mostSum)
   added-low h = (omega (arith, added-is), omega (arith, added-is), omega (arith, added-is))
 
 -- the row of year totals fits where the sums do
 pub row-fits : (f : ℕ → ℕ) (sheet : List ℕ) (n : ℕ) {row : List ℕ} {b : Bool} → n ≤ 8 → row ≡ filled f n → b ≡ rowFits sheet row n → b ≡ fitsTo f sheet n
-row-fits f sheet n h er eb = eb ∙ ap (λ (r : List ℕ). rowFits sheet r n) er ∙ fits-same (λ z. getD (filled f n) z 0) f sheet n (λ z g. fill-at noRow f n z 0 size g)
+row-fits f sheet n h er eb = eb ∙ ap (λ (r : List ℕ). rowFits sheet r n) er ∙ fits-same (λ y. getD (filled f n) y 0) f sheet n (λ y g. fill-at noRow f n y 0 size g)
   where
     size : n ≤ length noRow
     size = unfold noRow in h

@@ -118,7 +118,7 @@ module _ (sheet : List ℕ) (of : Size) (ok : Ready sheet of) where
           opened = unfold members in refl
 
       in-out : (i : ℕ) → In i out → In i l × (memb i ch ≡ false)
-      in-out i j = let z = sift-in i (λ c. not (memb c ch)) l j in (z .0, not-is-true (memb i ch) (z .1))
+      in-out i j = let y = sift-in i (λ c. not (memb c ch)) l j in (y .0, not-is-true (memb i ch) (y .1))
 
       abbrev v : PotState
       v = winAll sheet p s ch
@@ -132,18 +132,18 @@ module _ (sheet : List ℕ) (of : Size) (ok : Ready sheet of) where
       shared-did : Did P (shared P t l) s x
       unfolding hungOf hangs potIn
       shared-did = record {
-        sizes = let z = turn-sizes sheet downTied v sv out in record { marks = z .marks; won = z .won; opened = z .opened; prices = z .prices };
+        sizes = let y = turn-sizes sheet downTied v sv out in record { marks = y .marks; won = y .won; opened = y .opened; prices = y .prices };
         marks = λ i.
             turn-marks sheet downTied v sv out i (λ c j. few c (in-out c j .0))
             ∙ ap (pick (memb i out) downTied) (win-marks sheet p s (R .sizes) ch i (λ c j. few c (in-choice c j)))
             ∙ swap i;
-        won = λ z j. ap (λ (q : List Bool). getD q z false) (turn-won sheet downTied v sv out) ∙ win-won sheet p s (R .sizes) ch z (λ c g. ok .app c (sound c (in-choice c g) .0));
+        won = λ y j. ap (λ (q : List Bool). getD q y false) (turn-won sheet downTied v sv out) ∙ win-won sheet p s (R .sizes) ch y (λ c g. ok .app c (sound c (in-choice c g) .0));
         opened = λ d j.
             turn-opened sheet downTied v sv out d (λ c g. ok .year c (sound c (in-out c g .0) .0))
             ∙ ap (λ (q : List Bool). not (memb d (map (rowYear sheet) out)) && getD q d false) (win-opened sheet p s (R .sizes) ch);
         prices = λ d j.
             ap (λ (q : List ℕ). getD q d 0) (turn-prices sheet downTied v sv out)
-            ∙ link.win-prices sheet of ok ws s (R .sizes) p ch d (λ c g. let z = sound c (in-choice c g) in (z .0, z .2));
+            ∙ link.win-prices sheet of ok ws s (R .sizes) p ch d (λ c g. let y = sound c (in-choice c g) in (y .0, y .2));
         hang = refl;
       }
         where

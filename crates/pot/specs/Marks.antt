@@ -1,19 +1,19 @@
 -- What the functions over a pot's arrays compute, as functions of the arrays. No rule of document 01 is stated here: crate rules has the rules, and
 -- specs/Rep.antt says what the arrays stand for. Assumes nothing.
-use Prim.Native.Nat.{ℕ, zero, suc, _+_, _*_, min, _<_}
+use Prim.Native.Nat.{ℕ, zero, suc, _+_, _*_, min, _≤_, _<_}
 use mathlib.Core.Path.{_≡_}
 use mathlib.Core.Bool.{Bool, true, false, not, _&&_}
 use mathlib.Core.List.{List, [], _∷_}
 use lib.ListN.{getD, set, replicate, length}
 use lib.Dec.{eqb, ltb}
 use Rattle.rules.specs.Value.{dearest}
-use Rattle.rules.specs.Names.{mostNumbers, noPrice, noReason, becauseWon, downAlone, downTied, widestTie}
+use Rattle.rules.specs.Names.{mostNumbers, mostApps, mostDeliveries, noPrice, noReason, becauseWon, downAlone, downTied, widestTie}
 use Rattle.rules.specs.Lists.{pick, sift, below}
-use Rattle.arrays.specs.Sets.{fill, built, members, headOr, without}
+use Rattle.arrays.specs.Sets.{fill, placed, built, members, headOr, without}
 use Rattle.sheet.specs.declared.Size.{Size}
-use Rattle.sheet.specs.Sheet.{rowStanding, rowApp, rowYear, rowPrice, inAuction, entered}
+use Rattle.sheet.specs.Sheet.{columns, rowStanding, rowApp, rowYear, rowPrice, inAuction, entered, Ready}
 use Rattle.totals.specs.Totals.{partOf, filled}
-use Rattle.ties.specs.Ties.{laidTo, basesOf, keepsOf, choiceOf}
+use Rattle.ties.specs.Ties.{basesOf, keepsOf, choiceOf}
 use Rattle.pot.specs.declared.PotState.{PotState}
 use Rattle.pot.specs.declared.Look.{Look}
 
@@ -22,7 +22,7 @@ abbrev pub notHere : ℕ
 notHere = 9
 
 abbrev pub noYear : ℕ
-noYear = 4
+noYear = mostDeliveries
 
 -- the lowest price of a list of bids, none where there is no bid
 unfoldable pub leastOr : (sheet : List ℕ) → List ℕ → ℕ
@@ -31,45 +31,99 @@ leastOr sheet (x ∷ l) = min (rowPrice sheet x) (leastOr sheet l)
 
 -- not yet looked at, the application has not won, the year is open
 unfoldable pub liveOf : (sheet : List ℕ) → PotState → ℕ → Bool
-liveOf sheet s i = eqb (getD (s .marks) i 0) noReason && (not (getD (s .won) (rowApp sheet i) false) && getD (s .opened) (rowYear sheet i) false)
+liveOf sheet s k = eqb (getD (s .marks) k 0) noReason && (not (getD (s .won) (rowApp sheet k) false) && getD (s .opened) (rowYear sheet k) false)
 
 unfoldable pub lowestOf : (sheet : List ℕ) → PotState → ℕ → ℕ
 lowestOf sheet s n = leastOr sheet (sift (liveOf sheet s) (below n))
 
--- live, and at price p
+-- live, and at a price
 unfoldable pub atOf : (sheet : List ℕ) → PotState → ℕ → ℕ → Bool
-atOf sheet s p i = liveOf sheet s i && eqb (rowPrice sheet i) p
+atOf sheet s price k = liveOf sheet s k && eqb (rowPrice sheet k) price
 
--- a bid wins at price p; a bid is turned down for a reason, and its year closes
-unfoldable pub winOf : (sheet : List ℕ) (p i : ℕ) → PotState → PotState
-winOf sheet p i s = record { marks = set (s .marks) i becauseWon; won = set (s .won) (rowApp sheet i) true; opened = s .opened; prices = set (s .prices) (rowYear sheet i) p; sums = s .sums; totals = s .totals; hang = s .hang; wide = s .wide }
+-- a bid wins at a price; a bid is turned down for a reason, and its year closes
+unfoldable pub winOf : (sheet : List ℕ) (price k : ℕ) → PotState → PotState
+winOf sheet price k s = record {
+  marks = set (s .marks) k becauseWon;
+  won = set (s .won) (rowApp sheet k) true;
+  opened = s .opened;
+  prices = set (s .prices) (rowYear sheet k) price;
+  sums = s .sums;
+  totals = s .totals;
+  hang = s .hang;
+  wide = s .wide;
+}
 
-unfoldable pub turnOf : (sheet : List ℕ) (v i : ℕ) → PotState → PotState
-turnOf sheet v i s = record { marks = set (s .marks) i v; won = s .won; opened = set (s .opened) (rowYear sheet i) false; prices = s .prices; sums = s .sums; totals = s .totals; hang = s .hang; wide = s .wide }
+unfoldable pub turnOf : (sheet : List ℕ) (v k : ℕ) → PotState → PotState
+turnOf sheet v k s = record {
+  marks = set (s .marks) k v;
+  won = s .won;
+  opened = set (s .opened) (rowYear sheet k) false;
+  prices = s .prices;
+  sums = s .sums;
+  totals = s .totals;
+  hang = s .hang;
+  wide = s .wide;
+}
 
-unfoldable pub winAll : (sheet : List ℕ) (p : ℕ) → PotState → List ℕ → PotState
-winAll sheet p s [] = s
-winAll sheet p s (i ∷ l) = winOf sheet p i (winAll sheet p s l)
+unfoldable pub winAll : (sheet : List ℕ) (price : ℕ) → PotState → List ℕ → PotState
+winAll sheet price s [] = s
+winAll sheet price s (k ∷ l) = winOf sheet price k (winAll sheet price s l)
 
 unfoldable pub turnAll : (sheet : List ℕ) (v : ℕ) → PotState → List ℕ → PotState
 turnAll sheet v s [] = s
-turnAll sheet v s (i ∷ l) = turnOf sheet v i (turnAll sheet v s l)
+turnAll sheet v s (k ∷ l) = turnOf sheet v k (turnAll sheet v s l)
 
 -- a bid is turned down alone; the year d hangs; the year d closes; the year that hangs closes; a tie was too wide
 unfoldable pub turnedOf : ℕ → PotState → PotState
-turnedOf i s = record { marks = set (s .marks) i downAlone; won = s .won; opened = s .opened; prices = s .prices; sums = s .sums; totals = s .totals; hang = noYear; wide = s .wide }
+turnedOf k s = record {
+  marks = set (s .marks) k downAlone;
+  won = s .won;
+  opened = s .opened;
+  prices = s .prices;
+  sums = s .sums;
+  totals = s .totals;
+  hang = noYear;
+  wide = s .wide;
+}
 
 unfoldable pub hungOf : ℕ → PotState → PotState
-hungOf d s = record { marks = s .marks; won = s .won; opened = s .opened; prices = s .prices; sums = s .sums; totals = s .totals; hang = d; wide = s .wide }
+hungOf d s = record {
+  marks = s .marks;
+  won = s .won;
+  opened = s .opened;
+  prices = s .prices;
+  sums = s .sums;
+  totals = s .totals;
+  hang = d;
+  wide = s .wide;
+}
 
 unfoldable pub shutOf : ℕ → PotState → PotState
-shutOf d s = record { marks = s .marks; won = s .won; opened = set (s .opened) d false; prices = s .prices; sums = s .sums; totals = s .totals; hang = noYear; wide = s .wide }
+shutOf d s = record {
+  marks = s .marks;
+  won = s .won;
+  opened = set (s .opened) d false;
+  prices = s .prices;
+  sums = s .sums;
+  totals = s .totals;
+  hang = noYear;
+  wide = s .wide;
+}
 
 unfoldable pub settledOf : PotState → PotState
 settledOf s = pick (ltb (s .hang) noYear) (shutOf (s .hang) s) (hungOf noYear s)
 
 unfoldable pub widened : PotState → PotState
-widened s = record { marks = s .marks; won = s .won; opened = s .opened; prices = s .prices; sums = s .sums; totals = s .totals; hang = s .hang; wide = true }
+widened s = record {
+  marks = s .marks;
+  won = s .won;
+  opened = s .opened;
+  prices = s .prices;
+  sums = s .sums;
+  totals = s .totals;
+  hang = s .hang;
+  wide = true;
+}
 
 -- the live bids at the lowest live price, as a set
 unfoldable pub takenOf : (sheet : List ℕ) (of : Size) → PotState → List Bool
@@ -79,15 +133,20 @@ takenOf sheet of s = built (atOf sheet s (lowestOf sheet s (of .bids))) (of .bid
 
 -- no other bid is marked as not yet looked at
 abbrev pub Others : (sheet : List ℕ) (of : Size) → PotState → Type 0
-Others sheet of s = (i : ℕ) → i < of .bids → inAuction sheet i ≡ false → eqb (getD (s .marks) i 0) noReason ≡ false
+Others sheet of s = (k : ℕ) → k < of .bids → inAuction sheet k ≡ false → eqb (getD (s .marks) k 0) noReason ≡ false
 
--- a look that sees one more bid, i at price q; and of a list of bids
-unfoldable pub joinedOf : Look → (q i : ℕ) → Look
-joinedOf l q i = pick (ltb (l .price) q) l (pick (ltb q (l .price)) (record { price = q; count = 1; last = i }) (record { price = q; count = l .count + 1; last = i }))
+-- what a look reads
+pub record Looking (sheet : List ℕ) (of : Size) (s : PotState) : Type 0 where
+  pub ready : Ready sheet of
+  pub others : Others sheet of s
+
+-- a look that sees one more bid, k at a price; and of a list of bids
+unfoldable pub joinedOf : Look → (q k : ℕ) → Look
+joinedOf l q k = pick (ltb (l .price) q) l (pick (ltb q (l .price)) (record { price = q; count = 1; last = k }) (record { price = q; count = l .count + 1; last = k }))
 
 unfoldable pub lookOf : (sheet : List ℕ) → List ℕ → Look
 lookOf sheet [] = record { price = noPrice; count = 0; last = 0 }
-lookOf sheet (i ∷ l) = joinedOf (lookOf sheet l) (rowPrice sheet i) i
+lookOf sheet (k ∷ l) = joinedOf (lookOf sheet l) (rowPrice sheet k) k
 
 -- what a look has seen: the lowest live price, how many bids carry it, and the last of these
 pub record Looked (sheet : List ℕ) (of : Size) (s : PotState) (l : Look) : Type 0 where
@@ -95,37 +154,57 @@ pub record Looked (sheet : List ℕ) (of : Size) (s : PotState) (l : Look) : Typ
   pub count : l .count ≡ length (members (takenOf sheet of s) (of .bids))
   pub last : l .last ≡ headOr 0 (members (takenOf sheet of s) (of .bids))
 
--- a set's only bid is of bid i's application and year
-unfoldable pub soleOf : (sheet : List ℕ) (i : ℕ) → List ℕ → Bool
-soleOf sheet i l = eqb (length l) 1 && (eqb (rowApp sheet (headOr 0 l)) (rowApp sheet i) && eqb (rowYear sheet (headOr 0 l)) (rowYear sheet i))
+-- a set's only bid is of bid k's application and year
+unfoldable pub soleOf : (sheet : List ℕ) (k : ℕ) → List ℕ → Bool
+soleOf sheet k l = eqb (length l) 1 && (eqb (rowApp sheet (headOr 0 l)) (rowApp sheet k) && eqb (rowYear sheet (headOr 0 l)) (rowYear sheet k))
 
-unfoldable pub followsOf : (sheet : List ℕ) (of : Size) (i : ℕ) → PotState → Bool
-followsOf sheet of i s = soleOf sheet i (members (takenOf sheet of s) (of .bids))
+unfoldable pub followsOf : (sheet : List ℕ) (of : Size) (k : ℕ) → PotState → Bool
+followsOf sheet of k s = soleOf sheet k (members (takenOf sheet of s) (of .bids))
 
 -- a bid that was taken alone does not fit
-unfoldable pub aloneOf : (sheet : List ℕ) (of : Size) (i : ℕ) → PotState → PotState
-aloneOf sheet of i s = pick (followsOf sheet of i (turnedOf i s)) (hungOf (rowYear sheet i) (turnedOf i s)) (shutOf (rowYear sheet i) (turnedOf i s))
+unfoldable pub aloneOf : (sheet : List ℕ) (of : Size) (k : ℕ) → PotState → PotState
+aloneOf sheet of k s = pick (followsOf sheet of k (turnedOf k s)) (hungOf (rowYear sheet k) (turnedOf k s)) (shutOf (rowYear sheet k) (turnedOf k s))
 
 -- those chosen of a set win, the others are turned down
-unfoldable pub sharedOf : (sheet : List ℕ) (of : Size) (l wins : List Bool) (p : ℕ) → PotState → PotState
-sharedOf sheet of l wins p s = hungOf noYear (turnAll sheet downTied (winAll sheet p s (members wins (of .bids))) (members (built (without l wins) (of .bids)) (of .bids)))
+unfoldable pub sharedOf : (sheet : List ℕ) (of : Size) (l wins : List Bool) (price : ℕ) → PotState → PotState
+sharedOf sheet of l wins price s = hungOf noYear (turnAll sheet downTied (winAll sheet price s (members wins (of .bids))) (members (built (without l wins) (of .bids)) (of .bids)))
 
 -- ---- the sums by delivery year
 
--- what the winners of the four delivery years cost in year z, and the most that this can be
+-- what the winners of the four delivery years cost in year y, and the most that this can be
 unfoldable pub yearSum : List ℕ → ℕ → ℕ
-yearSum l z = getD l z 0 + (getD l (8 + z) 0 + (getD l (16 + z) 0 + getD l (24 + z) 0))
+yearSum l y = getD l y 0 + (getD l (columns + y) 0 + (getD l (2 * columns + y) 0 + getD l (3 * columns + y) 0))
 
 abbrev pub mostSum : ℕ
-mostSum = 4 * (dearest * mostNumbers)
+mostSum = mostDeliveries * (dearest * mostNumbers)
+
+-- the places of the sums: a row of years for each delivery year
+abbrev pub sumsSize : ℕ
+sumsSize = mostDeliveries * columns
+
+pub record Totalling (of : Size) (sums : List ℕ) : Type 0 where
+  pub years : of .years ≤ columns
+  pub small : (y : ℕ) → y < of .years → yearSum sums y ≤ mostSum
 
 -- other sums and totals, and all else as it was
 unfoldable pub withSums : (sums totals : List ℕ) → PotState → PotState
-withSums l q s = record { marks = s .marks; won = s .won; opened = s .opened; prices = s .prices; sums = l; totals = q; hang = s .hang; wide = s .wide }
+withSums l q s = record {
+  marks = s .marks;
+  won = s .won;
+  opened = s .opened;
+  prices = s .prices;
+  sums = l;
+  totals = q;
+  hang = s .hang;
+  wide = s .wide;
+}
 
--- the winners that start in year d are revalued; and in each year below n
+-- what the winners that start in year d cost; they are revalued; and so in each year below n
+abbrev pub renewedRow : (sheet : List ℕ) (of : Size) (d : ℕ) → PotState → List ℕ
+renewedRow sheet of d s = filled (λ y. partOf sheet (s .marks) (getD (s .prices) d 0) d y (of .bids)) (of .years)
+
 unfoldable pub renewedOf : (sheet : List ℕ) (of : Size) (d : ℕ) → PotState → PotState
-renewedOf sheet of d s = withSums (laidTo (s .sums) (filled (λ z. partOf sheet (s .marks) (getD (s .prices) d 0) d z (of .bids)) (of .years)) d (of .years)) (s .totals) s
+renewedOf sheet of d s = withSums (placed (λ y. getD (renewedRow sheet of d s) y 0) (s .sums) (d * columns) (of .years)) (s .totals) s
 
 unfoldable pub renewedTo : (sheet : List ℕ) (of : Size) → PotState → ℕ → PotState
 renewedTo sheet of s zero = s
@@ -137,35 +216,41 @@ totalledOf of s = withSums (s .sums) (filled (yearSum (s .sums)) (of .years)) s
 
 -- every winner is revalued: the row of year totals
 unfoldable pub revaluedOf : (sheet : List ℕ) (of : Size) → PotState → PotState
-revaluedOf sheet of s = totalledOf of (renewedTo sheet of s 4)
+revaluedOf sheet of s = totalledOf of (renewedTo sheet of s mostDeliveries)
 
 -- a trial: of one bid, and of a set
-unfoldable pub triedOf : (sheet : List ℕ) (of : Size) (p i : ℕ) → PotState → PotState
-triedOf sheet of p i s = totalledOf of (renewedOf sheet of (rowYear sheet i) (winOf sheet p i s))
+unfoldable pub triedOf : (sheet : List ℕ) (of : Size) (price k : ℕ) → PotState → PotState
+triedOf sheet of price k s = totalledOf of (renewedOf sheet of (rowYear sheet k) (winOf sheet price k s))
 
-unfoldable pub trialOf : (sheet : List ℕ) (of : Size) (p : ℕ) (l : List Bool) → PotState → PotState
-trialOf sheet of p l s = revaluedOf sheet of (winAll sheet p s (members l (of .bids)))
+unfoldable pub trialOf : (sheet : List ℕ) (of : Size) (price : ℕ) (l : List Bool) → PotState → PotState
+trialOf sheet of price l s = revaluedOf sheet of (winAll sheet price s (members l (of .bids)))
 
 -- the sums are those of the winners; and the totals are those of the sums
 pub record Parted (sheet : List ℕ) (of : Size) (s : PotState) : Type 0 where
-  pub size : length (s .sums) ≡ 32
-  pub part : (d z : ℕ) → d < 4 → z < of .years → getD (s .sums) (d * 8 + z) 0 ≡ partOf sheet (s .marks) (getD (s .prices) d 0) d z (of .bids)
+  pub size : length (s .sums) ≡ sumsSize
+  pub part : (d y : ℕ) → d < mostDeliveries → y < of .years
+      → getD (s .sums) (d * columns + y) 0 ≡ partOf sheet (s .marks) (getD (s .prices) d 0) d y (of .bids)
 
 pub record Summed (sheet : List ℕ) (of : Size) (s : PotState) : Type 0 where
   pub parts : Parted sheet of s
   pub row : s .totals ≡ filled (yearSum (s .sums)) (of .years)
 
+-- what a trial and a tie read
+pub record Valued (sheet : List ℕ) (of : Size) (s : PotState) : Type 0 where
+  pub ready : Ready sheet of
+  pub summed : Summed sheet of s
+
 -- several do not fit: those that remain, and what becomes of them
-unfoldable pub restOf : (sheet : List ℕ) (of : Size) (l : List Bool) (p : ℕ) → PotState → List Bool
-restOf sheet of l p s = built (keepsOf sheet of (basesOf sheet of (s .marks) (s .prices) p) p l) (of .bids)
+unfoldable pub restOf : (sheet : List ℕ) (of : Size) (l : List Bool) (price : ℕ) → PotState → List Bool
+restOf sheet of l price s = built (keepsOf sheet of (basesOf sheet of (s .marks) (s .prices) price) price l) (of .bids)
 
-unfoldable pub choiceIn : (sheet : List ℕ) (of : Size) (l : List Bool) (p : ℕ) → PotState → List Bool
-choiceIn sheet of l p s =
-    choiceOf sheet of (basesOf sheet of (s .marks) (s .prices) p) (restOf sheet of l p s) (length (members (restOf sheet of l p s) (of .bids))) p
+unfoldable pub choiceIn : (sheet : List ℕ) (of : Size) (l : List Bool) (price : ℕ) → PotState → List Bool
+choiceIn sheet of l price s =
+    choiceOf sheet of (basesOf sheet of (s .marks) (s .prices) price) (restOf sheet of l price s) (length (members (restOf sheet of l price s) (of .bids))) price
 
-unfoldable pub tieOf : (sheet : List ℕ) (of : Size) (l : List Bool) (p : ℕ) → PotState → PotState
-tieOf sheet of l p s =
-    pick (ltb widestTie (length (members (restOf sheet of l p s) (of .bids)))) (widened s) (revaluedOf sheet of (sharedOf sheet of l (choiceIn sheet of l p s) p s))
+unfoldable pub tieOf : (sheet : List ℕ) (of : Size) (l : List Bool) (price : ℕ) → PotState → PotState
+tieOf sheet of l price s =
+    pick (ltb widestTie (length (members (restOf sheet of l price s) (of .bids)))) (widened s) (revaluedOf sheet of (sharedOf sheet of l (choiceIn sheet of l price s) price s))
 
 -- ---- no bid has been looked at
 
@@ -174,16 +259,16 @@ firstMark q = pick (eqb q entered) noReason notHere
 
 -- the marks of no bid
 unfoldable pub noMarks : List ℕ
-noMarks = replicate 320 notHere
+noMarks = replicate mostNumbers notHere
 
-unfoldable pub startedOf : (sheet : List ℕ) → ℕ → PotState
-startedOf sheet n = record {
-  marks = fill noMarks (λ i. firstMark (rowStanding sheet i)) n;
-  won = replicate 64 false;
-  opened = replicate 4 true;
-  prices = replicate 4 noPrice;
-  sums = replicate 32 0;
-  totals = replicate 8 0;
+unfoldable pub startedOf : (sheet : List ℕ) (of : Size) → PotState
+startedOf sheet of = record {
+  marks = fill noMarks (λ k. firstMark (rowStanding sheet k)) (of .bids);
+  won = replicate mostApps false;
+  opened = replicate mostDeliveries true;
+  prices = replicate mostDeliveries noPrice;
+  sums = replicate sumsSize 0;
+  totals = replicate columns 0;
   hang = noYear;
   wide = false;
 }

@@ -5,7 +5,7 @@ use mathlib.Core.Bool.{false, not}
 use mathlib.Core.List.{List, [], _∷_, map}
 use lib.ListN.{length, getD}
 use lib.Dec.{eqb, ltb}
-use Rattle.rules.specs.Names.{noPrice, noReason, becauseWon}
+use Rattle.rules.specs.Names.{mostNumbers, mostApps, mostDeliveries, noPrice, noReason, becauseWon}
 use Rattle.rules.specs.Lists.{pick, memb}
 use Rattle.rules.specs.Pot.{Pot, Trace, winners, seen, closed, hanging, wideEnd, mark, priceFrom, taken, look}
 use Rattle.pot_laws.specs.Lists.{In}
@@ -20,21 +20,21 @@ unfoldable pub hangs : ℕ → List ℕ
 hangs h = pick (ltb h noYear) (h ∷ []) []
 
 pub record Sizes (s : PotState) : Type 0 where
-  pub marks : length (s .marks) ≡ 320
-  pub won : length (s .won) ≡ 64
-  pub opened : length (s .opened) ≡ 4
-  pub prices : length (s .prices) ≡ 4
+  pub marks : length (s .marks) ≡ mostNumbers
+  pub won : length (s .won) ≡ mostApps
+  pub opened : length (s .opened) ≡ mostDeliveries
+  pub prices : length (s .prices) ≡ mostDeliveries
 
 -- The arrays s stand for the trace t
 pub record Rep (P : Pot) (t : Trace) (s : PotState) : Type 0 where
   pub sizes : Sizes s
-  pub other : (b : ℕ) → b < 320 → memb b (P .bids) ≡ false → getD (s .marks) b 0 ≡ notHere
+  pub other : (b : ℕ) → b < mostNumbers → memb b (P .bids) ≡ false → getD (s .marks) b 0 ≡ notHere
   pub why : (b : ℕ) → In b (P .bids) → getD (s .marks) b 0 ≡ mark t b
   pub one : (b : ℕ) → In b (P .bids) → eqb (getD (s .marks) b 0) becauseWon ≡ memb b (winners t)
   pub fresh : (b : ℕ) → In b (P .bids) → eqb (getD (s .marks) b 0) noReason ≡ not (memb b (seen t))
-  pub has : (a : ℕ) → a < 64 → getD (s .won) a false ≡ memb a (map (P .app) (winners t))
-  pub free : (d : ℕ) → d < 4 → getD (s .opened) d false ≡ not (memb d (closed t))
-  pub price : (d : ℕ) → d < 4 → getD (s .prices) d 0 ≡ priceFrom P noPrice (winners t) d
+  pub has : (a : ℕ) → a < mostApps → getD (s .won) a false ≡ memb a (map (P .app) (winners t))
+  pub free : (d : ℕ) → d < mostDeliveries → getD (s .opened) d false ≡ not (memb d (closed t))
+  pub price : (d : ℕ) → d < mostDeliveries → getD (s .prices) d 0 ≡ priceFrom P noPrice (winners t) d
   pub hang : hanging t ≡ hangs (s .hang)
 
 -- .. or say that a tie was too wide, and then no more than that

@@ -80,7 +80,8 @@ pow-low (suc (suc (suc (suc d)))) h = absurd (omega arith)
 pub pow-at : {d r : ℕ} (e : ℕ) → d ≡ e → e < 4 → r ≡ 2 ^ d → r ≤ 8
 pow-at e q h er = rw (er, q) (pow-low e h)
 
-pub alone-is : (sheet base : List ℕ) (p k y : ℕ) {d t w : ℕ} → d ≡ rowYear sheet k → t ≡ 2 ^ d → w ≡ worthOf sheet k p y → getD base (t * 8 + y) 0 + w ≡ aloneTotal sheet base p k y
+pub alone-is : (sheet base : List ℕ) (p k y : ℕ) {d t w : ℕ} → d ≡ rowYear sheet k → t ≡ 2 ^ d → w ≡ worthOf sheet k p y
+    → getD base (t * 8 + y) 0 + w ≡ aloneTotal sheet base p k y
 unfolding aloneTotal
 alone-is sheet base p k y ed et ew = rw (ew, et, ed)
 
@@ -90,7 +91,8 @@ and-yes h e = rw (h, e)
 pub and-no : {a : Bool} (b : Bool) → a ≡ false → false ≡ (a && b)
 and-no b h = rw h
 
-pub keeps-is : (sheet : List ℕ) (of : Size) (base : List ℕ) (p : ℕ) (l : List Bool) (k : ℕ) {b : Bool} → b ≡ (getD l k false && aloneFits sheet of base p k) → b ≡ keepsOf sheet of base p l k
+pub keeps-is : (sheet : List ℕ) (of : Size) (base : List ℕ) (p : ℕ) (l : List Bool) (k : ℕ) {b : Bool} → b ≡ (getD l k false && aloneFits sheet of base p k)
+    → b ≡ keepsOf sheet of base p l k
 unfolding keepsOf
 keeps-is sheet of base p l k e = e
 

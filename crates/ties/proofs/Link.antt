@@ -30,7 +30,8 @@ use Rattle.ties.proofs.Sums.{sum-same, price-won, price-one, tally-spli
 repriced-length : (prices : List ℕ) (p t n : ℕ) → length (repricedTo prices p t n) ≡ length prices
 unfolding repricedTo
 repriced-length prices p t zero = refl
-repriced-length prices p t (suc n) = case (has t n) (λ e. rw e (length-set (repricedTo prices p t n) n p ∙ repriced-length prices p t n)) (λ f. rw f (repriced-length prices p t n))
+repriced-length prices p t (suc n) =
+    case (has t n) (λ e. rw e (length-set (repricedTo prices p t n) n p ∙ repriced-length prices p t n)) (λ f. rw f (repriced-length prices p t n))
 
 repriced-past : (prices : List ℕ) (p t n d : ℕ) → n ≤ d → n ≤ length prices → getD (repricedTo prices p t n) d 0 ≡ getD prices d 0
 unfolding repricedTo
@@ -128,7 +129,8 @@ module _ (sheet : List ℕ) (of : Size) (ok : Ready sheet of) where
           no false = refl
 
   -- ---- the winners ws, as marks and a row of prices, and bids at price p that are tried on top of them
-  module _ (ws marks prices : List ℕ) (M : Marked P ws marks) (size : length prices ≡ 4) (at : (d : ℕ) → d < 4 → getD prices d 0 ≡ priceFrom P noPrice ws d) (p : ℕ) {base : List ℕ} (eb : base ≡ basesOf sheet of marks prices p) where
+  module _ (ws marks prices : List ℕ) (M : Marked P ws marks) (size : length prices ≡ 4) (at : (d : ℕ) → d < 4 → getD prices d 0 ≡ priceFrom P noPrice ws d)
+      (p : ℕ) {base : List ℕ} (eb : base ≡ basesOf sheet of marks prices p) where
     -- the clearing prices where p is that of the years t
     abbrev over : ℕ → ℕ → ℕ
     over t d = pick (has t d) p (clearing P ws d)
@@ -139,7 +141,8 @@ module _ (sheet : List ℕ) (of : Size) (ok : Ready sheet of) where
     row-at : (t y : ℕ) → t < 16 → y < of .years → getD base (t * 8 + y) 0 ≡ totalOf sheet marks (repricedTo prices p t 4) y (of .bids)
     unfolding noBase baseAt
     row-at t y h g =
-        ap (λ (l : List ℕ). getD l (t * 8 + y) 0) eb ∙ fill-at noBase (baseAt sheet of marks prices p) 128 (t * 8 + y) 0 (omega arith) (omega (arith, ok .years))
+        ap (λ (l : List ℕ). getD l (t * 8 + y) 0) eb
+        ∙ fill-at noBase (baseAt sheet of marks prices p) 128 (t * 8 + y) 0 (omega arith) (omega (arith, ok .years))
         ∙ rw (over8, by8, lt-ltb y (of .years) g)
       where
         over8 : (t * 8 + y) % 8 ≡ y
@@ -171,9 +174,12 @@ module _ (sheet : List ℕ) (of : Size) (ok : Ready sheet of) where
 
     pub joined : (c : List ℕ) (t y : ℕ) → Tried c t → y < of .years → getD base (t * 8 + y) 0 + sum (λ i. worthOf sheet i p y) c ≡ total P (c ++ ws) y
     joined c t y T g = sym (
-        tally-same P (value P) (λ i. memb i (c ++ ws)) (λ i. memb i c || memb i ws) (clearing P (c ++ ws)) (over t) y (P .bids) (λ i j. memb-join i c ws) (λ i j u. price i j)
+        tally-same P (value P) (λ i. memb i (c ++ ws)) (λ i. memb i c || memb i ws) (clearing P (c ++ ws)) (over t) y (P .bids) (λ i j. memb-join i c ws)
+        (λ i j u. price i j)
         ∙ tally-split P (value P) (λ i. memb i c) (λ i. memb i ws) (over t) y (P .bids) (λ i j u. T .fresh i (memb-in i c u))
-        ∙ ap₂ _+_ (sym (base-is t y (T .low) g)) (tally-sum P (value P) (λ i. memb i c) (over t) y (P .bids) ∙ ap (sum (λ i. value P i (over t (P .yr i)) y)) (T .part .part) ∙ sum-same (λ i. value P i (over t (P .yr i)) y) (λ i. worthOf sheet i p y) c own)
+        ∙ ap₂ _+_ (sym (base-is t y (T .low) g))
+        (tally-sum P (value P) (λ i. memb i c) (over t) y (P .bids) ∙ ap (sum (λ i. value P i (over t (P .yr i)) y)) (T .part .part)
+        ∙ sum-same (λ i. value P i (over t (P .yr i)) y) (λ i. worthOf sheet i p y) c own)
         )
       where
         years : (i : ℕ) → In i (P .bids) → has t (P .yr i) ≡ memb (P .yr i) (map (P .yr) c)
@@ -189,7 +195,8 @@ module _ (sheet : List ℕ) (of : Size) (ok : Ready sheet of) where
         own i j = rw (years i (part-in P i (T .part) j), in-memb (in-map (P .yr) j)) (link.value-is sheet of ok i p y g)
 
     -- ---- what fits alone
-    module _ (a : List Bool) (l : List ℕ) (of-set : members a (of .bids) ≡ l) (Q : Part P l) (pl : (i : ℕ) → In i l → P .price i ≡ p) (fl : (i : ℕ) → In i l → memb i ws ≡ false) where
+    module _ (a : List Bool) (l : List ℕ) (of-set : members a (of .bids) ≡ l) (Q : Part P l) (pl : (i : ℕ) → In i l → P .price i ≡ p)
+        (fl : (i : ℕ) → In i l → memb i ws ≡ false) where
       alone-is : (i y : ℕ) → In i l → y < of .years → aloneTotal sheet base p i y ≡ total P (i ∷ ws) y
       unfolding aloneTotal
       alone-is i y j g = omega (arith, plus) ∙ joined (i ∷ []) (2 ^ rowYear sheet i) y tried g
@@ -260,7 +267,8 @@ module _ (sheet : List ℕ) (of : Size) (ok : Ready sheet of) where
 
           rank-is : (j : ℕ) → j < k → getD ranks j 0 ≡ rank P r (getD list j 0)
           unfolding rank rankOf aboveOf potIn
-          rank-is j g = rank-at sheet of list k ok N j g ∙ ap (λ (x : List ℕ). length (sift (λ c. ltb (rowDraw sheet (getD list j 0)) (rowDraw sheet c)) x)) in-list
+          rank-is j g =
+              rank-at sheet of list k ok N j g ∙ ap (λ (x : List ℕ). length (sift (λ c. ltb (rowDraw sheet (getD list j 0)) (rowDraw sheet c)) x)) in-list
 
           start-is : (j : ℕ) → j < k → getD starts j 0 ≡ P .yr (getD list j 0)
           unfolding startOf potIn
@@ -284,7 +292,8 @@ module _ (sheet : List ℕ) (of : Size) (ok : Ready sheet of) where
             sel-is : (j : ℕ) → j < k → has mask (getD ranks j 0) ≡ sel (getD list j 0)
             sel-is j g = ap (has mask) (rank-is j g)
 
-            touched-is : (n : ℕ) → n ≤ k → (touchedOf ranks starts mask n < 16) × ((d : ℕ) → d < 4 → has (touchedOf ranks starts mask n) d ≡ memb d (map (P .yr) (sift sel (listed list n))))
+            touched-is : (n : ℕ) → n ≤ k → (touchedOf ranks starts mask n < 16) × ((d : ℕ) → d < 4
+                → has (touchedOf ranks starts mask n) d ≡ memb d (map (P .yr) (sift sel (listed list n))))
             unfolding touchedOf listed
             touched-is zero h = (omega arith, λ d g. has-none d)
             touched-is (suc n) h =
@@ -299,7 +308,8 @@ module _ (sheet : List ℕ) (of : Size) (ok : Ready sheet of) where
                 low : (n : ℕ) → n < k → P .yr (getD list n 0) < 4
                 low n g = unfold potIn in ok .year (getD list n 0) (N .small n g)
 
-            sum-is : (t y n : ℕ) → n ≤ k → y < of .years → maskTotal base own ranks mask t y n ≡ getD base (t * 8 + y) 0 + sum (λ i. worthOf sheet i p y) (sift sel (listed list n))
+            sum-is : (t y n : ℕ) → n ≤ k → y < of .years
+                → maskTotal base own ranks mask t y n ≡ getD base (t * 8 + y) 0 + sum (λ i. worthOf sheet i p y) (sift sel (listed list n))
             unfolding maskTotal listed sum
             sum-is t y zero h g = omega arith
             sum-is t y (suc n) h g =
@@ -311,7 +321,9 @@ module _ (sheet : List ℕ) (of : Size) (ok : Ready sheet of) where
             set-size : (n : ℕ) → length (combinationOf list ranks mask n) ≡ 320
             unfolding combinationOf none
             set-size zero = refl
-            set-size (suc n) = case (has mask (getD ranks n 0)) (λ u. rw u (length-set (combinationOf list ranks mask n) (getD list n 0) true ∙ set-size n)) (λ u. rw u (set-size n))
+            set-size (suc n) =
+                case (has mask (getD ranks n 0)) (λ u. rw u (length-set (combinationOf list ranks mask n) (getD list n 0) true ∙ set-size n))
+                (λ u. rw u (set-size n))
 
             set-is : (n i : ℕ) → n ≤ k → i < of .bids → getD (combinationOf list ranks mask n) i false ≡ memb i (sift sel (listed list n))
             unfolding combinationOf listed none
@@ -355,7 +367,9 @@ module _ (sheet : List ℕ) (of : Size) (ok : Ready sheet of) where
 
             figure-is : (y : ℕ) → y < of .years → figure base own ranks k mask years y ≡ total P (cs ++ ws) y
             unfolding figure
-            figure-is y g = sum-is years y k (omega arith) g ∙ ap (λ (x : List ℕ). getD base (years * 8 + y) 0 + sum (λ i. worthOf sheet i p y) x) of-com ∙ joined cs years y tried g
+            figure-is y g =
+                sum-is years y k (omega arith) g ∙ ap (λ (x : List ℕ). getD base (years * 8 + y) 0 + sum (λ i. worthOf sheet i p y) x) of-com
+                ∙ joined cs years y tried g
 
             ok-is : okMask sheet of base own ranks starts k mask ≡ fits P (cs ++ ws)
             unfolding okMask
@@ -375,11 +389,14 @@ module _ (sheet : List ℕ) (of : Size) (ok : Ready sheet of) where
             of-set-com = part-members cs (combinationOf list ranks mask k) part-com (λ i g. set-is k i (omega arith) g ∙ ap (memb i) of-com)
 
           -- the number of the best combination
-          best-is : bestMask sheet of base own ranks starts k ≡ best (λ x. fits P (combination P r x ++ ws)) (λ x. total P (combination P r x ++ ws) (P .years - 1)) (2 ^ length r)
+          best-is : bestMask sheet of base own ranks starts k
+              ≡ best (λ x. fits P (combination P r x ++ ws)) (λ x. total P (combination P r x ++ ws) (P .years - 1)) (2 ^ length r)
           unfolding bestMask
           best-is =
-              best-same (okMask sheet of base own ranks starts k) (λ x. fits P (combination P r x ++ ws)) (lastMask of base own ranks starts k) (λ x. total P (combination P r x ++ ws) (P .years - 1)) (2 ^ k) ok-is last-is
-              ∙ ap (λ (n : ℕ). best (λ x. fits P (combination P r x ++ ws)) (λ x. total P (combination P r x ++ ws) (P .years - 1)) (2 ^ n)) (ek ∙ ap length of-rest)
+              best-same (okMask sheet of base own ranks starts k) (λ x. fits P (combination P r x ++ ws)) (lastMask of base own ranks starts k)
+              (λ x. total P (combination P r x ++ ws) (P .years - 1)) (2 ^ k) ok-is last-is
+              ∙ ap (λ (n : ℕ). best (λ x. fits P (combination P r x ++ ws)) (λ x. total P (combination P r x ++ ws) (P .years - 1)) (2 ^ n))
+              (ek ∙ ap length of-rest)
 
           pub of-choice : {w : List Bool} → w ≡ choiceOf sheet of base s k p → members w (of .bids) ≡ choose P ws l
           unfolding choiceOf choiceAt choose chosen

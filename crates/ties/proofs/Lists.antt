@@ -22,7 +22,8 @@ use Rattle.ties.specs.Ties.{Bounded, repricedTo, baseAt, noBase, basesOf
 compact-length : (l : List Bool) (n : ℕ) → length (compactOf l n) ≡ 10
 unfolding compactOf noList
 compact-length l zero = refl
-compact-length l (suc n) = case (getD l n false) (λ t. rw t (length-set (compactOf l n) (length (members l n)) n ∙ compact-length l n)) (λ f. rw f (compact-length l n))
+compact-length l (suc n) =
+    case (getD l n false) (λ t. rw t (length-set (compactOf l n) (length (members l n)) n ∙ compact-length l n)) (λ f. rw f (compact-length l n))
 
 -- a place past the first k does not matter
 listed-set : (a : List ℕ) (k i v : ℕ) → k ≤ i → i < length a → listed (set a i v) k ≡ listed a k
@@ -93,7 +94,8 @@ unfolding noBase baseAt
 base-ok sheet of marks prices p v e = rw e (record {
   small = λ i. fill-le noBase (baseAt sheet of marks prices p) mostBase 128 i (omega arith)
       (λ j g. case (ltb (j % 8) (of .years))
-      (λ t. rw t (omega (arith, v .few, total-le sheet of marks (repricedTo prices p (j / 8) 4) (j % 8) (of .bids) v (ltb-true (j % 8) (of .years) t) (omega arith))))
+      (λ t. rw t (omega (arith, v .few,
+      total-le sheet of marks (repricedTo prices p (j / 8) 4) (j % 8) (of .bids) v (ltb-true (j % 8) (of .years) t) (omega arith))))
       (λ f. rw f (omega arith)))
       (λ j. rw (zeros 128 j) (omega arith));
 })

@@ -63,7 +63,8 @@ unfolding combinedOf
 combined-none own ranks y zero = refl
 combined-none own ranks y (suc k) = rw (has-none (getD ranks k 0)) (omega (arith, combined-none own ranks y k))
 
-combined-join : (own ranks : List ℕ) (y n v u k : ℕ) → v < 2 ^ n → combinedOf own ranks (v + 2 ^ n * u) y k ≡ combinedOf own ranks v y k + combinedOf own ranks (2 ^ n * u) y k
+combined-join : (own ranks : List ℕ) (y n v u k : ℕ) → v < 2 ^ n
+    → combinedOf own ranks (v + 2 ^ n * u) y k ≡ combinedOf own ranks v y k + combinedOf own ranks (2 ^ n * u) y k
 unfolding combinedOf
 combined-join own ranks y n v u zero h = refl
 combined-join own ranks y n v u (suc k) h =
@@ -164,7 +165,8 @@ module _ (s r q : ℕ) (h : 2 ^ r ≤ q) (g : q < 2 * 2 ^ r) where
   alone : 2 ^ (s + r) * 1 ≡ 2 ^ (s + r)
   alone = omega arith
 
-  combined-part : (own ranks : List ℕ) (y k : ℕ) → combinedOf own ranks ((q - 2 ^ r) * 2 ^ s) y k + combinedOf own ranks (2 ^ (s + r)) y k ≡ combinedOf own ranks (q * 2 ^ s) y k
+  combined-part : (own ranks : List ℕ) (y k : ℕ)
+      → combinedOf own ranks ((q - 2 ^ r) * 2 ^ s) y k + combinedOf own ranks (2 ^ (s + r)) y k ≡ combinedOf own ranks (q * 2 ^ s) y k
   combined-part own ranks y k =
       sym (ap (λ (x : ℕ). combinedOf own ranks x y k) parted ∙ combined-join own ranks y (s + r) ((q - 2 ^ r) * 2 ^ s) 1 k without
       ∙ ap (λ (x : ℕ). combinedOf own ranks ((q - 2 ^ r) * 2 ^ s) y k + combinedOf own ranks x y k) alone)

@@ -33,21 +33,22 @@ memb-sift f k (x ∷ l) =
 
 module _ (P : Pot) where
   -- the clearing price of a winner's year does not hang on what stood there before
-  pub price-won : (y w : ℕ) (ws : List ℕ) → In w ws → priceFrom P y ws (P .yr w) ≡ clearing P ws (P .yr w)
+  pub price-won : (q₀ w : ℕ) (ws : List ℕ) → In w ws → priceFrom P q₀ ws (P .yr w) ≡ clearing P ws (P .yr w)
   unfolding priceFrom
-  price-won y w [] i = in-none i
-  price-won y w (x ∷ ws) i =
+  price-won q₀ w [] i = in-none i
+  price-won q₀ w (x ∷ ws) i =
       case (eqb (P .yr x) (P .yr w)) (λ t. rw t)
-      (λ f. rw f (price-won y w ws (⊎-elim (λ e. absurd (eqb-false (P .yr x) (P .yr w) f (ap (P .yr) (sym e)))) (λ j. j) (in-tail i))))
+      (λ f. rw f (price-won q₀ w ws (⊎-elim (λ e. absurd (eqb-false (P .yr x) (P .yr w) f (ap (P .yr) (sym e)))) (λ j. j) (in-tail i))))
 
   -- bids at one price q set it in their years
-  pub price-one : (y q : ℕ) (c ws : List ℕ) (d : ℕ) → ((a : ℕ) → In a c → P .price a ≡ q) → priceFrom P y (c ++ ws) d ≡ pick (memb d (map (P .yr) c)) q (priceFrom P y ws d)
+  pub price-one : (q₀ q : ℕ) (c ws : List ℕ) (d : ℕ) → ((a : ℕ) → In a c → P .price a ≡ q)
+      → priceFrom P q₀ (c ++ ws) d ≡ pick (memb d (map (P .yr) c)) q (priceFrom P q₀ ws d)
   unfolding priceFrom
-  price-one y q [] ws d h = refl
-  price-one y q (a ∷ c) ws d h =
+  price-one q₀ q [] ws d h = refl
+  price-one q₀ q (a ∷ c) ws d h =
       case (eqb (P .yr a) d)
       (λ t. rw (t, eq-eqb d (P .yr a) (sym (eqb-true (P .yr a) d t))) (h a (here refl)))
-      (λ f. rw (f, ne-eqb d (P .yr a) (λ e. eqb-false (P .yr a) d f (sym e))) (price-one y q c ws d (λ b i. h b (there i))))
+      (λ f. rw (f, ne-eqb d (P .yr a) (λ e. eqb-false (P .yr a) d f (sym e))) (price-one q₀ q c ws d (λ b i. h b (there i))))
 
   -- bids that pass one of two tests, and none both
   pub tally-split : (f : ℕ → ℕ → ℕ → ℕ) (on in′ : ℕ → Bool) (at : ℕ → ℕ) (y : ℕ) (bs : List ℕ) → ((k : ℕ) → In k bs → on k ≡ true → in′ k ≡ false)

@@ -22,7 +22,8 @@ use Rattle.value.specs.Laws.{at-most}
 use Rattle.totals.specs.Totals.{Adding, worthOf, costOf, totalOf, noRow, filled, addedTo, fitsTo, autoTotal}
 
 module _ (sheet : List ℕ) where
-  pub worth-is : (k price y : ℕ) {c s f e h r : ℕ} → c ≡ rowAdmin sheet k → s ≡ min price c → f ≡ figReference sheet k y → e ≡ figEnergy sheet k y → h ≡ figShare sheet k y
+  pub worth-is : (k price y : ℕ) {c s f e h r : ℕ} → c ≡ rowAdmin sheet k → s ≡ min price c → f ≡ figReference sheet k y → e ≡ figEnergy sheet k y
+      → h ≡ figShare sheet k y
       → r ≡ ceilDiv ((s - f) * e * h) pound → r ≡ worthOf sheet k price y
   unfolding worthOf sheetCost
   worth-is k price y ec es ef ee eh er = rw (er, es, ec, ef, ee, eh)
@@ -33,7 +34,8 @@ module _ (sheet : List ℕ) where
 
   -- one bid more
   module _ (marks prices : List ℕ) (y i : ℕ) where
-    pub total-hit : {s r : ℕ} → getD marks i 0 ≡ 1 → s ≡ totalOf sheet marks prices y i → r ≡ costOf sheet prices y i → s + r ≡ totalOf sheet marks prices y (i + 1)
+    pub total-hit : {s r : ℕ} → getD marks i 0 ≡ 1 → s ≡ totalOf sheet marks prices y i → r ≡ costOf sheet prices y i
+        → s + r ≡ totalOf sheet marks prices y (i + 1)
     unfolding totalOf
     total-hit h es er = rw (add-one i, es, er, eq-eqb _ _ h)
 
@@ -52,7 +54,8 @@ module _ (sheet : List ℕ) where
     unfolding autoTotal
     auto-miss er n es = rw (add-one i, es, eq-eqb (rowStanding sheet i) absent (sym er ∙ n)) (gone (ltb i b))
       where
-        gone : (t : Bool) → sum (λ k. worthOf sheet k (rowPrice sheet k) y) (sift (inTest sheet b) (below i)) ≡ sum (λ k. worthOf sheet k (rowPrice sheet k) y) (keep (not t && false) i (sift (inTest sheet b) (below i)))
+        gone : (t : Bool) → sum (λ k. worthOf sheet k (rowPrice sheet k) y) (sift (inTest sheet b) (below i))
+            ≡ sum (λ k. worthOf sheet k (rowPrice sheet k) y) (keep (not t && false) i (sift (inTest sheet b) (below i)))
         gone true = refl
         gone false = refl
 
@@ -126,11 +129,13 @@ pub pick-le : (t : Bool) {x q : ℕ} → x ≤ q → pick t x 0 ≤ q
 pick-le true h = h
 pick-le false h = omega arith
 
-pub total-le : (sheet : List ℕ) (of : Size) (marks prices : List ℕ) (y n : ℕ) → Ready sheet of → y < of .years → n ≤ of .bids → totalOf sheet marks prices y n ≤ dearest * n
+pub total-le : (sheet : List ℕ) (of : Size) (marks prices : List ℕ) (y n : ℕ) → Ready sheet of → y < of .years → n ≤ of .bids
+    → totalOf sheet marks prices y n ≤ dearest * n
 unfolding totalOf costOf
 total-le sheet of marks prices y zero v h g = omega arith
 total-le sheet of marks prices y (suc n) v h g =
-    omega (arith, total-le sheet of marks prices y n v h (omega arith), pick-le (eqb (getD marks n 0) becauseWon) (worth-le sheet of n (getD prices (rowYear sheet n) 0) y v g h))
+    omega (arith, total-le sheet of marks prices y n v h (omega arith),
+    pick-le (eqb (getD marks n 0) becauseWon) (worth-le sheet of n (getD prices (rowYear sheet n) 0) y v g h))
 
 -- a row of no totals is blank
 pub row-none : (n : ℕ) → n ≤ 8 → noRow ≡ filled (λ _. 0) n

@@ -55,7 +55,8 @@ module _ (sheet : List ℕ) (of : Size) (ok : Ready sheet of) where
   value-is k p y h = rw (lt-ltb y (of .years) h)
 
   -- the marked bids at a row of prices, which agrees with the prices `at` in the years of the winners
-  module _ (ws marks prices : List ℕ) (M : Marked P ws marks) (at : ℕ → ℕ) (same : (k : ℕ) → In k (P .bids) → memb k ws ≡ true → getD prices (rowYear sheet k) 0 ≡ at (rowYear sheet k)) (y : ℕ) (h : y < of .years) where
+  module _ (ws marks prices : List ℕ) (M : Marked P ws marks) (at : ℕ → ℕ)
+      (same : (k : ℕ) → In k (P .bids) → memb k ws ≡ true → getD prices (rowYear sheet k) 0 ≡ at (rowYear sheet k)) (y : ℕ) (h : y < of .years) where
     mine : (k : ℕ) → k < of .bids → inAuction sheet k ≡ true
         → pick (eqb (getD marks k 0) becauseWon) (costOf sheet prices y k) 0 ≡ pick (memb k ws) (value P k (at (P .yr k)) y) 0
     unfolding costOf
@@ -97,16 +98,19 @@ module _ (sheet : List ℕ) (of : Size) (ok : Ready sheet of) where
   pub admin-total-is : (y : ℕ) → y < of .years → autoTotal sheet (of .sealed) y (of .bids) ≡ adminTotal P y
   unfolding autoTotal adminTotal
   admin-total-is y h =
-      sum-same (λ k. worthOf sheet k (rowPrice sheet k) y) (λ k. value P k (rowPrice sheet k) y) (λ k. sym (value-is k (rowPrice sheet k) y h)) (sift (inTest sheet (of .sealed)) (below (of .bids))) ∙ opened
+      sum-same (λ k. worthOf sheet k (rowPrice sheet k) y) (λ k. value P k (rowPrice sheet k) y) (λ k. sym (value-is k (rowPrice sheet k) y h))
+      (sift (inTest sheet (of .sealed)) (below (of .bids))) ∙ opened
     where
       opened : sum (λ k. value P k (rowPrice sheet k) y) (sift (inTest sheet (of .sealed)) (below (of .bids))) ≡ sum (λ k. value P k (P .price k) y) (P .autos)
       opened = unfold potIn in refl
 
-  pub admin-fits : {row : List ℕ} {t : Bool} → row ≡ filled (λ y. autoTotal sheet (of .sealed) y (of .bids)) (of .years) → t ≡ rowFits sheet row (of .years) → t ≡ adminFits P
+  pub admin-fits : {row : List ℕ} {t : Bool} → row ≡ filled (λ y. autoTotal sheet (of .sealed) y (of .bids)) (of .years) → t ≡ rowFits sheet row (of .years)
+      → t ≡ adminFits P
   unfolding adminFits
   admin-fits {row} er et =
       et ∙ ap (λ (r : List ℕ). rowFits sheet r (of .years)) er
-      ∙ fits-is (λ y. getD (filled (λ y. autoTotal sheet (of .sealed) y (of .bids)) (of .years)) y 0) (adminTotal P) (of .years) (omega arith) (λ y h. row-at (λ x. autoTotal sheet (of .sealed) x (of .bids)) y h ∙ admin-total-is y h)
+      ∙ fits-is (λ y. getD (filled (λ y. autoTotal sheet (of .sealed) y (of .bids)) (of .years)) y 0) (adminTotal P) (of .years) (omega arith)
+      (λ y h. row-at (λ x. autoTotal sheet (of .sealed) x (of .bids)) y h ∙ admin-total-is y h)
       ∙ opened
     where
       opened : within P (adminTotal P) (of .years) ≡ within P (adminTotal P) (P .years)

@@ -21,7 +21,8 @@ use Rattle.totals.proofs.Laws.{worth-le, pick-le, added-is}
 
 module _ (sheet marks : List ℕ) (price d : ℕ) where
   -- of a list of bids, of the bids passed, and of all
-  part-le : (of : Size) (y : ℕ) (l : List ℕ) → Ready sheet of → y < of .years → ((k : ℕ) → In k l → k < of .bids) → partOn sheet marks price d y l ≤ dearest * length l
+  part-le : (of : Size) (y : ℕ) (l : List ℕ) → Ready sheet of → y < of .years → ((k : ℕ) → In k l → k < of .bids)
+      → partOn sheet marks price d y l ≤ dearest * length l
   unfolding partOn
   part-le of y [] v h g = omega arith
   part-le of y (k ∷ l) v h g =
@@ -45,7 +46,8 @@ module _ (sheet marks : List ℕ) (price d : ℕ) where
       )
 
   -- the row of totals, one bid of the list more: a winner of the year, a bid that has not won, a bid of another year
-  module _ (j years : ℕ) {i : ℕ} (ei : i ≡ entrantAt sheet j) {row : List ℕ} (er : row ≡ filled (λ y. partOn sheet marks price d y (entrants sheet j)) years) where
+  module _ (j years : ℕ) {i : ℕ} (ei : i ≡ entrantAt sheet j) {row : List ℕ}
+      (er : row ≡ filled (λ y. partOn sheet marks price d y (entrants sheet j)) years) where
     pub part-hit : {s : ℕ} {next : List ℕ} → years ≤ 8 → getD marks i 0 ≡ 1 → s ≡ rowYear sheet i → s ≡ d
         → next ≡ addedTo (λ y. worthOf sheet i price y) row years → next ≡ filled (λ y. partOn sheet marks price d y (entrants sheet (j + 1))) years
     part-hit h w es t en =
@@ -56,7 +58,8 @@ module _ (sheet marks : List ℕ) (price d : ℕ) where
         one : (y : ℕ) → partOn sheet marks price d y (entrants sheet j) + worthOf sheet i price y ≡ partOn sheet marks price d y (entrants sheet (j + 1))
         one y = unfold partOn entrants in rw (add-one j, ← ei, eq-eqb _ _ w, eq-eqb (rowYear sheet i) d (sym es ∙ t))
 
-    miss : (eqb (getD marks i 0) becauseWon && eqb (rowYear sheet i) d) ≡ false → row ≡ filled (λ y. partOn sheet marks price d y (entrants sheet (j + 1))) years
+    miss : (eqb (getD marks i 0) becauseWon && eqb (rowYear sheet i) d) ≡ false
+        → row ≡ filled (λ y. partOn sheet marks price d y (entrants sheet (j + 1))) years
     miss f = er ∙ ap (λ (f : ℕ → ℕ). filled f years) (λ k y. one y k)
       where
         one : (y : ℕ) → partOn sheet marks price d y (entrants sheet j) ≡ partOn sheet marks price d y (entrants sheet (j + 1))
@@ -72,7 +75,8 @@ module _ (sheet marks : List ℕ) (price d : ℕ) where
         none true = refl
         none false = refl
 
-  pub part-done : (j years : ℕ) {of : Size} {row : List ℕ} → row ≡ filled (λ y. partOn sheet marks price d y (entrants sheet j)) years → Ready sheet of → j ≤ of .entered → of .entered ≤ j → row ≡ filled (λ y. partOf sheet marks price d y (of .bids)) years
+  pub part-done : (j years : ℕ) {of : Size} {row : List ℕ} → row ≡ filled (λ y. partOn sheet marks price d y (entrants sheet j)) years → Ready sheet of
+      → j ≤ of .entered → of .entered ≤ j → row ≡ filled (λ y. partOf sheet marks price d y (of .bids)) years
   unfolding partOf
   part-done j years er L h g = er ∙ ap (λ (l : List ℕ). filled (λ y. partOn sheet marks price d y l) years) (ap (entrants sheet) (le-antisymm h g) ∙ L .listed)
 
@@ -87,7 +91,8 @@ spread true (suc (suc (suc zero))) w h = omega arith
 spread true (suc (suc (suc (suc s)))) w h = absurd (omega arith)
 
 -- the winners all entered the auction
-module _ (sheet : List ℕ) (of : Size) (marks prices : List ℕ) (y : ℕ) (ok : Ready sheet of) (others : (k : ℕ) → k < of .bids → inAuction sheet k ≡ false → eqb (getD marks k 0) becauseWon ≡ false) where
+module _ (sheet : List ℕ) (of : Size) (marks prices : List ℕ) (y : ℕ) (ok : Ready sheet of)
+    (others : (k : ℕ) → k < of .bids → inAuction sheet k ≡ false → eqb (getD marks k 0) becauseWon ≡ false) where
   abbrev parts : ℕ → ℕ → ℕ
   parts d n = partOf sheet marks (getD prices d 0) d y n
 

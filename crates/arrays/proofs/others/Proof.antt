@@ -32,4 +32,5 @@ returns c = done (built (without _ _)) (c .before .loop .inv .1) (c .before .loo
 
 pub others-spec : {M : Type 1} → statement M
 others-spec =
-    tie.close (tie.spec Inv-loop μ-loop loop-holds (λ c. search needs) (λ c. search needs) (λ c. search needs) (λ c. search needs) add-i loop-less loop-again returns)
+    tie.close (tie.spec Inv-loop μ-loop loop-holds (λ c. search needs) (λ c. search needs) (λ c. search needs)
+    (λ c. search needs) add-i loop-less loop-again returns)

@@ -13,14 +13,19 @@ owns-requires : tie.Need-owns-requires
 owns-requires c κs = let g = c .before .pre in (g .0, tied-numbers _ _ _ _ (g .0) (g .2) (c .gathered .ensures))
 
 best-mask-requires : tie.Need-best-mask-requires
-best-mask-requires c κs = let g = c .before .before .before .pre in (g .0, g .1, tied-owned _ _ _ _ (g .0) (g .2) (c .before .before .gathered .ensures) _ (c .before .owns .ensures))
+best-mask-requires c κs =
+    let g = c .before .before .before .pre in
+    (g .0, g .1, tied-owned _ _ _ _ (g .0) (g .2) (c .before .before .gathered .ensures) _ (c .before .owns .ensures))
 
 combination-requires : tie.Need-combination-requires
 combination-requires c κs = let g = c .before .before .before .before .pre in
-    (numbers-more mostNumbers (g .0 .few) (tied-numbers _ _ _ _ (g .0) (g .2) (c .before .before .before .gathered .ensures)), tied-placed _ _ _ _ (g .0) (g .2) (c .before .before .before .gathered .ensures))
+    (numbers-more mostNumbers (g .0 .few) (tied-numbers _ _ _ _ (g .0) (g .2) (c .before .before .before .gathered .ensures)),
+    tied-placed _ _ _ _ (g .0) (g .2) (c .before .before .before .gathered .ensures))
 
 returns : tie.Need-returns
-returns c = choice-is _ _ _ _ _ _ (c .before .before .before .before .gathered .ensures) (c .before .before .before .owns .ensures) (c .before .best-mask .ensures) (c .combination .ensures)
+returns c =
+    choice-is _ _ _ _ _ _ (c .before .before .before .before .gathered .ensures) (c .before .before .before .owns .ensures) (c .before .best-mask .ensures)
+    (c .combination .ensures)
 
 pub choose-spec : {M : Type 1} → statement M
 choose-spec =

@@ -30,7 +30,9 @@ worth-requires c κs = let pre = c .before .before .before .before .before .pre 
     record { ready = pre .0; bid = omega (arith, c .before .before .before .loop-test .taken); year = pre .1 }
 
 add-sum : tie.Need-add-sum Inv-loop μ-loop
-add-sum c = omega (arith, c .worth .ensures .small, c .before .before .before .before .before .loop .inv .2, c .before .before .before .before .before .before .pre .0 .few)
+add-sum c =
+    omega (arith, c .worth .ensures .small, c .before .before .before .before .before .loop .inv .2,
+    c .before .before .before .before .before .before .pre .0 .few)
 
 loop-again : tie.Need-loop-again Inv-loop μ-loop
 loop-again c =

@@ -6,19 +6,21 @@ use Rattle.pot.proofs.PotState.alone.Statement.{statement}
 use Rattle.pot.proofs.PotState.alone.Tie as tie
 
 turned-requires : tie.Need-turned-requires
-turned-requires c κs = omega (arith, c .pre .1, c .pre .0 .few)
+turned-requires c κs = omega (arith, c .pre .1, c .pre .0 .ready .few)
 
 year-requires : tie.Need-year-requires
-year-requires c κs = omega (arith, c .before .pre .1, c .before .pre .0 .few)
+year-requires c κs = omega (arith, c .before .pre .1, c .before .pre .0 .ready .few)
 
 follows-requires : tie.Need-follows-requires
-follows-requires c κs = (c .before .before .pre .0, c .before .before .pre .1, others-turned _ (c .before .before .args .of) _ _ (c .before .turned .ensures) (c .before .before .pre .2))
+follows-requires c κs =
+    let pre = c .before .before .pre in
+    (record { ready = pre .0 .ready; others = others-turned _ (c .before .before .args .of) _ _ (c .before .turned .ensures) (pre .0 .others) }, pre .1)
 
 returns : tie.Need-returns
 returns c = alone-hung _ _ _ _ (c .before .before .before .before .turned .ensures) (c .before .before .before .year .ensures) (c .before .before .follows .ensures) (c .before .if1 .taken) (c .hung .ensures)
 
 shut-requires : tie.Need-shut-requires
-shut-requires c κs = year-ok _ (c .before .before .before .before .pre .0) (c .before .before .before .before .pre .1) (c .before .before .year .ensures)
+shut-requires c κs = year-ok _ (c .before .before .before .before .pre .0 .ready) (c .before .before .before .before .pre .1) (c .before .before .year .ensures)
 
 returns-2 : tie.Need-returns-2
 returns-2 c = alone-shut _ _ _ _ (c .before .before .before .before .turned .ensures) (c .before .before .before .year .ensures) (c .before .before .follows .ensures) (c .before .if1 .left) (c .shut .ensures)

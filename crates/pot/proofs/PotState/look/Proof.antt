@@ -24,42 +24,45 @@ unfolding lookOf entrants
 loop-holds c = search needs
 
 entrant-requires : tie.Need-entrant-requires Inv-loop μ-loop
-entrant-requires c κs = omega (arith, c .loop-test .taken, entrants-few (c .before .before .pre .0), c .before .before .pre .0 .few)
+entrant-requires c κs = omega (arith, c .loop-test .taken, entrants-few (c .before .before .pre .ready), c .before .before .pre .ready .few)
 
 app-requires : tie.Need-app-requires Inv-loop μ-loop
-app-requires c κs = omega (arith, c .entrant .ensures, entrant-small (c .before .before .before .pre .0) _ (c .before .loop-test .taken), c .before .before .before .pre .0 .few)
+app-requires c κs = omega (arith, c .entrant .ensures, entrant-small (c .before .before .before .pre .ready) _ (c .before .loop-test .taken), c .before .before .before .pre .ready .few)
 
 year-requires : tie.Need-year-requires Inv-loop μ-loop
-year-requires c κs = omega (arith, c .before .entrant .ensures, entrant-small (c .before .before .before .before .pre .0) _ (c .before .before .loop-test .taken), c .before .before .before .before .pre .0 .few)
+year-requires c κs = omega (arith, c .before .entrant .ensures, entrant-small (c .before .before .before .before .pre .ready) _ (c .before .before .loop-test .taken), c .before .before .before .before .pre .ready .few)
 
 mul-live : tie.Need-mul-live Inv-loop μ-loop
-mul-live c = omega (arith, c .before .before .entrant .ensures, entrant-small (c .before .before .before .before .before .pre .0) _ (c .before .before .before .loop-test .taken), c .before .before .before .before .before .pre .0 .few)
+mul-live c = omega (arith, c .before .before .entrant .ensures, entrant-small (c .before .before .before .before .before .pre .ready) _ (c .before .before .before .loop-test .taken), c .before .before .before .before .before .pre .ready .few)
 
 element-copy-out-live : tie.Need-element-copy-out-live Inv-loop μ-loop
-element-copy-out-live c = omega (arith, c .before .before .entrant .ensures, entrant-small (c .before .before .before .before .before .pre .0) _ (c .before .before .before .loop-test .taken), c .before .before .before .before .before .pre .0 .few)
+element-copy-out-live c = omega (arith, c .before .before .entrant .ensures, entrant-small (c .before .before .before .before .before .pre .ready) _ (c .before .before .before .loop-test .taken), c .before .before .before .before .before .pre .ready .few)
 
 element-copy-out-live-2 : tie.Need-element-copy-out-live-2 Inv-loop μ-loop
-element-copy-out-live-2 c = app-ok _ (c .before .before .before .before .before .before .pre .0) (omega (arith, c .before .before .before .entrant .ensures, entrant-small (c .before .before .before .before .before .before .pre .0) _ (c .before .before .before .before .loop-test .taken))) (c .before .before .app .ensures)
+element-copy-out-live-2 c = app-ok _ (c .before .before .before .before .before .before .pre .ready) (omega (arith, c .before .before .before .entrant .ensures, entrant-small (c .before .before .before .before .before .before .pre .ready) _ (c .before .before .before .before .loop-test .taken))) (c .before .before .app .ensures)
 
 element-copy-out-live-3 : tie.Need-element-copy-out-live-3 Inv-loop μ-loop
-element-copy-out-live-3 c = year-ok _ (c .before .before .before .before .before .before .before .pre .0) (omega (arith, c .before .before .before .before .entrant .ensures, entrant-small (c .before .before .before .before .before .before .before .pre .0) _ (c .before .before .before .before .before .loop-test .taken))) (c .before .before .year .ensures)
+element-copy-out-live-3 c = year-ok _ (c .before .before .before .before .before .before .before .pre .ready) (omega (arith, c .before .before .before .before .entrant .ensures, entrant-small (c .before .before .before .before .before .before .before .pre .ready) _ (c .before .before .before .before .before .loop-test .taken))) (c .before .before .year .ensures)
 
 price-requires : tie.Need-price-requires Inv-loop μ-loop
-price-requires c κs = omega (arith, c .before .before .before .before .before .before .before .entrant .ensures, entrant-small (c .before .before .before .before .before .before .before .before .before .before .pre .0) _ (c .before .before .before .before .before .before .before .before .loop-test .taken), c .before .before .before .before .before .before .before .before .before .before .pre .0 .few)
+price-requires c κs = omega (arith, c .before .before .before .before .before .before .before .entrant .ensures, entrant-small (c .before .before .before .before .before .before .before .before .before .before .pre .ready) _ (c .before .before .before .before .before .before .before .before .loop-test .taken), c .before .before .before .before .before .before .before .before .before .before .pre .ready .few)
 
 joined-requires : tie.Need-joined-requires Inv-loop μ-loop
-joined-requires c κs = omega (arith, pass-few _ _ _ (c .before .before .before .before .before .before .before .before .before .before .loop .inv .1), entrants-few (c .before .before .before .before .before .before .before .before .before .before .before .pre .0), c .before .before .before .before .before .before .before .before .before .before .before .pre .0 .few)
+joined-requires c κs = omega (arith, pass-few _ _ _ (c .before .before .before .before .before .before .before .before .before .before .loop .inv .1), entrants-few (c .before .before .before .before .before .before .before .before .before .before .before .pre .ready), c .before .before .before .before .before .before .before .before .before .before .before .pre .ready .few)
 
 loop-again : tie.Need-loop-again Inv-loop μ-loop
-loop-again c =
-    let inv = c .before .before .before .before .before .before .before .before .before .loop .inv .1 in
-    let alive = live-is _ _ _ (c .before .before .before .before .before .before .app .ensures) (c .before .before .before .before .before .year .ensures) (c .before .live .ensures) in (
-      omega arith,
-      ⊎-elim (λ w. w .3 ∙ pass-hit _ _ _ inv (c .before .before .before .before .before .before .before .entrant .ensures) alive (w .0 .taken) (w .1 .ensures) (w .2 .ensures)) (λ w. w .1 ∙ pass-miss _ _ _ inv (c .before .before .before .before .before .before .before .entrant .ensures) alive (w .0 .left)) (c .if1 .came),
-    )
+loop-again c = (
+  omega arith,
+  let inv = c .before .before .before .before .before .before .before .before .before .loop .inv .1 in
+      let k = c .before .before .before .before .before .before .before .entrant .ensures in
+      let alive = live-is _ _ _ (c .before .before .before .before .before .before .app .ensures) (c .before .before .before .before .before .year .ensures)
+      (c .before .live .ensures) in
+      ⊎-elim (λ w. w .3 ∙ pass-hit _ _ _ inv k alive (w .0 .taken) (w .1 .ensures) (w .2 .ensures)) (λ w. w .1 ∙ pass-miss _ _ _ inv k alive (w .0 .left))
+      (c .if1 .came),
+)
 
 returns : tie.Need-returns Inv-loop μ-loop
-returns c = pass-looked _ _ _ (c .before .before .pre .0) (c .before .before .pre .1) (c .before .loop .inv .1) (c .before .loop .inv .0) (c .loop-test .left)
+returns c = pass-looked _ _ _ (c .before .before .pre .ready) (c .before .before .pre .others) (c .before .loop .inv .1) (c .before .loop .inv .0) (c .loop-test .left)
 
 pub look-spec : {M : Type 1} → statement M
 look-spec =

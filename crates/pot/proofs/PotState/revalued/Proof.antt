@@ -5,7 +5,8 @@ use Rattle.pot.proofs.PotState.revalued.Statement.{statement}
 use Rattle.pot.proofs.PotState.revalued.Tie as tie
 
 totalled-requires : tie.Need-totalled-requires
-totalled-requires c κs = let pre = c .before .pre in (pre .0 .years, λ z h. sum-most (parted-renewed _ _ _ (pre .1) (pre .0 .years) (c .all-renewed .ensures)) z h (pre .0))
+totalled-requires c κs = let pre = c .before .pre in
+    record { years = pre .0 .years; small = λ y h. sum-most (parted-renewed _ _ _ (pre .1) (pre .0 .years) (c .all-renewed .ensures)) y h (pre .0) }
 
 returns : tie.Need-returns
 returns c = revalued-is _ _ _ (c .before .all-renewed .ensures) (c .totalled .ensures)

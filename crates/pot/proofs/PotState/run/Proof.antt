@@ -17,7 +17,7 @@ abbrev μ-loop : tie.MeasureT-loop
 μ-loop sheet of s₀ l₀ s l = unlooked sheet of s
 
 look-requires : tie.Need-look-requires Inv-loop μ-loop
-look-requires c κs = let pre = c .pre in (pre .0, run-others _ _ (pre .0) _ (start _ _ (pre .2)) (start-narrow (pre .2)))
+look-requires c κs = let pre = c .pre in record { ready = pre .0; others = run-others _ _ (pre .0) _ (start _ _ (pre .2)) (start-narrow (pre .2)) }
 
 loop-holds : tie.Need-loop-holds Inv-loop μ-loop
 loop-holds c = let pre = c .before .pre in (start _ _ (pre .2), start-narrow (pre .2), c .look .ensures, pre .1)
@@ -40,7 +40,7 @@ look-requires-2 c κs =
     let pre = c .before .before .before .before .before .before .pre in
     let inv = c .before .before .before .before .loop .inv in
     let next = run-again _ _ (pre .0) _ (inv .0) (inv .1) (inv .2 .price) (c .before .before .if1 .taken) (c .before .step .ensures .stepped) in
-    (pre .0, run-others _ _ (pre .0) _ next (c .if2 .left))
+    record { ready = pre .0; others = run-others _ _ (pre .0) _ next (c .if2 .left) }
 
 loop-less : tie.Need-loop-less Inv-loop μ-loop
 loop-less c =

@@ -12,7 +12,7 @@ taken-requires : tie.Need-taken-requires
 taken-requires c κs = c .pre .0 .ready
 
 trial-requires : tie.Need-trial-requires
-trial-requires c κs = (c .before .pre .0 .ready, c .before .pre .0 .summed)
+trial-requires c κs = let pre = c .before .pre in record { ready = pre .0 .ready; summed = pre .0 .summed }
 
 within-requires : tie.Need-within-requires
 within-requires c κs = c .before .before .before .pre .0 .ready .years
@@ -28,7 +28,7 @@ returns c =
     }
 
 tie-requires : tie.Need-tie-requires
-tie-requires c κs = (c .before .before .before .before .before .pre .0 .ready, c .before .before .before .before .before .pre .0 .summed)
+tie-requires c κs = let pre = c .before .before .before .before .before .pre in record { ready = pre .0 .ready; summed = pre .0 .summed }
 
 returns-2 : tie.Need-returns-2
 returns-2 c =

@@ -11,7 +11,8 @@ use Rattle.pot.proofs.PotState.sole.Statement.{statement}
 use Rattle.pot.proofs.PotState.sole.Tie as tie
 
 tried-requires : tie.Need-tried-requires
-tried-requires c κs = let pre = c .pre in (pre .0 .ready, sole-small (pre .0 .ready) (pre .0 .looked) (pre .1), pre .0 .summed)
+tried-requires c κs = let pre = c .pre in
+    (record { ready = pre .0 .ready; summed = pre .0 .summed }, sole-small (pre .0 .ready) (pre .0 .looked) (pre .1))
 
 within-requires : tie.Need-within-requires
 within-requires c κs = c .before .before .pre .0 .ready .years
@@ -26,7 +27,8 @@ returns c =
     }
 
 alone-requires : tie.Need-alone-requires
-alone-requires c κs = let pre = c .before .before .before .before .pre in (pre .0 .ready, sole-small (pre .0 .ready) (pre .0 .looked) (pre .1), pre .0 .others)
+alone-requires c κs = let pre = c .before .before .before .before .pre in
+    (record { ready = pre .0 .ready; others = pre .0 .others }, sole-small (pre .0 .ready) (pre .0 .looked) (pre .1))
 
 returns-2 : tie.Need-returns-2
 returns-2 c =

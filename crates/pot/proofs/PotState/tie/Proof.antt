@@ -1,30 +1,31 @@
 -- `pot::PotState::tie` meets its contract.
 use borrow.Author.Needs.{needs}
-use Rattle.pot.proofs.Sums.{shared-size}
 use Rattle.ties.proofs.Lists.{base-ok}
 use Rattle.pot.proofs.Laws.{tie-wide, tie-shared}
+use Rattle.pot.proofs.Sums.{shared-size}
 use Rattle.pot.proofs.PotState.tie.Statement.{statement}
 use Rattle.pot.proofs.PotState.tie.Tie as tie
 
 rest-requires : tie.Need-rest-requires
-rest-requires c κs = (c .before .before .before .before .pre .0, base-ok _ _ _ _ _ (c .before .before .before .before .pre .0) (c .before .bases .ensures))
-
-count-requires : tie.Need-count-requires
-count-requires c κs = c .before .before .before .before .before .pre .0 .few
+rest-requires c κs = let pre = c .before .before .before .before .pre in (pre .ready, base-ok _ _ _ _ _ (pre .ready) (c .before .bases .ensures))
 
 returns : tie.Need-returns
 returns c = tie-wide _ _ _ _ _ (c .before .before .before .before .before .bases .ensures) (c .before .before .before .rest .ensures) (c .before .before .count .ensures) (c .before .if1 .taken) (c .too-wide .ensures)
 
 choose-requires : tie.Need-choose-requires
-choose-requires c κs = (c .before .before .before .before .before .before .before .before .pre .0, base-ok _ _ _ _ _ (c .before .before .before .before .before .before .before .before .pre .0) (c .before .before .before .before .before .bases .ensures), c .before .before .count .ensures, c .before .if1 .left)
+choose-requires c κs = let pre = c .before .before .before .before .before .before .before .before .pre in
+    (pre .ready, base-ok _ _ _ _ _ (pre .ready) (c .before .before .before .before .before .bases .ensures), record { counted = c .before .before .count .ensures; few = c .before .if1 .left })
 
 revalued-requires : tie.Need-revalued-requires
-revalued-requires c κs = (c .before .before .before .before .before .before .before .before .before .before .pre .0, shared-size _ _ (c .before .before .before .before .before .before .before .before .before .before .pre .0 .years) (c .before .before .before .before .before .before .before .before .before .before .pre .1) _ _ _ (c .shared .ensures))
+revalued-requires c κs = let pre = c .before .before .before .before .before .before .before .before .before .before .pre in (pre .ready, shared-size _ _ (pre .ready .years) (pre .summed) _ _ _ (c .shared .ensures))
 
 returns-2 : tie.Need-returns-2
-returns-2 c = tie-shared _ _ _ _ _ (c .before .before .before .before .before .before .before .before .bases .ensures) (c .before .before .before .before .before .before .rest .ensures) (c .before .before .before .before .before .count .ensures) (c .before .before .before .before .if1 .left) (c .before .before .choose .ensures) (c .before .shared .ensures) (c .revalued .ensures)
+returns-2 c =
+    tie-shared _ _ _ _ _ (c .before .before .before .before .before .before .before .before .bases .ensures) (c .before .before .before .before .before .before .rest .ensures)
+    (c .before .before .before .before .before .count .ensures) (c .before .before .before .before .if1 .left) (c .before .before .choose .ensures)
+    (c .before .shared .ensures) (c .revalued .ensures)
 
 pub tie-spec : {M : Type 1} → statement M
 tie-spec =
-    tie.close (tie.spec (λ c κs. search needs) (λ c. search needs) rest-requires count-requires (λ c κs. search needs) returns (λ c. search needs)
-    choose-requires (λ c κs. search needs) revalued-requires returns-2)
+    tie.close (tie.spec (λ c κs. search needs) rest-requires (λ c κs. search needs) (λ c κs. search needs) returns choose-requires
+    (λ c κs. search needs) revalued-requires returns-2)

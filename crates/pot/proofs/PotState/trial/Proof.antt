@@ -5,7 +5,7 @@ use Rattle.pot.proofs.PotState.trial.Statement.{statement}
 use Rattle.pot.proofs.PotState.trial.Tie as tie
 
 revalued-requires : tie.Need-revalued-requires
-revalued-requires c κs = let pre = c .before .pre in (pre .0, win-size _ _ (pre .0 .years) (pre .1) _ _ (c .win-all .ensures))
+revalued-requires c κs = let pre = c .before .pre in (pre .ready, win-size _ _ (pre .ready .years) (pre .summed) _ _ (c .win-all .ensures))
 
 returns : tie.Need-returns
 returns c = trial-is _ _ _ _ _ (c .before .win-all .ensures) (c .revalued .ensures)

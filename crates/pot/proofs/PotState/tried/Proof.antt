@@ -7,13 +7,13 @@ use Rattle.pot.proofs.PotState.tried.Statement.{statement}
 use Rattle.pot.proofs.PotState.tried.Tie as tie
 
 year-requires : tie.Need-year-requires
-year-requires c κs = omega (arith, c .pre .1, c .pre .0 .few)
+year-requires c κs = omega (arith, c .pre .1, c .pre .0 .ready .few)
 
 renewed-requires : tie.Need-renewed-requires
-renewed-requires c κs = (c .before .before .pre .0, year-ok _ (c .before .before .pre .0) (c .before .before .pre .1) (c .before .year .ensures))
+renewed-requires c κs = (c .before .before .pre .0 .ready, year-ok _ (c .before .before .pre .0 .ready) (c .before .before .pre .1) (c .before .year .ensures))
 
 totalled-requires : tie.Need-totalled-requires
-totalled-requires c κs = let pre = c .before .before .before .pre in (pre .0 .years, λ z h. sum-most (parted-win _ _ _ _ _ (pre .0 .years) (pre .0 .year _ (pre .1)) (c .before .before .year .ensures) (c .before .win .ensures) (c .renewed .ensures) (pre .2 .parts)) z h (pre .0))
+totalled-requires c κs = let pre = c .before .before .before .pre in record { years = pre .0 .ready .years; small = λ y h. sum-most (parted-win _ _ _ _ _ (pre .0 .ready .years) (pre .0 .ready .year _ (pre .1)) (c .before .before .year .ensures) (c .before .win .ensures) (c .renewed .ensures) (pre .0 .summed .parts)) y h (pre .0 .ready) }
 
 returns : tie.Need-returns
 returns c = tried-is _ _ _ _ _ (c .before .before .before .year .ensures) (c .before .before .win .ensures) (c .before .renewed .ensures) (c .totalled .ensures)

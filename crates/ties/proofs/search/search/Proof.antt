@@ -11,7 +11,8 @@ use Rattle.ties.proofs.search.search.Statement.{statement}
 use Rattle.ties.proofs.search.search.Tie as tie
 
 abbrev Inv-loop : tie.InvT-loop
-Inv-loop sheet of base costs dates count end last b₀ mask₀ b mask = (mask ≤ end) × (b ≡ bestOf (okBy sheet of base costs dates) (lastBy of base costs dates) mask)
+Inv-loop sheet of base costs dates count end last b₀ mask₀ b mask =
+    (mask ≤ end) × (b ≡ bestOf (okBy sheet of base costs dates) (lastBy of base costs dates) mask)
 
 abbrev μ-loop : tie.MeasureT-loop
 μ-loop sheet of base costs dates count end last b₀ mask₀ b mask = end - mask
@@ -35,13 +36,22 @@ loop-holds : tie.Need-loop-holds Inv-loop μ-loop
 loop-holds c = (omega arith, best-none _ _ (last-is _ _ _ _ _ (c .before .union .ensures .0) refl (c .joint .ensures)))
 
 union-requires-2 : tie.Need-union-requires-2 Inv-loop μ-loop
-union-requires-2 c κs = (c .before .before .before .before .before .before .pre .2, mask-low (c .before .before .before .before .before .before .pre .3) (c .before .before .before .before .before .power .ensures) (c .loop-test .taken))
+union-requires-2 c κs =
+    (c .before .before .before .before .before .before .pre .2,
+    mask-low (c .before .before .before .before .before .before .pre .3) (c .before .before .before .before .before .power .ensures) (c .loop-test .taken))
 
 joint-fits-requires : tie.Need-joint-fits-requires Inv-loop μ-loop
-joint-fits-requires c κs = let g = c .before .before .before .before .before .before .before .pre in (g .1, mask-low (c .before .before .before .before .before .before .before .pre .3) (c .before .before .before .before .before .before .power .ensures) (c .before .loop-test .taken), c .union2 .ensures .1, g .0 .years)
+joint-fits-requires c κs =
+    let g = c .before .before .before .before .before .before .before .pre in
+    (g .1, mask-low (c .before .before .before .before .before .before .before .pre .3) (c .before .before .before .before .before .before .power .ensures)
+    (c .before .loop-test .taken), c .union2 .ensures .1, g .0 .years)
 
 joint-requires-2 : tie.Need-joint-requires-2 Inv-loop μ-loop
-joint-requires-2 c κs = let g = c .before .before .before .before .before .before .before .before .before .pre in (g .1, mask-low (c .before .before .before .before .before .before .before .before .before .pre .3) (c .before .before .before .before .before .before .before .before .power .ensures) (c .before .before .before .loop-test .taken), c .before .before .union2 .ensures .1, omega (arith, g .0 .some, g .0 .years))
+joint-requires-2 c κs =
+    let g = c .before .before .before .before .before .before .before .before .before .pre in
+    (g .1, mask-low (c .before .before .before .before .before .before .before .before .before .pre .3)
+    (c .before .before .before .before .before .before .before .before .power .ensures) (c .before .before .before .loop-test .taken),
+    c .before .before .union2 .ensures .1, omega (arith, g .0 .some, g .0 .years))
 
 better-requires : tie.Need-better-requires Inv-loop μ-loop
 better-requires c κs = search needs
@@ -50,16 +60,19 @@ add-mask : tie.Need-add-mask Inv-loop μ-loop
 add-mask c = omega arith
 
 loop-again : tie.Need-loop-again Inv-loop μ-loop
-loop-again c = let u = c .before .before .union2 .ensures .0 in
-    let f = ok-is _ _ _ _ _ _ u (c .before .joint-fits .ensures) in
-    let inv = c .before .before .before .before .loop .inv .1 in (
-      omega arith,
+loop-again c = (
+  omega arith,
+  let u = c .before .before .union2 .ensures .0 in
+      let f = ok-is _ _ _ _ _ _ u (c .before .joint-fits .ensures) in
+      let inv = c .before .before .before .before .loop .inv .1 in
       ⊎-elim (λ w. w .3 ∙ best-more _ _ _ inv f (w .0 .taken) (last-is _ _ _ _ _ u refl (w .1 .ensures)) (w .2 .ensures))
-          (λ w. w .1 ∙ best-same _ _ _ inv f (w .0 .left)) (c .if1 .came),
-    )
+      (λ w. w .1 ∙ best-same _ _ _ inv f (w .0 .left)) (c .if1 .came),
+)
 
 returns : tie.Need-returns Inv-loop μ-loop
-returns c = best-ends _ _ _ _ _ _ (c .before .loop .inv .1) (c .before .loop .inv .0) (c .loop-test .left) (c .before .before .before .before .before .power .ensures)
+returns c =
+    best-ends _ _ _ _ _ _ (c .before .loop .inv .1) (c .before .loop .inv .0) (c .loop-test .left)
+    (c .before .before .before .before .before .power .ensures)
 
 pub search-spec : {M : Type 1} → statement M
 search-spec =

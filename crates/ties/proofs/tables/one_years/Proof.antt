@@ -25,7 +25,8 @@ touched-requires : tie.Need-touched-requires Inv-loop μ-loop
 touched-requires c κs = c .before .before .before .pre
 
 loop-again : tie.Need-loop-again Inv-loop μ-loop
-loop-again c = (omega arith, fill-next _ _ _ (c .before .before .before .loop .inv .1) (one-year-is _ _ _ _ (c .before .power .ensures) (c .touched .ensures .0)))
+loop-again c =
+    (omega arith, fill-next _ _ _ (c .before .before .before .loop .inv .1) (one-year-is _ _ _ _ (c .before .power .ensures) (c .touched .ensures .0)))
 
 returns : tie.Need-returns Inv-loop μ-loop
 returns c = done (fill noList (oneYearAt _ _ _)) (c .before .loop .inv .1) (c .before .loop .inv .0) (c .loop-test .left)

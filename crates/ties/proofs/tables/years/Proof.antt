@@ -69,7 +69,9 @@ loop-again c = let inv = c .before .before .loop .inv in
     )
 
 returns : tie.Need-returns Inv-loop μ-loop
-returns c = done (fill noYears (yearAt _ _ _)) (c .before .loop .inv .1 _ _ _ (c .before .before .one-years .ensures)) (c .before .loop .inv .0) (c .loop-test .left)
+returns c =
+    done (fill noYears (yearAt _ _ _)) (c .before .loop .inv .1 _ _ _ (c .before .before .one-years .ensures)) (c .before .loop .inv .0)
+    (c .loop-test .left)
 
 pub years-spec : {M : Type 1} → statement M
 years-spec =

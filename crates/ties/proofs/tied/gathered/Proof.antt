@@ -12,7 +12,8 @@ ranks-requires : tie.Need-ranks-requires
 ranks-requires c κs = let g = c .before .before .pre in (g .0, numbers _ _ (g .1 .counted) (g .1 .few) (c .before .compact .ensures))
 
 starts-requires : tie.Need-starts-requires
-starts-requires c κs = let g = c .before .before .before .before .pre in (g .0, numbers _ _ (g .1 .counted) (g .1 .few) (c .before .before .before .compact .ensures))
+starts-requires c κs =
+    let g = c .before .before .before .before .pre in (g .0, numbers _ _ (g .1 .counted) (g .1 .few) (c .before .before .before .compact .ensures))
 
 returns : tie.Need-returns
 returns c = tied-is _ _ _ _ (c .before .before .before .before .compact .ensures) (c .before .before .ranks .ensures) (c .starts .ensures)

@@ -8,8 +8,8 @@ use Rattle.arrays.proofs.Laws.{fill-next}
 use Rattle.sheet.specs.Sheet.{rowStanding}
 use Rattle.pot.specs.Marks.{firstMark, noMarks}
 use Rattle.pot.proofs.Laws.{started-done}
-use Rattle.pot.proofs.started.Statement.{statement}
-use Rattle.pot.proofs.started.Tie as tie
+use Rattle.pot.proofs.start.started.Statement.{statement}
+use Rattle.pot.proofs.start.started.Tie as tie
 
 abbrev Inv-loop : tie.InvT-loop
 Inv-loop sheet marks₀ m i₀ marks i = (i ≤ m) × (marks ≡ fill noMarks (λ k. firstMark (rowStanding sheet k)) i)

@@ -1,8 +1,8 @@
--- `pot::joined` meets its contract.
+-- `pot::live::joined` meets its contract.
 use borrow.Author.Needs.{needs}
 use Rattle.pot.proofs.Seen.{joined-higher, joined-lower, joined-equal}
-use Rattle.pot.proofs.joined.Statement.{statement}
-use Rattle.pot.proofs.joined.Tie as tie
+use Rattle.pot.proofs.live.joined.Statement.{statement}
+use Rattle.pot.proofs.live.joined.Tie as tie
 
 returns : tie.Need-returns
 returns c = joined-higher _ _ _ (c .if1 .taken)

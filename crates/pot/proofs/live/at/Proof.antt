@@ -1,8 +1,8 @@
--- `pot::at` meets its contract.
+-- `pot::live::at` meets its contract.
 use mathlib.Core.Path.{refl}
 use Rattle.ties.proofs.Laws.{and-yes, and-no}
-use Rattle.pot.proofs.at.Statement.{statement}
-use Rattle.pot.proofs.at.Tie as tie
+use Rattle.pot.proofs.live.at.Statement.{statement}
+use Rattle.pot.proofs.live.at.Tie as tie
 
 returns : tie.Need-returns
 returns c = and-yes (c .if1 .taken) refl

@@ -8,27 +8,27 @@ use Rattle.arrays.specs.Sets.{fill}
 use Rattle.totals.specs.Totals.{noRow, filled}
 use Rattle.pot.specs.Marks.{yearSum}
 use Rattle.pot.proofs.Sums.{added-is, added-low}
-use Rattle.pot.proofs.year_totals.Statement.{statement}
-use Rattle.pot.proofs.year_totals.Tie as tie
+use Rattle.pot.proofs.trial.year_totals.Statement.{statement}
+use Rattle.pot.proofs.trial.year_totals.Tie as tie
 
 abbrev Inv-loop : tie.InvT-loop
-Inv-loop sums row₀ y z₀ row z = (z ≤ y) × (row ≡ filled (yearSum sums) z)
+Inv-loop sums row₀ years y₀ row y = (y ≤ years) × (row ≡ filled (yearSum sums) y)
 
 abbrev μ-loop : tie.MeasureT-loop
-μ-loop sums row₀ y z₀ row z = y - z
+μ-loop sums row₀ years y₀ row y = years - y
 
 loop-holds : tie.Need-loop-holds Inv-loop μ-loop
 unfolding fill noRow
 loop-holds c = search needs
 
 add-row-2 : tie.Need-add-row-2 Inv-loop μ-loop
-add-row-2 c = omega (arith, added-low _ _ (c .before .before .pre .1 _ (c .loop-test .taken)) .0)
+add-row-2 c = omega (arith, added-low _ _ (c .before .before .pre .small _ (c .loop-test .taken)) .0)
 
 add-row-4 : tie.Need-add-row-4 Inv-loop μ-loop
-add-row-4 c = omega (arith, added-low _ _ (c .before .before .pre .1 _ (c .loop-test .taken)) .1)
+add-row-4 c = omega (arith, added-low _ _ (c .before .before .pre .small _ (c .loop-test .taken)) .1)
 
 add-row-6 : tie.Need-add-row-6 Inv-loop μ-loop
-add-row-6 c = omega (arith, added-low _ _ (c .before .before .pre .1 _ (c .loop-test .taken)) .2)
+add-row-6 c = omega (arith, added-low _ _ (c .before .before .pre .small _ (c .loop-test .taken)) .2)
 
 loop-again : tie.Need-loop-again Inv-loop μ-loop
 loop-again c = (omega arith, fill-next _ _ _ (c .before .loop .inv .1) (added-is _ _))

@@ -1,8 +1,8 @@
--- `pot::live` meets its contract.
+-- `pot::live::live` meets its contract.
 use borrow.Author.Tests.{eq-eqb, ne-eqb}
 use Rattle.ties.proofs.Laws.{and-yes, and-no}
-use Rattle.pot.proofs.live.Statement.{statement}
-use Rattle.pot.proofs.live.Tie as tie
+use Rattle.pot.proofs.live.live.Statement.{statement}
+use Rattle.pot.proofs.live.live.Tie as tie
 
 returns : tie.Need-returns
 returns c = and-no _ (ne-eqb _ _ (c .if1 .taken))

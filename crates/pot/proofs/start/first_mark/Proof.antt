@@ -1,7 +1,7 @@
--- `pot::first_mark` meets its contract.
+-- `pot::start::first_mark` meets its contract.
 use Rattle.pot.proofs.Laws.{first-yes, first-no}
-use Rattle.pot.proofs.first_mark.Statement.{statement}
-use Rattle.pot.proofs.first_mark.Tie as tie
+use Rattle.pot.proofs.start.first_mark.Statement.{statement}
+use Rattle.pot.proofs.start.first_mark.Tie as tie
 
 returns : tie.Need-returns
 returns c = first-yes (c .if1 .taken)

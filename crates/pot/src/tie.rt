@@ -1,0 +1,48 @@
+// Several were taken and do not fit together: 3.
+ghost use mathlib.Core.Path.{_≡_};
+ghost use Rattle.sheet.specs.Sheet.{Ready};
+ghost use Rattle.pot.specs.Marks.{Valued, sharedOf, tieOf};
+use super::NO_YEAR;
+use super::PotState;
+use names::NUMBERS;
+use sheet::Sheet;
+use sheet::Size;
+use totals::marks;
+
+impl PotState {
+    // Of the bids taken those chosen win; all others are turned down and their years close.
+    pub(crate) fn shared(
+        self,
+        sheet: &Sheet,
+        of: Size,
+        set: [bool; NUMBERS],
+        wins: [bool; NUMBERS],
+        price: u64,
+    ) -> PotState
+        requires { ⌜ Ready (now sheet) of ⌝ }
+        ensures { λ r. ⌜ r ≡ sharedOf (now (sheet .entry)) of set wins price self ⌝ }
+    {
+        let t = self.win_all(sheet, of, wins, price);
+        let outs = arrays::others(set, wins, of.bids);
+        let u = t.turn_all(sheet, of, outs, marks::TIED);
+        u.hung(NO_YEAR)
+    }
+
+    // Several were taken and do not fit together: 3.
+    pub(crate) fn tie(self, sheet: &Sheet, of: Size, set: [bool; NUMBERS], price: u64) -> PotState
+        requires { ⌜ Valued (now sheet) of self ⌝ }
+        ensures { λ r. ⌜ r ≡ tieOf (now (sheet .entry)) of set price self ⌝ }
+    {
+        let marks = self.marks;
+        let prices = self.prices;
+        let base = ties::winners::bases(sheet, of, marks, prices, price);
+        let rest = ties::alone::rest(sheet, of, &base, set, price);
+        let count = arrays::count(rest, of.bids);
+        if count > names::WIDEST_TIE {
+            return self.too_wide();
+        }
+        let wins = ties::choose(sheet, of, &base, rest, count, price);
+        let t = self.shared(sheet, of, set, wins, price);
+        t.revalued(sheet, of)
+    }
+}
