@@ -8,37 +8,38 @@ ghost use Rattle.arrays.specs.Sets.{built, members, without};
 use names::NUMBERS;
 
 // How many bids a set has.
-pub fn count(set: [bool; NUMBERS], m: usize) -> usize
-    requires { ⌜ m ≤ mostNumbers ⌝ }
-    ensures { λ r. ⌜ r ≡ length (members set m) ⌝ }
+pub fn count(set: [bool; NUMBERS], bids: usize) -> usize
+    requires { ⌜ bids ≤ mostNumbers ⌝ }
+    ensures { λ r. ⌜ r ≡ length (members set bids) ⌝ }
 {
+    let mut count: usize = 0;
     let mut k: usize = 0;
-    let mut i: usize = 0;
-    while i < m {
-        if set[i] {
-            k += 1;
+    while k < bids {
+        if set[k] {
+            count += 1;
         }
-        i += 1;
+        k += 1;
     }
-    k
+    count
 }
 
-fn stays(of: bool, out: bool) -> bool
-    ensures { λ r. ⌜ r ≡ (of && not out) ⌝ }
+// Of a set, and not of another?
+fn stays(within: bool, out: bool) -> bool
+    ensures { λ r. ⌜ r ≡ (within && not out) ⌝ }
 {
-    if of { !out } else { false }
+    if within { !out } else { false }
 }
 
 // A set without the bids of another.
-pub fn others(set: [bool; NUMBERS], a: [bool; NUMBERS], m: usize) -> [bool; NUMBERS]
-    requires { ⌜ m ≤ mostNumbers ⌝ }
-    ensures { λ r. ⌜ r ≡ built (without set a) m ⌝ }
+pub fn others(set: [bool; NUMBERS], out: [bool; NUMBERS], bids: usize) -> [bool; NUMBERS]
+    requires { ⌜ bids ≤ mostNumbers ⌝ }
+    ensures { λ r. ⌜ r ≡ built (without set out) bids ⌝ }
 {
-    let mut out = [false; NUMBERS];
-    let mut i: usize = 0;
-    while i < m {
-        out[i] = stays(set[i], a[i]);
-        i += 1;
+    let mut rest = [false; NUMBERS];
+    let mut k: usize = 0;
+    while k < bids {
+        rest[k] = stays(set[k], out[k]);
+        k += 1;
     }
-    out
+    rest
 }

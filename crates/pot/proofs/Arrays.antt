@@ -41,7 +41,8 @@ module _ (sheet : List ℕ) (p : ℕ) (s : PotState) (S : Sizes s) where
       put-is ((winAll sheet p s l) .marks) i b 1 0 (omega (arith, win-sizes l .marks, h i (here refl)))
       ∙ ap (pick (eqb b i) 1) (win-marks l b (λ k j. h k (there j))) ∙ pick-or (eqb b i) (memb b l) 1 (getD (s .marks) b 0)
 
-  pub win-won : (l : List ℕ) (k : ℕ) → ((i : ℕ) → In i l → rowApp sheet i < 64) → getD ((winAll sheet p s l) .won) k false ≡ (memb k (map (rowApp sheet) l) || getD (s .won) k false)
+  pub win-won : (l : List ℕ) (k : ℕ) → ((i : ℕ) → In i l → rowApp sheet i < 64)
+      → getD ((winAll sheet p s l) .won) k false ≡ (memb k (map (rowApp sheet) l) || getD (s .won) k false)
   unfolding winAll winOf
   win-won [] k h = refl
   win-won (i ∷ l) k h =
@@ -83,7 +84,8 @@ module _ (sheet : List ℕ) (v : ℕ) (s : PotState) (S : Sizes s) where
       put-is ((turnAll sheet v s l) .marks) i b v 0 (omega (arith, turn-sizes l .marks, h i (here refl)))
       ∙ ap (pick (eqb b i) v) (turn-marks l b (λ k j. h k (there j))) ∙ pick-or (eqb b i) (memb b l) v (getD (s .marks) b 0)
 
-  pub turn-opened : (l : List ℕ) (d : ℕ) → ((i : ℕ) → In i l → rowYear sheet i < 4) → getD ((turnAll sheet v s l) .opened) d false ≡ (not (memb d (map (rowYear sheet) l)) && getD (s .opened) d false)
+  pub turn-opened : (l : List ℕ) (d : ℕ) → ((i : ℕ) → In i l → rowYear sheet i < 4)
+      → getD ((turnAll sheet v s l) .opened) d false ≡ (not (memb d (map (rowYear sheet) l)) && getD (s .opened) d false)
   unfolding turnAll turnOf
   turn-opened [] d h = refl
   turn-opened (i ∷ l) d h =

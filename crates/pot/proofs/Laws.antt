@@ -15,7 +15,8 @@ use Rattle.sheet.specs.Sheet.{columns, Ready, rowStanding, rowApp, rowYear, row
 use Rattle.ties.specs.Ties.{basesOf, keepsOf, choiceOf}
 use Rattle.pot.specs.declared.PotState.{PotState}
 use Rattle.pot.specs.declared.Look.{Look}
-use Rattle.pot.specs.Marks.{liveOf, atOf, winOf, turnOf, winAll, turnAll, turnedOf, hungOf, shutOf, settledOf, widened, soleOf, followsOf, aloneOf, sharedOf, restOf, choiceIn, tieOf, Others, Looked, noYear, sumsSize, firstMark, noMarks, startedOf, revaluedOf}
+use Rattle.pot.specs.Marks.{liveOf, atOf, winOf, turnOf, winAll, turnAll, turnedOf, hungOf, shutOf, settledOf, widened, soleOf, followsOf, aloneOf}
+use Rattle.pot.specs.Marks.{sharedOf, restOf, choiceIn, tieOf, Others, Looked, noYear, sumsSize, firstMark, noMarks, startedOf, revaluedOf}
 
 -- the bounds of a bid's application and year, at what the accessors return
 pub app-ok : {sheet : List ℕ} {of : Size} (i : ℕ) {a : ℕ} → Ready sheet of → i < of .bids → a ≡ rowApp sheet i → a < 64
@@ -25,7 +26,8 @@ pub year-ok : {sheet : List ℕ} {of : Size} (i : ℕ) {d : ℕ} → Ready sheet
 year-ok i c h e = rw e (c .year i h)
 
 -- ---- what is live
-module _ (sheet : List ℕ) (s : PotState) (i : ℕ) {a d : ℕ} {b : Bool} (ea : a ≡ rowApp sheet i) (ed : d ≡ rowYear sheet i) (eb : b ≡ (eqb (getD (s .marks) i 0) 0 && (not (getD (s .won) a false) && getD (s .opened) d false))) where
+module _ (sheet : List ℕ) (s : PotState) (i : ℕ) {a d : ℕ} {b : Bool} (ea : a ≡ rowApp sheet i) (ed : d ≡ rowYear sheet i)
+    (eb : b ≡ (eqb (getD (s .marks) i 0) 0 && (not (getD (s .won) a false) && getD (s .opened) d false))) where
   pub live-is : b ≡ liveOf sheet s i
   unfolding liveOf
   live-is = rw (eb, ea, ed)
@@ -36,16 +38,39 @@ module _ (sheet : List ℕ) (s : PotState) (i : ℕ) {a d : ℕ} {b : Bool} (ea 
 
 -- ---- marks, at what the accessors return
 module _ (sheet : List ℕ) (s : PotState) (p i : ℕ) {d : ℕ} (ed : d ≡ rowYear sheet i) where
-  pub win-is : {a : ℕ} → a ≡ rowApp sheet i → _≡_ {A = PotState} (record { marks = set (s .marks) i 1; won = set (s .won) a true; opened = s .opened; prices = set (s .prices) d p; sums = s .sums; totals = s .totals; hang = s .hang; wide = s .wide }) (winOf sheet p i s)
+  pub win-is : {a : ℕ} → a ≡ rowApp sheet i
+      → _≡_ {A = PotState} (record {
+        marks = set (s .marks) i 1;
+        won = set (s .won) a true;
+        opened = s .opened;
+        prices = set
+            (s .prices) d p;
+        sums = s .sums;
+        totals = s .totals;
+        hang = s .hang;
+        wide = s .wide;
+      }) (winOf sheet p i s)
   unfolding winOf
   win-is ea = rw (ea, ed)
 
-  pub turn-is : _≡_ {A = PotState} (record { marks = set (s .marks) i p; won = s .won; opened = set (s .opened) d false; prices = s .prices; sums = s .sums; totals = s .totals; hang = s .hang; wide = s .wide }) (turnOf sheet p i s)
+  pub turn-is : _≡_ {A = PotState}
+      (record {
+        marks = set (s .marks) i p;
+        won = s .won;
+        opened = set
+            (s .opened) d false;
+        prices = s .prices;
+        sums = s .sums;
+        totals = s .totals;
+        hang = s .hang;
+        wide = s .wide;
+      }) (turnOf sheet p i s)
   unfolding turnOf
   turn-is = rw ed
 
 module _ (sheet : List ℕ) (v : ℕ) (s : PotState) (l : List Bool) (i : ℕ) {t : PotState} where
-  pub winAll-hit : {r : PotState} → getD l i false ≡ true → t ≡ winAll sheet v s (members l i) → r ≡ winOf sheet v i t → r ≡ winAll sheet v s (members l (i + 1))
+  pub winAll-hit : {r : PotState} → getD l i false ≡ true → t ≡ winAll sheet v s (members l i) → r ≡ winOf sheet v i t
+      → r ≡ winAll sheet v s (members l (i + 1))
   unfolding winAll members
   winAll-hit h et er = rw (add-one i, h, er, et)
 
@@ -53,7 +78,8 @@ module _ (sheet : List ℕ) (v : ℕ) (s : PotState) (l : List Bool) (i : ℕ) {
   unfolding members
   winAll-miss h et = rw (add-one i, h, et)
 
-  pub turnAll-hit : {r : PotState} → getD l i false ≡ true → t ≡ turnAll sheet v s (members l i) → r ≡ turnOf sheet v i t → r ≡ turnAll sheet v s (members l (i + 1))
+  pub turnAll-hit : {r : PotState} → getD l i false ≡ true → t ≡ turnAll sheet v s (members l i) → r ≡ turnOf sheet v i t
+      → r ≡ turnAll sheet v s (members l (i + 1))
   unfolding turnAll members
   turnAll-hit h et er = rw (add-one i, h, er, et)
 
@@ -97,7 +123,8 @@ pub others-turned : (sheet : List ℕ) (of : Size) (i : ℕ) (s : PotState) {t :
 unfolding turnedOf
 others-turned sheet of i s e o = rw e (λ k g f. not-fresh (s .marks) i k (o k g f))
 
-module _ (sheet : List ℕ) (of : Size) (i : ℕ) (s : PotState) {t r : PotState} {d : ℕ} {g : Bool} (et : t ≡ turnedOf i s) (ed : d ≡ rowYear sheet i) (eg : g ≡ followsOf sheet of i t) where
+module _ (sheet : List ℕ) (of : Size) (i : ℕ) (s : PotState) {t r : PotState} {d : ℕ} {g : Bool} (et : t ≡ turnedOf i s) (ed : d ≡ rowYear sheet i)
+    (eg : g ≡ followsOf sheet of i t) where
   pub alone-hung : g ≡ true → r ≡ hungOf d t → r ≡ aloneOf sheet of i s
   unfolding aloneOf
   alone-hung h er = rw (← et, ← eg, h, er, ed)
@@ -107,12 +134,15 @@ module _ (sheet : List ℕ) (of : Size) (i : ℕ) (s : PotState) {t r : PotState
   alone-shut h er = rw (← et, ← eg, h, er, ed)
 
 -- ---- several
-pub shared-is : (sheet : List ℕ) (of : Size) (l wins : List Bool) (p : ℕ) (s : PotState) {t u r : PotState} {o : List Bool} → t ≡ winAll sheet p s (members wins (of .bids)) → o ≡ built (without l wins) (of .bids)
+pub shared-is : (sheet : List ℕ) (of : Size) (l wins : List Bool) (p : ℕ) (s : PotState) {t u r : PotState} {o : List Bool}
+    → t ≡ winAll sheet p s (members wins (of .bids)) → o ≡ built (without l wins) (of .bids)
     → u ≡ turnAll sheet downTied t (members o (of .bids)) → r ≡ hungOf noYear u → r ≡ sharedOf sheet of l wins p s
 unfolding sharedOf
 shared-is sheet of l wins p s et eo eu er = rw (er, eu, et, eo)
 
-module _ (sheet : List ℕ) (of : Size) (l : List Bool) (p : ℕ) (s : PotState) {base : List ℕ} {rest : List Bool} {k : ℕ} (eb : base ≡ basesOf sheet of (s .marks) (s .prices) p) (es : rest ≡ built (keepsOf sheet of base p l) (of .bids)) (ek : k ≡ length (members rest (of .bids))) where
+module _ (sheet : List ℕ) (of : Size) (l : List Bool) (p : ℕ) (s : PotState) {base : List ℕ} {rest : List Bool} {k : ℕ}
+    (eb : base ≡ basesOf sheet of (s .marks) (s .prices) p) (es : rest ≡ built (keepsOf sheet of base p l) (of .bids))
+    (ek : k ≡ length (members rest (of .bids))) where
   rest-is : rest ≡ restOf sheet of l p s
   unfolding restOf
   rest-is = rw (es, eb)
@@ -121,7 +151,8 @@ module _ (sheet : List ℕ) (of : Size) (l : List Bool) (p : ℕ) (s : PotState)
   unfolding tieOf
   tie-wide h er = rw (← rest-is, ← ek, lt-ltb widestTie k h) er
 
-  pub tie-shared : {wins : List Bool} {t r : PotState} → k ≤ widestTie → wins ≡ choiceOf sheet of base rest k p → t ≡ sharedOf sheet of l wins p s → r ≡ revaluedOf sheet of t
+  pub tie-shared : {wins : List Bool} {t r : PotState} → k ≤ widestTie → wins ≡ choiceOf sheet of base rest k p → t ≡ sharedOf sheet of l wins p s
+      → r ≡ revaluedOf sheet of t
       → r ≡ tieOf sheet of l p s
   unfolding tieOf choiceIn
   tie-shared h ew et er = rw (← rest-is, ← ek, le-ltb widestTie k h, ← eb, ← ew, ← et) er

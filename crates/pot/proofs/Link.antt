@@ -10,7 +10,8 @@ use lib.Dec.{eqb, ltb}
 use borrow.Author.Tests.{eqb-true}
 use Rattle.rules.specs.Names.{noPrice, noReason, becauseWon, highestPrice}
 use Rattle.rules.specs.Lists.{pick, memb, sift, below}
-use Rattle.rules.specs.Pot.{Pot, Event, Trace, winners, downs, seen, closed, hanging, mark, priceFrom, clearing, total, within, fits, live, least, lowest, taken}
+use Rattle.rules.specs.Pot.{Pot, Event, Trace, winners, downs, seen, closed, hanging, mark, priceFrom, clearing, total, within, fits, live, least, lowest}
+use Rattle.rules.specs.Pot.{taken}
 use Rattle.pot_laws.specs.Lists.{case, clash, and-true, In, here, there, memb-in, in-memb, sift-in, sift-same, sift-both, memb-join, memb-map-join, below-in}
 use Rattle.pot_laws.specs.Mono.{Lawful}
 use Rattle.arrays.specs.Sets.{built, members}
@@ -43,7 +44,8 @@ not-or false b = refl
 
 -- the arrays stood for the trace, and then for the trace with the event in front: the bids turned down had not won
 pub rep-did : (P : Pot) (t : Trace) (e : Event) (s r : PotState) → eqb (e .why) noReason ≡ false → eqb (e .why) becauseWon ≡ false
-    → ((b : ℕ) → In b (e .downs) → memb b (winners t) ≡ false) → ((b : ℕ) → In b (e .wins) → In b (P .bids)) → ((b : ℕ) → In b (e .downs) → In b (P .bids)) → Rep P t s → Did P e s r → Rep P (e ∷ t) r
+    → ((b : ℕ) → In b (e .downs) → memb b (winners t) ≡ false) → ((b : ℕ) → In b (e .wins) → In b (P .bids)) → ((b : ℕ) → In b (e .downs) → In b (P .bids))
+    → Rep P t s → Did P e s r → Rep P (e ∷ t) r
 unfolding mark winners seen closed hanging
 rep-did P t e s r y o un wi oi R D = record {
   sizes = D .sizes;
@@ -118,12 +120,15 @@ module _ (sheet : List ℕ) (of : Size) (ok : Ready sheet of) where
         (λ e. rw (e, R .fresh i (bid i h e), R .has (rowApp sheet i) (ok .app i h), R .free (rowYear sheet i) (ok .year i h)) (same i))
         (λ f. rw (f, R .other i (small i h) (link.not-bid sheet of ok i f)))
       where
-        same : (i : ℕ) → (not (memb i (seen t)) && (not (memb (rowApp sheet i) (map (P .app) (winners t))) && not (memb (rowYear sheet i) (closed t)))) ≡ (not (memb i (seen t)) && (not (memb (P .app i) (map (P .app) (winners t))) && not (memb (P .yr i) (closed t))))
+        same : (i : ℕ) → (not (memb i (seen t)) && (not (memb (rowApp sheet i) (map (P .app) (winners t))) && not (memb (rowYear sheet i) (closed t))))
+            ≡ (not (memb i (seen t)) && (not (memb (P .app i) (map (P .app) (winners t))) && not (memb (P .yr i) (closed t))))
         same i = unfold potIn in refl
 
     -- the live bids
     pub live-list : sift (liveOf sheet s) (below (of .bids)) ≡ sift (live P t) (P .bids)
-    live-list = sift-same (liveOf sheet s) (λ i. inAuction sheet i && live P t i) (below (of .bids)) (λ k i. live-is k (below-in k (of .bids) i)) ∙ sym (sift-both (live P t) (inAuction sheet) (below (of .bids))) ∙ opened
+    live-list =
+        sift-same (liveOf sheet s) (λ i. inAuction sheet i && live P t i) (below (of .bids)) (λ k i. live-is k (below-in k (of .bids) i))
+        ∙ sym (sift-both (live P t) (inAuction sheet) (below (of .bids))) ∙ opened
       where
         opened : sift (live P t) (sift (inAuction sheet) (below (of .bids))) ≡ sift (live P t) (P .bids)
         opened = unfold potIn in refl
@@ -152,10 +157,12 @@ module _ (sheet : List ℕ) (of : Size) (ok : Ready sheet of) where
         l = sift (liveOf sheet s) (below (of .bids))
 
     -- what is taken has the lowest price, and is live
-    pub taken-sound : {p : ℕ} → p ≡ lowestOf sheet s (of .bids) → (k : ℕ) → In k (taken P t) → (k < of .bids) × (live P t k ≡ true) × (rowPrice sheet k ≡ p) × In k (P .bids)
+    pub taken-sound : {p : ℕ} → p ≡ lowestOf sheet s (of .bids) → (k : ℕ) → In k (taken P t)
+        → (k < of .bids) × (live P t k ≡ true) × (rowPrice sheet k ≡ p) × In k (P .bids)
     unfolding atOf
     taken-sound {p} ep k i =
-        let e : taken P t ≡ sift (atOf sheet s p) (below (of .bids)) = sym (taken-is {a = built (atOf sheet s p) (of .bids)} ep refl) ∙ members-built (atOf sheet s p) (of .bids) (ok .few) in
+        let e : taken P t ≡ sift (atOf sheet s p) (below (of .bids)) = sym (taken-is {a = built (atOf sheet s p) (of .bids)} ep refl)
+        ∙ members-built (atOf sheet s p) (of .bids) (ok .few) in
         let j : In k (sift (atOf sheet s p) (below (of .bids))) = rw e at i in
         let r = sift-in k (atOf sheet s p) (below (of .bids)) j in
         let q = and-true (liveOf sheet s k) (eqb (rowPrice sheet k) p) (r .1) in
@@ -195,19 +202,24 @@ module _ (sheet : List ℕ) (of : Size) (ok : Ready sheet of) where
   -- ---- winning
   module _ (ws : List ℕ) (s : PotState) (S : Sizes s) (p : ℕ) where
     -- bids at price p: the clearing prices
-    pub win-prices : (l : List ℕ) (d : ℕ) → ((i : ℕ) → In i l → (i < of .bids) × (rowPrice sheet i ≡ p)) → getD ((winAll sheet p s l) .prices) d 0 ≡ priceFrom P (getD (s .prices) d 0) l d
+    pub win-prices : (l : List ℕ) (d : ℕ) → ((i : ℕ) → In i l → (i < of .bids) × (rowPrice sheet i ≡ p))
+        → getD ((winAll sheet p s l) .prices) d 0 ≡ priceFrom P (getD (s .prices) d 0) l d
     unfolding winAll winOf priceFrom potIn
     win-prices [] d h = refl
     win-prices (i ∷ l) d h =
         put-is ((winAll sheet p s l) .prices) (rowYear sheet i) d p 0 (omega (arith, win-sizes sheet p s S l .prices, ok .year i (h i (here refl) .0)))
         ∙ rw (eqb-sym d (rowYear sheet i), h i (here refl) .1, win-prices l d (λ k j. h k (there j)))
 
-    pub holds-win : (l : List ℕ) → ((i : ℕ) → In i l → (i < of .bids) × (rowPrice sheet i ≡ p) × In i (P .bids)) → Holds P ws s → Holds P (l ++ ws) (winAll sheet p s l)
+    pub holds-win : (l : List ℕ) → ((i : ℕ) → In i l → (i < of .bids) × (rowPrice sheet i ≡ p) × In i (P .bids)) → Holds P ws s
+        → Holds P (l ++ ws) (winAll sheet p s l)
     holds-win l h H = record {
       marked = record {
         one = λ k i.
-            ap (λ (x : ℕ). eqb x becauseWon) (win-marks sheet p s S l k few) ∙ rw (memb-join k l ws) (case (memb k l) (λ t. rw t) (λ f. rw f (H .marked .one k i)));
-        other = λ k j f. ap (λ (x : ℕ). eqb x becauseWon) (win-marks sheet p s S l k few) ∙ case (memb k l) (λ t. clash (in-memb (h k (memb-in k l t) .2)) f) (λ g. rw g (H .marked .other k j f));
+            ap (λ (x : ℕ). eqb x becauseWon) (win-marks sheet p s S l k few)
+            ∙ rw (memb-join k l ws) (case (memb k l) (λ t. rw t) (λ f. rw f (H .marked .one k i)));
+        other =
+            λ k j f. ap (λ (x : ℕ). eqb x becauseWon) (win-marks sheet p s S l k few)
+            ∙ case (memb k l) (λ t. clash (in-memb (h k (memb-in k l t) .2)) f) (λ g. rw g (H .marked .other k j f));
       };
       price = λ d k. win-prices l d (λ i j. (h i j .0, h i j .1)) ∙ rw (H .price d k) (sym (price-join P noPrice l ws d));
     }

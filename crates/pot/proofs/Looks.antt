@@ -75,7 +75,8 @@ module _ (sheet : List ℕ) (of : Size) (ok : Ready sheet of) where
     pub trial-others : (i : ℕ) → i < of .bids → inAuction sheet i ≡ false → eqb (getD (u .marks) i 0) becauseWon ≡ false
     trial-others i h f = won-by .marked .other i (link.small sheet of ok i h) (not-bid sheet of ok i f)
 
-    pub trial-fits : (f : ℕ → ℕ) → ((y : ℕ) → y < of .years → f y ≡ totalOf sheet (u .marks) (u .prices) y (of .bids)) → fitsTo f sheet (of .years) ≡ fits P (l ++ winners t)
+    pub trial-fits : (f : ℕ → ℕ) → ((y : ℕ) → y < of .years → f y ≡ totalOf sheet (u .marks) (u .prices) y (of .bids))
+        → fitsTo f sheet (of .years) ≡ fits P (l ++ winners t)
     trial-fits = link.fits-is sheet of ok (l ++ winners t) u won-by
 
     -- all win, and the year that hangs closes
@@ -87,7 +88,8 @@ module _ (sheet : List ℕ) (of : Size) (ok : Ready sheet of) where
       marks = λ i. ap (λ (x : List ℕ). getD x i 0) er ∙ win-marks sheet p s (R .sizes) l i few;
       won = λ y j. ap (λ (x : List Bool). getD x y false) ew ∙ win-won sheet p s (R .sizes) l y (λ i h. ok .app i (sound i h .0));
       opened = λ d j. op d j ∙ ap (λ (x : List ℕ). not (memb d x) && getD (s .opened) d false) (sym (R .hang));
-      prices = λ d j. ap (λ (x : List ℕ). getD x d 0) eq ∙ link.win-prices sheet of ok (winners t) s (R .sizes) p l d (λ i h. let y = sound i h in (y .0, y .2));
+      prices =
+          λ d j. ap (λ (x : List ℕ). getD x d 0) eq ∙ link.win-prices sheet of ok (winners t) s (R .sizes) p l d (λ i h. let y = sound i h in (y .0, y .2));
       hang = rw hg;
     }
 
@@ -122,11 +124,14 @@ module _ (sheet : List ℕ) (of : Size) (ok : Ready sheet of) where
     module _ (i : ℕ) (h : In i l) where
       -- turned down, with the years that close and hang
       down-did : (r : PotState) (sh ha : List ℕ) → r .marks ≡ set (s .marks) i downAlone → r .won ≡ s .won → r .prices ≡ s .prices
-          → Sizes r → ((d : ℕ) → d < 4 → getD (r .opened) d false ≡ (not (memb d sh) && getD (s .opened) d false)) → ha ≡ hangs (r .hang) → Did P (down P i sh ha) s r
+          → Sizes r → ((d : ℕ) → d < 4 → getD (r .opened) d false ≡ (not (memb d sh) && getD (s .opened) d false)) → ha ≡ hangs (r .hang)
+          → Did P (down P i sh ha) s r
       unfolding priceFrom
       down-did r sh ha er ew ep sz op hg = record {
         sizes = sz;
-        marks = λ k. ap (λ (x : List ℕ). getD x k 0) er ∙ put-is (s .marks) i k downAlone 0 (omega (arith, R .sizes .marks, few i h)) ∙ case (eqb k i) (λ t. rw t) (λ f. rw f);
+        marks =
+            λ k. ap (λ (x : List ℕ). getD x k 0) er ∙ put-is (s .marks) i k downAlone 0 (omega (arith, R .sizes .marks, few i h))
+            ∙ case (eqb k i) (λ t. rw t) (λ f. rw f);
         won = λ y j. ap (λ (x : List Bool). getD x y false) ew;
         opened = op;
         prices = λ d j. ap (λ (x : List ℕ). getD x d 0) ep;
@@ -134,7 +139,9 @@ module _ (sheet : List ℕ) (of : Size) (ok : Ready sheet of) where
       }
 
       down-rep : (r : PotState) (sh ha : List ℕ) → Did P (down P i sh ha) s r → Rep P (down P i sh ha ∷ t) r
-      down-rep r sh ha D = rep-did P t (down P i sh ha) s r refl refl (λ k j. rw (in-one j) (not-won P t i (sound i h .1))) (λ k j. in-none j) (λ k j. rw (in-one j) (sound i h .3)) R D
+      down-rep r sh ha D =
+          rep-did P t (down P i sh ha) s r refl refl (λ k j. rw (in-one j) (not-won P t i (sound i h .1))) (λ k j. in-none j)
+          (λ k j. rw (in-one j) (sound i h .3)) R D
 
       sizes : Sizes (turnedOf i s)
       unfolding turnedOf
@@ -148,7 +155,8 @@ module _ (sheet : List ℕ) (of : Size) (ok : Ready sheet of) where
       hung-rep : Rep P (down P i [] (P .yr i ∷ []) ∷ t) (hungOf (rowYear sheet i) (turnedOf i s))
       unfolding turnedOf hungOf hangs potIn
       hung-rep = down-rep r [] (rowYear sheet i ∷ []) (down-did r [] (rowYear sheet i ∷ []) refl refl refl
-          (record { marks = sizes .marks; won = sizes .won; opened = sizes .opened; prices = sizes .prices }) (λ d j. refl) (rw (lt-ltb (rowYear sheet i) 4 (ok .year i (sound i h .0)))))
+          (record { marks = sizes .marks; won = sizes .won; opened = sizes .opened; prices = sizes .prices }) (λ d j. refl)
+          (rw (lt-ltb (rowYear sheet i) 4 (ok .year i (sound i h .0)))))
         where
           r : PotState
           r = hungOf (rowYear sheet i) (turnedOf i s)
@@ -157,8 +165,15 @@ module _ (sheet : List ℕ) (of : Size) (ok : Ready sheet of) where
       unfolding turnedOf shutOf hangs potIn
       shut-rep =
           down-rep r (rowYear sheet i ∷ []) [] (down-did r (rowYear sheet i ∷ []) [] refl refl refl
-          (record { marks = sizes .marks; won = sizes .won; opened = length-set (s .opened) (rowYear sheet i) false ∙ R .sizes .opened; prices = sizes .prices })
-          (λ d j. put-is (s .opened) (rowYear sheet i) d false false (omega (arith, R .sizes .opened, ok .year i (sound i h .0))) ∙ case (eqb d (rowYear sheet i)) (λ t. rw t) (λ f. rw f))
+          (record {
+            marks = sizes .marks;
+            won = sizes .won;
+            opened = length-set (s .opened) (rowYear sheet i) false
+                ∙ R .sizes .opened;
+            prices = sizes .prices;
+          })
+          (λ d j. put-is (s .opened) (rowYear sheet i) d false false (omega (arith, R .sizes .opened, ok .year i (sound i h .0)))
+          ∙ case (eqb d (rowYear sheet i)) (λ t. rw t) (λ f. rw f))
           refl)
         where
           r : PotState
@@ -169,7 +184,8 @@ module _ (sheet : List ℕ) (of : Size) (ok : Ready sheet of) where
   unfolding followsOf soleOf
   sole-is i t s R = rw (of-set t s R) (sym (follows-is P i (taken P t) ∙ opened (taken P t)))
     where
-      opened : (l : List ℕ) → (eqb (length l) 1 && (eqb (P .app (headOr 0 l)) (P .app i) && eqb (P .yr (headOr 0 l)) (P .yr i))) ≡ (eqb (length l) 1 && (eqb (rowApp sheet (headOr 0 l)) (rowApp sheet i) && eqb (rowYear sheet (headOr 0 l)) (rowYear sheet i)))
+      opened : (l : List ℕ) → (eqb (length l) 1 && (eqb (P .app (headOr 0 l)) (P .app i) && eqb (P .yr (headOr 0 l)) (P .yr i)))
+          ≡ (eqb (length l) 1 && (eqb (rowApp sheet (headOr 0 l)) (rowApp sheet i) && eqb (rowYear sheet (headOr 0 l)) (rowYear sheet i)))
       opened l = unfold potIn in refl
 
   module _ (t : Trace) (s : PotState) (R : Rep P t s) where

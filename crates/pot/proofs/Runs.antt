@@ -32,11 +32,13 @@ unfolding run
 run-stop P zero t e = refl
 run-stop P (suc n) t e = rw e
 
-run-on : (P : Pot) (n : ℕ) (t : Trace) (x : ℕ) → In x (taken P t) → run P (suc n) t ≡ pick (look P t (taken P t) .wide) (look P t (taken P t) ∷ t) (run P n (look P t (taken P t) ∷ t))
+run-on : (P : Pot) (n : ℕ) (t : Trace) (x : ℕ) → In x (taken P t)
+    → run P (suc n) t ≡ pick (look P t (taken P t) .wide) (look P t (taken P t) ∷ t) (run P n (look P t (taken P t) ∷ t))
 unfolding run
 run-on P n t x i = walk (taken P t) i
   where
-    walk : (l : List ℕ) → In x l → onward P l t (pick (look P t (taken P t) .wide) (look P t (taken P t) ∷ t) (run P n (look P t (taken P t) ∷ t))) ≡ pick (look P t (taken P t) .wide) (look P t (taken P t) ∷ t) (run P n (look P t (taken P t) ∷ t))
+    walk : (l : List ℕ) → In x l → onward P l t (pick (look P t (taken P t) .wide) (look P t (taken P t) ∷ t) (run P n (look P t (taken P t) ∷ t)))
+        ≡ pick (look P t (taken P t) .wide) (look P t (taken P t) ∷ t) (run P n (look P t (taken P t) ∷ t))
     walk [] i = in-none i
     walk (y ∷ l) i = refl
 
@@ -124,7 +126,16 @@ module _ (sheet : List ℕ) (of : Size) (ok : Ready sheet of) where
 
           go : (j : ℕ) → lives P t ≤ j → auction P ≡ run P j t → Going P r
           go zero h q = absurd (omega (arith, in-length (in-sift (live P t) (held .0) (held .1))))
-          go (suc j) h q = record { trace = event ∷ t; left = j; inv = kept; stands = stands; enough = λ n. omega (arith, less n); on = q ∙ run-on P j t (first .0) (first .1) ∙ opened }
+          go (suc j) h q =
+              record {
+                trace = event ∷ t;
+                left = j;
+                inv = kept;
+                stands = stands;
+                enough = λ n. omega (arith, less n);
+                on = q
+                    ∙ run-on P j t (first .0) (first .1) ∙ opened;
+              }
             where
               opened : pick (event .wide) (event ∷ t) (run P j (event ∷ t)) ≡ pick (wideEnd (event ∷ t)) (event ∷ t) (run P j (event ∷ t))
               opened = unfold wideEnd in refl
@@ -144,7 +155,10 @@ module _ (sheet : List ℕ) (of : Size) (ok : Ready sheet of) where
         R = G .stands .rep n
 
         empty : sift (live P t) (P .bids) ≡ []
-        empty = sym (link.live-list sheet of ok t s R) ∙ none-live (sift (liveOf sheet s) (below (of .bids))) (λ k i. ok .price k (below-in k (of .bids) (sift-in k (liveOf sheet s) (below (of .bids)) i .0))) (opened (rw ep at f))
+        empty =
+            sym (link.live-list sheet of ok t s R)
+            ∙ none-live (sift (liveOf sheet s) (below (of .bids)))
+            (λ k i. ok .price k (below-in k (of .bids) (sift-in k (liveOf sheet s) (below (of .bids)) i .0))) (opened (rw ep at f))
           where
             opened : noPrice ≤ lowestOf sheet s (of .bids) → noPrice ≤ leastOr sheet (sift (liveOf sheet s) (below (of .bids)))
             opened f = unfold lowestOf in f
@@ -167,7 +181,8 @@ module _ (sheet : List ℕ) (of : Size) (ok : Ready sheet of) where
   unfolding fill noMarks
   started-past zero i h g k = at-start 320 i notHere 0 k
   started-past (suc n) i h g k =
-      put-is (fill noMarks (λ i. firstMark (rowStanding sheet i)) n) n i (firstMark (rowStanding sheet n)) 0 (omega (arith, fill-length noMarks (λ i. firstMark (rowStanding sheet i)) n))
+      put-is (fill noMarks (λ i. firstMark (rowStanding sheet i)) n) n i (firstMark (rowStanding sheet n)) 0
+      (omega (arith, fill-length noMarks (λ i. firstMark (rowStanding sheet i)) n))
       ∙ rw (ne-eqb i n (λ e. let y : ⊥ = omega arith in y)) (started-past n i (omega arith) (omega arith) k)
 
   pub started-stands : {s : PotState} → s ≡ startedOf sheet of → Stands P [] s
@@ -193,7 +208,8 @@ module _ (sheet : List ℕ) (of : Size) (ok : Ready sheet of) where
       others : (i : ℕ) → i < 320 → memb i (P .bids) ≡ false → getD ((startedOf sheet of) .marks) i 0 ≡ notHere
       others i h f =
           case (ltb i (of .bids))
-          (λ t. started-at i (ltb-true i (of .bids) t) ∙ case (inAuction sheet i) (λ e. clash (in-memb (link.bid sheet of ok i (ltb-true i (of .bids) t) e)) f) (λ g. rw g))
+          (λ t. started-at i (ltb-true i (of .bids) t)
+          ∙ case (inAuction sheet i) (λ e. clash (in-memb (link.bid sheet of ok i (ltb-true i (of .bids) t) e)) f) (λ g. rw g))
           (λ t. past i (ltb-false i (of .bids) t) h)
         where
           past : (i : ℕ) → of .bids ≤ i → i < 320 → getD ((startedOf sheet of) .marks) i 0 ≡ notHere

@@ -56,7 +56,8 @@ module _ (sheet : List ℕ) where
   none-at q [] h = refl
   none-at q (x ∷ l) h = let y = h x (here refl) in rw (ne-eqb (rowPrice sheet x) q (λ e. let w : ⊥ = omega arith in w)) (none-at q l (λ k i. h k (there i)))
 
-  pub look-parts : (l : List ℕ) → ((lookOf sheet l) .price ≡ leastOr sheet l) × ((lookOf sheet l) .count ≡ length (cheapest l)) × ((lookOf sheet l) .last ≡ headOr 0 (cheapest l))
+  pub look-parts : (l : List ℕ) → ((lookOf sheet l) .price ≡ leastOr sheet l) × ((lookOf sheet l) .count ≡ length (cheapest l)) ×
+      ((lookOf sheet l) .last ≡ headOr 0 (cheapest l))
   unfolding lookOf leastOr
   look-parts [] = (refl, refl, refl)
   look-parts (x ∷ l) = let r = look-parts l in joins (lookOf sheet l) (r .0) (r .1) (r .2)
@@ -104,12 +105,15 @@ module _ (sheet : List ℕ) (s : PotState) (j : ℕ) {l : Look} (e : l ≡ lookO
     pass-miss h = rw (add-one j, ← ei, sym eb ∙ h, e)
 
   pub pass-few : l .count ≤ j
-  pass-few = rw e (omega (arith, look-few sheet (sift (liveOf sheet s) (entrants sheet j)), sift-le (liveOf sheet s) (entrants sheet j), entrants-length sheet j))
+  pass-few =
+      rw e (omega (arith, look-few sheet (sift (liveOf sheet s) (entrants sheet j)), sift-le (liveOf sheet s) (entrants sheet j), entrants-length sheet j))
 
 module _ (sheet : List ℕ) (of : Size) (s : PotState) (ck : Ready sheet of) where
   -- the live bids all entered
   live-listed : Others sheet of s → sift (liveOf sheet s) (sift (inAuction sheet) (below (of .bids))) ≡ sift (liveOf sheet s) (below (of .bids))
-  live-listed o = sift-both (liveOf sheet s) (inAuction sheet) (below (of .bids)) ∙ sift-same (λ i. inAuction sheet i && liveOf sheet s i) (liveOf sheet s) (below (of .bids)) (λ k i. same k (below-in k (of .bids) i))
+  live-listed o =
+      sift-both (liveOf sheet s) (inAuction sheet) (below (of .bids))
+      ∙ sift-same (λ i. inAuction sheet i && liveOf sheet s i) (liveOf sheet s) (below (of .bids)) (λ k i. same k (below-in k (of .bids) i))
     where
       same : (k : ℕ) → k < of .bids → (inAuction sheet k && liveOf sheet s k) ≡ liveOf sheet s k
       same k h = unfold liveOf in case (inAuction sheet k) (λ t. rw t) (λ f. rw (f, o k h f))
@@ -126,7 +130,8 @@ module _ (sheet : List ℕ) (of : Size) (s : PotState) (ck : Ready sheet of) whe
       let y = look-parts sheet (sift (liveOf sheet s) (below (of .bids))) in
       record { price = y .0; count = y .1 ∙ ap length (sym taken-list); last = y .2 ∙ ap (headOr 0) (sym taken-list) }
 
-  pub pass-looked : {j : ℕ} {l : Look} → Others sheet of s → l ≡ lookOf sheet (sift (liveOf sheet s) (entrants sheet j)) → j ≤ of .entered → of .entered ≤ j → Looked sheet of s l
+  pub pass-looked : {j : ℕ} {l : Look} → Others sheet of s → l ≡ lookOf sheet (sift (liveOf sheet s) (entrants sheet j)) → j ≤ of .entered → of .entered ≤ j
+      → Looked sheet of s l
   pass-looked o e h g = rw (e, le-antisymm h g, ck .listed, live-listed o) look-all
 
 -- a sole bid is one of the sheet's, and is live
@@ -140,7 +145,8 @@ sole-in {sheet} {of} {s} K h = rw (K .last) (head-in (members (takenOf sheet of 
 module _ {sheet : List ℕ} {of : Size} {s : PotState} {l : Look} (ck : Ready sheet of) (K : Looked sheet of s l) (h : l .count ≡ 1) where
   held : In (l .last) (below (of .bids)) × (liveOf sheet s (l .last) ≡ true)
   held = sift-in (l .last) (liveOf sheet s) (below (of .bids))
-      (sift-in (l .last) (λ i. eqb (rowPrice sheet i) (leastOr sheet (sift (liveOf sheet s) (below (of .bids))))) (sift (liveOf sheet s) (below (of .bids))) (rw (taken-list sheet of s ck) at (sole-in K h)) .0)
+      (sift-in (l .last) (λ i. eqb (rowPrice sheet i) (leastOr sheet (sift (liveOf sheet s) (below (of .bids))))) (sift (liveOf sheet s) (below (of .bids)))
+      (rw (taken-list sheet of s ck) at (sole-in K h)) .0)
 
   pub sole-small : l .last < of .bids
   sole-small = below-in (l .last) (of .bids) (held .0)
@@ -148,5 +154,7 @@ module _ {sheet : List ℕ} {of : Size} {s : PotState} {l : Look} (ck : Ready sh
   pub sole-fresh : eqb (getD (s .marks) (l .last) 0) becauseWon ≡ false
   sole-fresh = rw (eqb-true (getD (s .marks) (l .last) 0) noReason (and-true (eqb (getD (s .marks) (l .last) 0) noReason) _ (opened (held .1)) .0)) refl
     where
-      opened : liveOf sheet s (l .last) ≡ true → (eqb (getD (s .marks) (l .last) 0) noReason && (not (getD (s .won) (rowApp sheet (l .last)) false) && getD (s .opened) (rowYear sheet (l .last)) false)) ≡ true
+      opened : liveOf sheet s (l .last) ≡ true
+          → (eqb (getD (s .marks) (l .last) 0)
+          noReason && (not (getD (s .won) (rowApp sheet (l .last)) false) && getD (s .opened) (rowYear sheet (l .last)) false)) ≡ true
       opened e = unfold liveOf in e

@@ -15,7 +15,8 @@ use Rattle.sheet.specs.Sheet.{potIn, Ready, inAuction}
 use Rattle.totals.specs.Totals.{totalOf, rowFits}
 use Rattle.pot.specs.declared.PotState.{PotState}
 use Rattle.pot.specs.declared.Look.{Look}
-use Rattle.pot.specs.Marks.{lowestOf, atOf, winOf, winAll, Looked, settledOf, takenOf, aloneOf, tieOf, yearSum, withSums, renewedOf, totalledOf, triedOf, trialOf, Summed}
+use Rattle.pot.specs.Marks.{lowestOf, atOf, winOf, winAll, Looked, settledOf, takenOf, aloneOf, tieOf, yearSum, withSums, renewedOf, totalledOf}
+use Rattle.pot.specs.Marks.{triedOf, trialOf, Summed}
 use Rattle.pot.specs.Rep.{Rep, Stepped}
 use Rattle.pot.proofs.Looks as looks
 use Rattle.pot.proofs.Ties as ties
@@ -43,25 +44,32 @@ module _ {sheet : List ℕ} {of : Size} {s : PotState} {l : Look} (K : Looked sh
   one-taken = only (members (takenOf sheet of s) (of .bids)) (K .count) h (K .last)
 
   pub one-tried : {v : PotState} → v ≡ triedOf sheet of (l .price) (l .last) s
-      → v ≡ withSums ((triedOf sheet of (l .price) (l .last) s) .sums) ((triedOf sheet of (l .price) (l .last) s) .totals) (winAll sheet (l .price) s (members (takenOf sheet of s) (of .bids)))
+      → v ≡ withSums ((triedOf sheet of (l .price) (l .last) s) .sums) ((triedOf sheet of (l .price) (l .last) s) .totals)
+      (winAll sheet (l .price) s (members (takenOf sheet of s) (of .bids)))
   one-tried ev = rw (ev, one-taken) opened
     where
-      opened : triedOf sheet of (l .price) (l .last) s ≡ withSums ((triedOf sheet of (l .price) (l .last) s) .sums) ((triedOf sheet of (l .price) (l .last) s) .totals) (winAll sheet (l .price) s (l .last ∷ []))
+      opened : triedOf sheet of (l .price) (l .last) s
+          ≡ withSums ((triedOf sheet of (l .price) (l .last) s) .sums) ((triedOf sheet of (l .price) (l .last) s) .totals)
+          (winAll sheet (l .price) s (l .last ∷ []))
       opened = unfold winAll triedOf totalledOf renewedOf withSums in refl
 
 -- the live bids at the lowest live price are those taken
-pub taken-is : (sheet : List ℕ) (of : Size) {p : ℕ} (s : PotState) {a : List Bool} → p ≡ lowestOf sheet s (of .bids) → a ≡ built (atOf sheet s p) (of .bids) → a ≡ takenOf sheet of s
+pub taken-is : (sheet : List ℕ) (of : Size) {p : ℕ} (s : PotState) {a : List Bool} → p ≡ lowestOf sheet s (of .bids) → a ≡ built (atOf sheet s p) (of .bids)
+    → a ≡ takenOf sheet of s
 unfolding takenOf
 taken-is sheet of s ep ea = rw (ea, ep)
 
 pub many-tried : (sheet : List ℕ) (of : Size) (p : ℕ) (s : PotState) {v : PotState} {a : List Bool} → a ≡ takenOf sheet of s → v ≡ trialOf sheet of p a s
-    → v ≡ withSums ((trialOf sheet of p (takenOf sheet of s) s) .sums) ((trialOf sheet of p (takenOf sheet of s) s) .totals) (winAll sheet p s (members (takenOf sheet of s) (of .bids)))
+    → v ≡ withSums ((trialOf sheet of p (takenOf sheet of s) s) .sums) ((trialOf sheet of p (takenOf sheet of s) s) .totals)
+    (winAll sheet p s (members (takenOf sheet of s) (of .bids)))
 unfolding trialOf
 many-tried sheet of p s ea ev = rw (ev, ea) (revalued-sums sheet of (winAll sheet p s (members (takenOf sheet of s) (of .bids))))
 
 -- ---- a step
-module _ (sheet : List ℕ) (of : Size) (ok : Ready sheet of) (s : PotState) {p : ℕ} (k q : List ℕ) {v : PotState} {f : Bool} (ep : p ≡ lowestOf sheet s (of .bids))
-    (ev : v ≡ withSums k q (winAll sheet p s (members (takenOf sheet of s) (of .bids)))) (Sv : Summed sheet of v) (ef : f ≡ rowFits sheet (v .totals) (of .years)) where
+module _ (sheet : List ℕ) (of : Size) (ok : Ready sheet of) (s : PotState) {p : ℕ} (k q : List ℕ) {v : PotState} {f : Bool}
+    (ep : p ≡ lowestOf sheet s (of .bids))
+    (ev : v ≡ withSums k q (winAll sheet p s (members (takenOf sheet of s) (of .bids)))) (Sv : Summed sheet of v)
+    (ef : f ≡ rowFits sheet (v .totals) (of .years)) where
   module _ (t : Trace) where
     abbrev P : Pot
     P = potIn sheet of
@@ -87,7 +95,8 @@ module _ (sheet : List ℕ) (of : Size) (ok : Ready sheet of) (s : PotState) {p 
   unfolding look wideEnd
   step-fits g e t x S n i =
       let R = S .rep n in
-      rw (sym (fits-is t R) ∙ g, e, tried t R, settled-sums k q (winAll sheet (lowestOf sheet s (of .bids)) s (taken (potIn sheet of) t))) (stands-sums k q (record {
+      rw (sym (fits-is t R) ∙ g, e, tried t R, settled-sums k q (winAll sheet (lowestOf sheet s (of .bids)) s (taken (potIn sheet of) t)))
+      (stands-sums k q (record {
         wide = looks.won-wide sheet of ok t s R ∙ S .wide ∙ n;
         rep = λ q. looks.won-rep sheet of ok t s R;
       }))
@@ -114,7 +123,8 @@ module _ (sheet : List ℕ) (of : Size) (ok : Ready sheet of) (s : PotState) {p 
         not-wide P t i = unfold alone in case (follows P i (taken P (down P i [] [] ∷ t))) (λ u. rw u) (λ u. rw u)
 
     -- several do not
-    pub step-tie : {a : List Bool} {r : PotState} → a ≡ takenOf sheet of s → (length (members (takenOf sheet of s) (of .bids)) ≡ 1 → ⊥) → r ≡ tieOf sheet of a p s → Stepped (potIn sheet of) s r
+    pub step-tie : {a : List Bool} {r : PotState} → a ≡ takenOf sheet of s → (length (members (takenOf sheet of s) (of .bids)) ≡ 1 → ⊥)
+        → r ≡ tieOf sheet of a p s → Stepped (potIn sheet of) s r
     step-tie ea q e t x S n j =
         let P = potIn sheet of in
         let R = S .rep n in

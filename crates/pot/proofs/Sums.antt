@@ -22,7 +22,9 @@ use Rattle.totals.specs.Totals.{worthOf, totalOf, partOn, partOf, noRow, filled
 use Rattle.totals.proofs.Laws.{fits-same, row-none}
 use Rattle.totals.proofs.Parts.{part-most, total-parts}
 use Rattle.pot.specs.declared.PotState.{PotState}
-use Rattle.pot.specs.Marks.{winOf, winAll, turnAll, turnOf, turnedOf, hungOf, shutOf, settledOf, widened, aloneOf, followsOf, sharedOf, choiceIn, restOf, tieOf, firstMark, noMarks, startedOf, sumsSize, yearSum, mostSum, withSums, renewedRow, renewedOf, renewedTo, totalledOf, revaluedOf, triedOf, trialOf, Parted, Summed}
+use Rattle.pot.specs.Marks.{winOf, winAll, turnAll, turnOf, turnedOf, hungOf, shutOf, settledOf, widened, aloneOf, followsOf, sharedOf, choiceIn}
+use Rattle.pot.specs.Marks.{restOf, tieOf, firstMark, noMarks, startedOf, sumsSize, yearSum, mostSum, withSums, renewedRow, renewedOf, renewedTo}
+use Rattle.pot.specs.Marks.{totalledOf, revaluedOf, triedOf, trialOf, Parted, Summed}
 use Rattle.pot.specs.Rep.{Rep, Stands}
 
 -- ---- a row of the sums is written: its own places, and those of another year
@@ -39,12 +41,30 @@ laid-other l d row n c y h k i = placed-other (λ x. getD row x 0) l (d * 8) n (
 
 pub renewed-is : (sheet : List ℕ) (of : Size) (d : ℕ) (s : PotState) {row sums : List ℕ} → row ≡ renewedRow sheet of d s
     → sums ≡ placed (λ y. getD row y 0) (s .sums) (d * columns) (of .years)
-    → _≡_ {A = PotState} (record { marks = s .marks; won = s .won; opened = s .opened; prices = s .prices; sums = sums; totals = s .totals; hang = s .hang; wide = s .wide }) (renewedOf sheet of d s)
+    → _≡_ {A = PotState} (record {
+      marks = s .marks;
+      won = s .won;
+      opened = s .opened;
+      prices = s .prices;
+      sums = sums;
+      totals = s .totals;
+      hang = s .hang;
+      wide = s .wide;
+    }) (renewedOf sheet of d s)
 unfolding renewedOf withSums
 renewed-is sheet of d s er es = rw (es, er)
 
 pub totalled-is : (of : Size) (s : PotState) {row : List ℕ} → row ≡ filled (yearSum (s .sums)) (of .years)
-    → _≡_ {A = PotState} (record { marks = s .marks; won = s .won; opened = s .opened; prices = s .prices; sums = s .sums; totals = row; hang = s .hang; wide = s .wide }) (totalledOf of s)
+    → _≡_ {A = PotState} (record {
+      marks = s .marks;
+      won = s .won;
+      opened = s .opened;
+      prices = s .prices;
+      sums = s .sums;
+      totals = row;
+      hang = s .hang;
+      wide = s .wide;
+    }) (totalledOf of s)
 unfolding totalledOf withSums
 totalled-is of s er = rw er
 
@@ -52,16 +72,19 @@ pub revalued-is : (sheet : List ℕ) (of : Size) (s : PotState) {t r : PotState}
 unfolding revaluedOf
 revalued-is sheet of s et er = rw (er, et)
 
-pub tried-is : (sheet : List ℕ) (of : Size) (p i : ℕ) (s : PotState) {d : ℕ} {u t r : PotState} → d ≡ rowYear sheet i → u ≡ winOf sheet p i s → t ≡ renewedOf sheet of d u → r ≡ totalledOf of t
+pub tried-is : (sheet : List ℕ) (of : Size) (p i : ℕ) (s : PotState) {d : ℕ} {u t r : PotState} → d ≡ rowYear sheet i → u ≡ winOf sheet p i s
+    → t ≡ renewedOf sheet of d u → r ≡ totalledOf of t
     → r ≡ triedOf sheet of p i s
 unfolding triedOf
 tried-is sheet of p i s ed eu et er = rw (er, et, eu, ed)
 
-pub trial-is : (sheet : List ℕ) (of : Size) (p : ℕ) (l : List Bool) (s : PotState) {u r : PotState} → u ≡ winAll sheet p s (members l (of .bids)) → r ≡ revaluedOf sheet of u → r ≡ trialOf sheet of p l s
+pub trial-is : (sheet : List ℕ) (of : Size) (p : ℕ) (l : List Bool) (s : PotState) {u r : PotState} → u ≡ winAll sheet p s (members l (of .bids))
+    → r ≡ revaluedOf sheet of u → r ≡ trialOf sheet of p l s
 unfolding trialOf
 trial-is sheet of p l s eu er = rw (er, eu)
 
-pub renewed-next : (sheet : List ℕ) (of : Size) (s : PotState) (d : ℕ) {t r : PotState} → t ≡ renewedTo sheet of s d → r ≡ renewedOf sheet of d t → r ≡ renewedTo sheet of s (d + 1)
+pub renewed-next : (sheet : List ℕ) (of : Size) (s : PotState) (d : ℕ) {t r : PotState} → t ≡ renewedTo sheet of s d → r ≡ renewedOf sheet of d t
+    → r ≡ renewedTo sheet of s (d + 1)
 unfolding renewedTo
 renewed-next sheet of s d et er = rw (add-one d, er, et)
 
@@ -73,8 +96,12 @@ module _ (sheet marks : List ℕ) (price i v : ℕ) where
   part-other d y [] h = refl
   part-other d y (n ∷ l) h = rw (part-other d y l h) (ap (λ (x : ℕ). partOn sheet marks price d y l + x) (same (eqb n i) refl))
     where
-      same : (b : Bool) → eqb n i ≡ b → pick (eqb (getD (set marks i v) n 0) becauseWon && eqb (rowYear sheet n) d) (worthOf sheet n price y) 0 ≡ pick (eqb (getD marks n 0) becauseWon && eqb (rowYear sheet n) d) (worthOf sheet n price y) 0
-      same true t = rw (eqb-true n i t, ne-eqb (rowYear sheet i) d h) (none (eqb (getD (set marks i v) i 0) becauseWon) ∙ sym (none (eqb (getD marks i 0) becauseWon)))
+      same : (b : Bool) → eqb n i ≡ b
+          → pick (eqb (getD (set marks i v) n 0) becauseWon && eqb (rowYear sheet n) d) (worthOf sheet n price y) 0
+          ≡ pick (eqb (getD marks n 0) becauseWon && eqb (rowYear sheet n) d) (worthOf sheet n price y) 0
+      same true t =
+          rw (eqb-true n i t, ne-eqb (rowYear sheet i) d h)
+          (none (eqb (getD (set marks i v) i 0) becauseWon) ∙ sym (none (eqb (getD marks i 0) becauseWon)))
         where
           none : (b : Bool) → pick (b && false) (worthOf sheet i price y) 0 ≡ 0
           none true = refl
@@ -82,7 +109,8 @@ module _ (sheet marks : List ℕ) (price i v : ℕ) where
       same false f = rw (getD-set-other marks i n v 0 (eqb-false n i f))
 
   -- a bid that did not win and does not
-  part-down : (d y : ℕ) (l : List ℕ) → eqb v becauseWon ≡ false → eqb (getD marks i 0) becauseWon ≡ false → partOn sheet (set marks i v) price d y l ≡ partOn sheet marks price d y l
+  part-down : (d y : ℕ) (l : List ℕ) → eqb v becauseWon ≡ false → eqb (getD marks i 0) becauseWon ≡ false
+      → partOn sheet (set marks i v) price d y l ≡ partOn sheet marks price d y l
   unfolding partOn
   part-down d y [] g h = refl
   part-down d y (n ∷ l) g h = rw (part-down d y l g h) (ap (λ (x : ℕ). partOn sheet marks price d y l + x) (same (eqb n i) refl))
@@ -92,12 +120,15 @@ module _ (sheet marks : List ℕ) (price i v : ℕ) where
       lost (x ∷ l) zero e = g
       lost (x ∷ l) (suc k) e = lost l k e
 
-      same : (b : Bool) → eqb n i ≡ b → pick (eqb (getD (set marks i v) n 0) becauseWon && eqb (rowYear sheet n) d) (worthOf sheet n price y) 0 ≡ pick (eqb (getD marks n 0) becauseWon && eqb (rowYear sheet n) d) (worthOf sheet n price y) 0
+      same : (b : Bool) → eqb n i ≡ b
+          → pick (eqb (getD (set marks i v) n 0) becauseWon && eqb (rowYear sheet n) d) (worthOf sheet n price y) 0
+          ≡ pick (eqb (getD marks n 0) becauseWon && eqb (rowYear sheet n) d) (worthOf sheet n price y) 0
       same true t = rw (eqb-true n i t, lost marks i h, h)
       same false f = rw (getD-set-other marks i n v 0 (eqb-false n i f))
 
 -- no bid has won
-part-none : (sheet marks : List ℕ) (price d y : ℕ) (l : List ℕ) → ((k : ℕ) → In k l → eqb (getD marks k 0) becauseWon ≡ false) → partOn sheet marks price d y l ≡ 0
+part-none : (sheet marks : List ℕ) (price d y : ℕ) (l : List ℕ) → ((k : ℕ) → In k l → eqb (getD marks k 0) becauseWon ≡ false)
+    → partOn sheet marks price d y l ≡ 0
 unfolding partOn
 part-none sheet marks price d y [] h = refl
 part-none sheet marks price d y (n ∷ l) h = rw (part-none sheet marks price d y l (λ k i. h k (there i)), h n (here refl))
@@ -109,7 +140,9 @@ module _ (sheet : List ℕ) (of : Size) where
   summed-turned i s h S = record {
     parts = record {
       size = S .parts .size;
-      part = λ d y g k. S .parts .part d y g k ∙ sym (part-down sheet (s .marks) (getD (s .prices) d 0) i 2 d y (sift (inAuction sheet) (below (of .bids))) refl h);
+      part =
+          λ d y g k. S .parts .part d y g k
+          ∙ sym (part-down sheet (s .marks) (getD (s .prices) d 0) i 2 d y (sift (inAuction sheet) (below (of .bids))) refl h);
     };
     row = S .row;
   }
@@ -149,7 +182,8 @@ module _ (sheet : List ℕ) (of : Size) where
 
   -- ---- what makes them right
   -- a bid wins, and its year is renewed: the other years are as before
-  pub parted-win : (p i : ℕ) (s : PotState) {d : ℕ} {u r : PotState} → of .years ≤ 8 → rowYear sheet i < 4 → d ≡ rowYear sheet i → u ≡ winOf sheet p i s → r ≡ renewedOf sheet of d u → Parted sheet of s → Parted sheet of r
+  pub parted-win : (p i : ℕ) (s : PotState) {d : ℕ} {u r : PotState} → of .years ≤ 8 → rowYear sheet i < 4 → d ≡ rowYear sheet i → u ≡ winOf sheet p i s
+      → r ≡ renewedOf sheet of d u → Parted sheet of s → Parted sheet of r
   unfolding renewedOf withSums winOf partOf
   parted-win p i s {d} ly ld ed eu er S = rw (er, eu, ed) (record {
     size = placed-length (λ x. getD (filled part (of .years)) x 0) (s .sums) (rowYear sheet i * 8) (of .years) ∙ S .size;
@@ -158,7 +192,8 @@ module _ (sheet : List ℕ) (of : Size) where
         (λ f.
         let n = eqb-false c (rowYear sheet i) f in
         laid-other (s .sums) (rowYear sheet i) (filled part (of .years)) (of .years) c y n ly (omega arith) ∙ S .part c y g k
-        ∙ rw (getD-set-other (s .prices) (rowYear sheet i) c p 0 n) (sym (part-other sheet (s .marks) (getD (s .prices) c 0) i becauseWon c y (sift (inAuction sheet) (below (of .bids))) (λ e. n (sym e)))));
+        ∙ rw (getD-set-other (s .prices) (rowYear sheet i) c p 0 n)
+        (sym (part-other sheet (s .marks) (getD (s .prices) c 0) i becauseWon c y (sift (inAuction sheet) (below (of .bids))) (λ e. n (sym e)))));
   })
     where
       part : ℕ → ℕ
@@ -186,7 +221,9 @@ module _ (sheet : List ℕ) (of : Size) where
     renewed-parts zero h g k d y i j = absurd (omega arith)
     renewed-parts (suc n) h g k d y i j = case (eqb d n)
         (λ t. rw (eqb-true d n t) (laid-filled ((renewedTo sheet of s n) .sums) n part (of .years) y (renewed-size n ∙ h) k g j ∙ same))
-        (λ f. let e = eqb-false d n f in laid-other ((renewedTo sheet of s n) .sums) n (filled part (of .years)) (of .years) d y e g (omega arith) ∙ renewed-parts n h g (omega arith) d y (omega arith) j)
+        (λ f. let e = eqb-false d n f in
+        laid-other ((renewedTo sheet of s n) .sums) n (filled part (of .years)) (of .years) d y e g (omega arith)
+        ∙ renewed-parts n h g (omega arith) d y (omega arith) j)
       where
         part : ℕ → ℕ
         part y = partOf sheet ((renewedTo sheet of s n) .marks) (getD ((renewedTo sheet of s n) .prices) n 0) n y (of .bids)
@@ -198,12 +235,15 @@ module _ (sheet : List ℕ) (of : Size) where
     unfolding withSums
     parted-renewed h g e = rw e (record {
       size = renewed-size 4 ∙ h;
-      part = λ d y i j. renewed-parts 4 h g (omega arith) d y i j ∙ sym (ap (λ (t : PotState). partOf sheet (t .marks) (getD (t .prices) d 0) d y (of .bids)) (renewed-sums 4));
+      part =
+          λ d y i j. renewed-parts 4 h g (omega arith) d y i j
+          ∙ sym (ap (λ (t : PotState). partOf sheet (t .marks) (getD (t .prices) d 0) d y (of .bids)) (renewed-sums 4));
     })
 
     pub revalued-sums : revaluedOf sheet of s ≡ withSums ((revaluedOf sheet of s) .sums) ((revaluedOf sheet of s) .totals) s
     unfolding revaluedOf totalledOf withSums
-    revalued-sums = ap (λ (t : PotState). withSums ((renewedTo sheet of s 4) .sums) (filled (yearSum ((renewedTo sheet of s 4) .sums)) (of .years)) t) (renewed-sums 4)
+    revalued-sums =
+        ap (λ (t : PotState). withSums ((renewedTo sheet of s 4) .sums) (filled (yearSum ((renewedTo sheet of s 4) .sums)) (of .years)) t) (renewed-sums 4)
 
     pub summed-revalued : {r : PotState} → length (s .sums) ≡ sumsSize → of .years ≤ 8 → r ≡ revaluedOf sheet of s → Summed sheet of r
     unfolding revaluedOf
@@ -213,7 +253,13 @@ module _ (sheet : List ℕ) (of : Size) where
   pub summed-started : {s : PotState} → of .bids ≤ 320 → of .years ≤ 8 → s ≡ startedOf sheet of → Summed sheet of s
   unfolding startedOf partOf
   summed-started h g e = rw e (record {
-    parts = record { size = refl; part = λ d y i j. zeros 32 (d * 8 + y) ∙ sym (part-none sheet (fill noMarks (λ i. firstMark (rowStanding sheet i)) (of .bids)) (getD (replicate 4 _) d 0) d y (sift (inAuction sheet) (below (of .bids))) (λ k i. fresh k (below-in k (of .bids) (sift-in k (inAuction sheet) (below (of .bids)) i .0)))) };
+    parts =
+        record {
+          size = refl;
+          part = λ d y i j. zeros 32 (d * 8 + y)
+              ∙ sym (part-none sheet (fill noMarks (λ i. firstMark (rowStanding sheet i)) (of .bids)) (getD (replicate 4 _) d 0) d y
+              (sift (inAuction sheet) (below (of .bids))) (λ k i. fresh k (below-in k (of .bids) (sift-in k (inAuction sheet) (below (of .bids)) i .0))));
+        };
     row = start g ∙ ap (λ (f : ℕ → ℕ). filled f (of .years)) (λ j y. sym (blank y) j);
   })
     where
@@ -287,7 +333,8 @@ module _ {sheet : List ℕ} {of : Size} {s : PotState} (S : Parted sheet of s) (
       at3 = let e : 24 + y ≡ 3 * 8 + y = omega arith in ap (λ (k : ℕ). getD (s .sums) k 0) e ∙ S .part 3 y (omega arith) h
 
   -- where the winners all entered the auction
-  pub sum-total : Ready sheet of → ((k : ℕ) → k < of .bids → inAuction sheet k ≡ false → eqb (getD (s .marks) k 0) becauseWon ≡ false) → yearSum (s .sums) y ≡ totalOf sheet (s .marks) (s .prices) y (of .bids)
+  pub sum-total : Ready sheet of → ((k : ℕ) → k < of .bids → inAuction sheet k ≡ false → eqb (getD (s .marks) k 0) becauseWon ≡ false)
+      → yearSum (s .sums) y ≡ totalOf sheet (s .marks) (s .prices) y (of .bids)
   sum-total ok others = four ∙ sym (total-parts sheet of (s .marks) (s .prices) y ok others)
 
   pub sum-most : Ready sheet of → yearSum (s .sums) y ≤ mostSum
@@ -303,12 +350,14 @@ module _ (l : List ℕ) (y : ℕ) where
   added-is = omega arith
 
   pub added-low : yearSum l y ≤ mostSum
-      → (getD l y 0 + getD l (8 + y) 0 ≤ mostSum) × (getD l y 0 + getD l (8 + y) 0 + getD l (16 + y) 0 ≤ mostSum) × (getD l y 0 + getD l (8 + y) 0 + getD l (16 + y) 0 + getD l (24 + y) 0 ≤ mostSum)
+      → (getD l y 0 + getD l (8 + y) 0 ≤ mostSum) × (getD l y 0 + getD l (8 + y) 0 + getD l (16 + y) 0 ≤ mostSum) ×
+      (getD l y 0 + getD l (8 + y) 0 + getD l (16 + y) 0 + getD l (24 + y) 0 ≤ mostSum)
   added-low h = (omega (arith, added-is), omega (arith, added-is), omega (arith, added-is))
 
 -- the row of year totals fits where the sums do
 pub row-fits : (f : ℕ → ℕ) (sheet : List ℕ) (n : ℕ) {row : List ℕ} {b : Bool} → n ≤ 8 → row ≡ filled f n → b ≡ rowFits sheet row n → b ≡ fitsTo f sheet n
-row-fits f sheet n h er eb = eb ∙ ap (λ (r : List ℕ). rowFits sheet r n) er ∙ fits-same (λ y. getD (filled f n) y 0) f sheet n (λ y g. fill-at noRow f n y 0 size g)
+row-fits f sheet n h er eb =
+    eb ∙ ap (λ (r : List ℕ). rowFits sheet r n) er ∙ fits-same (λ y. getD (filled f n) y 0) f sheet n (λ y g. fill-at noRow f n y 0 size g)
   where
     size : n ≤ length noRow
     size = unfold noRow in h

@@ -137,7 +137,9 @@ module _ (sheet : List ℕ) (of : Size) (ok : Ready sheet of) where
             turn-marks sheet downTied v sv out i (λ c j. few c (in-out c j .0))
             ∙ ap (pick (memb i out) downTied) (win-marks sheet p s (R .sizes) ch i (λ c j. few c (in-choice c j)))
             ∙ swap i;
-        won = λ y j. ap (λ (q : List Bool). getD q y false) (turn-won sheet downTied v sv out) ∙ win-won sheet p s (R .sizes) ch y (λ c g. ok .app c (sound c (in-choice c g) .0));
+        won =
+            λ y j. ap (λ (q : List Bool). getD q y false) (turn-won sheet downTied v sv out)
+            ∙ win-won sheet p s (R .sizes) ch y (λ c g. ok .app c (sound c (in-choice c g) .0));
         opened = λ d j.
             turn-opened sheet downTied v sv out d (λ c g. ok .year c (sound c (in-out c g .0) .0))
             ∙ ap (λ (q : List Bool). not (memb d (map (rowYear sheet) out)) && getD q d false) (win-opened sheet p s (R .sizes) ch);
@@ -147,7 +149,8 @@ module _ (sheet : List ℕ) (of : Size) (ok : Ready sheet of) where
         hang = refl;
       }
         where
-          swap : (i : ℕ) → pick (memb i out) downTied (pick (memb i ch) becauseWon (getD (s .marks) i 0)) ≡ pick (memb i ch) becauseWon (pick (memb i out) downTied (getD (s .marks) i 0))
+          swap : (i : ℕ) → pick (memb i out) downTied (pick (memb i ch) becauseWon (getD (s .marks) i 0))
+              ≡ pick (memb i ch) becauseWon (pick (memb i out) downTied (getD (s .marks) i 0))
           swap i = case (memb i out) (λ e. rw (e, in-out i (memb-in i out e) .1)) (λ e. rw e)
 
       -- the arrays after a tie that is not too wide
@@ -155,7 +158,8 @@ module _ (sheet : List ℕ) (of : Size) (ok : Ready sheet of) where
       unfolding sharedOf
       shared-rep =
           rw (of-choice, of-others)
-          (rep-did P t (shared P t l) s x refl refl (λ i j. new i (in-out i j .0)) (λ i j. sound i (in-choice i j) .3) (λ i j. sound i (in-out i j .0) .3) R shared-did)
+          (rep-did P t (shared P t l) s x refl refl (λ i j. new i (in-out i j .0)) (λ i j. sound i (in-choice i j) .3)
+          (λ i j. sound i (in-out i j .0) .3) R shared-did)
 
       shared-wide : (sharedOf sheet of a w p s) .wide ≡ s .wide
       unfolding sharedOf hungOf

@@ -142,7 +142,8 @@ pub record Looking (sheet : List ℕ) (of : Size) (s : PotState) : Type 0 where
 
 -- a look that sees one more bid, k at a price; and of a list of bids
 unfoldable pub joinedOf : Look → (q k : ℕ) → Look
-joinedOf l q k = pick (ltb (l .price) q) l (pick (ltb q (l .price)) (record { price = q; count = 1; last = k }) (record { price = q; count = l .count + 1; last = k }))
+joinedOf l q k =
+    pick (ltb (l .price) q) l (pick (ltb q (l .price)) (record { price = q; count = 1; last = k }) (record { price = q; count = l .count + 1; last = k }))
 
 unfoldable pub lookOf : (sheet : List ℕ) → List ℕ → Look
 lookOf sheet [] = record { price = noPrice; count = 0; last = 0 }
@@ -167,7 +168,8 @@ aloneOf sheet of k s = pick (followsOf sheet of k (turnedOf k s)) (hungOf (rowYe
 
 -- those chosen of a set win, the others are turned down
 unfoldable pub sharedOf : (sheet : List ℕ) (of : Size) (l wins : List Bool) (price : ℕ) → PotState → PotState
-sharedOf sheet of l wins price s = hungOf noYear (turnAll sheet downTied (winAll sheet price s (members wins (of .bids))) (members (built (without l wins) (of .bids)) (of .bids)))
+sharedOf sheet of l wins price s =
+    hungOf noYear (turnAll sheet downTied (winAll sheet price s (members wins (of .bids))) (members (built (without l wins) (of .bids)) (of .bids)))
 
 -- ---- the sums by delivery year
 
@@ -246,11 +248,13 @@ restOf sheet of l price s = built (keepsOf sheet of (basesOf sheet of (s .marks)
 
 unfoldable pub choiceIn : (sheet : List ℕ) (of : Size) (l : List Bool) (price : ℕ) → PotState → List Bool
 choiceIn sheet of l price s =
-    choiceOf sheet of (basesOf sheet of (s .marks) (s .prices) price) (restOf sheet of l price s) (length (members (restOf sheet of l price s) (of .bids))) price
+    choiceOf sheet of (basesOf sheet of (s .marks) (s .prices) price) (restOf sheet of l price s)
+    (length (members (restOf sheet of l price s) (of .bids))) price
 
 unfoldable pub tieOf : (sheet : List ℕ) (of : Size) (l : List Bool) (price : ℕ) → PotState → PotState
 tieOf sheet of l price s =
-    pick (ltb widestTie (length (members (restOf sheet of l price s) (of .bids)))) (widened s) (revaluedOf sheet of (sharedOf sheet of l (choiceIn sheet of l price s) price s))
+    pick (ltb widestTie (length (members (restOf sheet of l price s) (of .bids)))) (widened s)
+    (revaluedOf sheet of (sharedOf sheet of l (choiceIn sheet of l price s) price s))
 
 -- ---- no bid has been looked at
 

@@ -124,8 +124,8 @@ potIn sheet of = record {
   app = rowApp sheet;
   yr = rowYear sheet;
   price = rowPrice sheet;
-  cost = λ k price z. pick (ltb z (of .years)) (sheetCost sheet k price z) 0;
-  budget = λ z. pick (ltb z (of .years)) (limitAt sheet z) 0;
+  cost = λ k price y. pick (ltb y (of .years)) (sheetCost sheet k price y) 0;
+  budget = λ y. pick (ltb y (of .years)) (limitAt sheet y) 0;
   draw = rowDraw sheet;
   admin = rowAdmin sheet;
 }
@@ -141,10 +141,10 @@ pub record Ready (sheet : List ℕ) (of : Size) : Type 0 where
   pub price : (k : ℕ) → k < of .bids → rowPrice sheet k ≤ highestPrice
   pub admin : (k : ℕ) → k < of .bids → rowAdmin sheet k ≤ highestPrice
   pub draw : (k : ℕ) → k < of .bids → rowDraw sheet k < 65536
-  pub reference : (k z : ℕ) → k < of .bids → z < of .years → figReference sheet k z ≤ highestPrice
-  pub energy : (k z : ℕ) → k < of .bids → z < of .years → figEnergy sheet k z ≤ mostEnergy
-  pub share : (k z : ℕ) → k < of .bids → z < of .years → figShare sheet k z ≤ mostShare
-  pub limit : (z : ℕ) → z < of .years → limitAt sheet z ≤ highestBudget
+  pub reference : (k y : ℕ) → k < of .bids → y < of .years → figReference sheet k y ≤ highestPrice
+  pub energy : (k y : ℕ) → k < of .bids → y < of .years → figEnergy sheet k y ≤ mostEnergy
+  pub share : (k y : ℕ) → k < of .bids → y < of .years → figShare sheet k y ≤ mostShare
+  pub limit : (y : ℕ) → y < of .years → limitAt sheet y ≤ highestBudget
   -- two bids of the auction at one price are of applications with different draws
   pub apart : (c d : ℕ) → c < of .bids → d < of .bids → inAuction sheet c ≡ true → inAuction sheet d ≡ true
       → rowPrice sheet c ≡ rowPrice sheet d → rowDraw sheet c ≡ rowDraw sheet d → c ≡ d

@@ -3,7 +3,7 @@
 ghost use mathlib.Core.Path.{_≡_};
 ghost use Prim.Native.Nat.{_<_};
 ghost use Rattle.rules.specs.Names.{mostNumbers};
-ghost use Rattle.sheet.specs.Sheet.{limitAt, entrantAt, rowStanding, rowApp, rowYear, rowPrice, rowDraw, rowAdmin, figReference, figEnergy, figShare};
+ghost use Rattle.sheet.specs.Sheet.{columns, limitAt, entrantAt, rowStanding, rowApp, rowYear, rowPrice, rowDraw, rowAdmin, figReference, figEnergy, figShare};
 
 // How much of a sheet is used: the years of the file; its sealed bids; these and the automatic bid of each application; and the bids that enter the auction.
 pub struct Size {
@@ -14,7 +14,7 @@ pub struct Size {
 }
 
 // The columns of a row of totals, and of the limits that it is held to: the years' money.
-pub const COLUMNS: usize = 8;
+pub const COLUMNS: usize = names::YEARS;
 
 // Places for the bids, by number.
 pub const BIDS: usize = names::NUMBERS;
@@ -24,7 +24,7 @@ pub const ROW: usize = 6;
 
 pub const FIGURE: usize = 3;
 
-pub const FIGURES: usize = 24;
+pub const FIGURES: usize = COLUMNS * FIGURE;
 
 // Where the entrants, the figures and the rows start, after the limits; and the whole.
 pub const ENTRANTS_AT: usize = COLUMNS;
@@ -46,7 +46,7 @@ pub const SPARE: u64 = 2;
 
 // The limit of a column.
 pub fn limit(sheet: &Sheet, c: usize) -> u64
-    requires { ⌜ c < 8 ⌝ }
+    requires { ⌜ c < columns ⌝ }
     ensures { λ r. ⌜ r ≡ limitAt (now (sheet .entry)) c ⌝ }
 {
     sheet[c]
@@ -104,21 +104,21 @@ pub fn admin(sheet: &Sheet, k: usize) -> u64
 }
 
 pub fn reference(sheet: &Sheet, k: usize, y: usize) -> u64
-    requires { ⌜ (k < mostNumbers) × (y < 8) ⌝ }
+    requires { ⌜ (k < mostNumbers) × (y < columns) ⌝ }
     ensures { λ r. ⌜ r ≡ figReference (now (sheet .entry)) k y ⌝ }
 {
     sheet[FIGURES_AT + k * FIGURES + y * FIGURE]
 }
 
 pub fn energy(sheet: &Sheet, k: usize, y: usize) -> u64
-    requires { ⌜ (k < mostNumbers) × (y < 8) ⌝ }
+    requires { ⌜ (k < mostNumbers) × (y < columns) ⌝ }
     ensures { λ r. ⌜ r ≡ figEnergy (now (sheet .entry)) k y ⌝ }
 {
     sheet[FIGURES_AT + k * FIGURES + y * FIGURE + 1]
 }
 
 pub fn share(sheet: &Sheet, k: usize, y: usize) -> u64
-    requires { ⌜ (k < mostNumbers) × (y < 8) ⌝ }
+    requires { ⌜ (k < mostNumbers) × (y < columns) ⌝ }
     ensures { λ r. ⌜ r ≡ figShare (now (sheet .entry)) k y ⌝ }
 {
     sheet[FIGURES_AT + k * FIGURES + y * FIGURE + 2]

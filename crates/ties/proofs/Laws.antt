@@ -22,7 +22,9 @@ use Rattle.sheet.specs.Sheet.{columns, limitAt, rowYear, rowDraw}
 use Rattle.totals.specs.Totals.{worthOf, totalOf, noRow, filled, fitsTo}
 use Rattle.ties.specs.declared.tied.Tied.{Tied}
 use Rattle.ties.specs.declared.search.Best.{Best}
-use Rattle.ties.specs.Ties.{partSize, partRows, repricedTo, baseAt, noBase, aloneTotal, aloneFits, keepsOf, compactOf, listed, aboveOf, rankOf, startOf, ranksOf, startsOf, tiedOf, ownAt, ownsOf, touchOf, touchedOf, bestOf, bestMask, combinationOf, combinedOf, oneAt, oneYearAt, jointOf, unionOf, okBy, lastBy, betterOf, bestBy, choiceAt, choiceOf}
+use Rattle.ties.specs.Ties.{partSize, partRows, repricedTo, baseAt, noBase, aloneTotal, aloneFits, keepsOf, compactOf, listed, aboveOf, rankOf}
+use Rattle.ties.specs.Ties.{startOf, ranksOf, startsOf, tiedOf, ownAt, ownsOf, touchOf, touchedOf, bestOf, bestMask, combinationOf, combinedOf, oneAt}
+use Rattle.ties.specs.Ties.{oneYearAt, jointOf, unionOf, okBy, lastBy, betterOf, bestBy, choiceAt, choiceOf}
 
 -- ---- the present winners
 module _ (prices : List ℕ) (p t d : ℕ) {b : Bool} {row : List ℕ} (eb : b ≡ has t d) (er : row ≡ repricedTo prices p t d) where

@@ -20,7 +20,9 @@ use Rattle.sheet.specs.Sheet.{potIn, Ready, inAuction, rowYear, rowDraw}
 use Rattle.totals.specs.Totals.{worthOf, totalOf}
 use Rattle.totals.proofs.Link as link
 use Rattle.totals.proofs.Link.{Marked}
-use Rattle.ties.specs.Ties.{repricedTo, baseAt, noBase, basesOf, aloneTotal, aloneFits, keepsOf, compactOf, listed, aboveOf, rankOf, ranksOf, startOf, startsOf, ownAt, noOwn, ownsOf, Numbers, touchOf, touchedOf, maskTotal, figure, okMask, lastMask, bestMask, combinationOf, choiceAt, choiceOf}
+use Rattle.ties.specs.Ties.{repricedTo, baseAt, noBase, basesOf, aloneTotal, aloneFits, keepsOf, compactOf, listed, aboveOf, rankOf, ranksOf, startOf}
+use Rattle.ties.specs.Ties.{startsOf, ownAt, noOwn, ownsOf, Numbers, touchOf, touchedOf, maskTotal, figure, okMask, lastMask, bestMask, combinationOf}
+use Rattle.ties.specs.Ties.{choiceAt, choiceOf}
 use Rattle.ties.proofs.Laws.{pow-low}
 use Rattle.ties.proofs.Parts.{touch-low}
 use Rattle.ties.proofs.Lists.{listed-is, numbers, rank-at, start-at}

@@ -16,7 +16,8 @@ use Rattle.sheet.specs.declared.Size.{Size}
 use Rattle.sheet.specs.Sheet.{rowDraw, Ready}
 use Rattle.totals.proofs.Laws.{worth-le, total-le}
 use Rattle.ties.specs.declared.tied.Tied.{Tied}
-use Rattle.ties.specs.Ties.{Bounded, repricedTo, baseAt, noBase, basesOf, mostBase, listed, noList, compactOf, aboveOf, rankOf, ranksOf, startOf, startsOf, tiedOf, Few, Numbers, Placed, ownAt, noOwn, ownsOf, Owned}
+use Rattle.ties.specs.Ties.{Bounded, repricedTo, baseAt, noBase, basesOf, mostBase, listed, noList, compactOf, aboveOf, rankOf, ranksOf, startOf}
+use Rattle.ties.specs.Ties.{startsOf, tiedOf, Few, Numbers, Placed, ownAt, noOwn, ownsOf, Owned}
 
 -- ---- the list of a set is its members
 compact-length : (l : List Bool) (n : ℕ) → length (compactOf l n) ≡ 10
@@ -94,8 +95,11 @@ unfolding noBase baseAt
 base-ok sheet of marks prices p v e = rw e (record {
   small = λ i. fill-le noBase (baseAt sheet of marks prices p) mostBase 128 i (omega arith)
       (λ j g. case (ltb (j % 8) (of .years))
-      (λ t. rw t (omega (arith, v .few,
-      total-le sheet of marks (repricedTo prices p (j / 8) 4) (j % 8) (of .bids) v (ltb-true (j % 8) (of .years) t) (omega arith))))
+      (λ t. rw t (omega (
+        arith,
+        v .few,
+        total-le sheet of marks (repricedTo prices p (j / 8) 4) (j % 8) (of .bids) v (ltb-true (j % 8) (of .years) t) (omega arith),
+      )))
       (λ f. rw f (omega arith)))
       (λ j. rw (zeros 128 j) (omega arith));
 })

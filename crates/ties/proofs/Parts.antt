@@ -21,7 +21,9 @@ use Rattle.arrays.proofs.Arrays.{zeros, fill-at, fill-le, fill-stays}
 use Rattle.totals.proofs.Laws.{fits-same}
 use Rattle.sheet.specs.declared.Size.{Size}
 use Rattle.sheet.specs.Sheet.{Ready}
-use Rattle.ties.specs.Ties.{yearSets, combinations, Bounded, mostBase, noList, noOwn, touchOf, touchedOf, combinedOf, oneAt, onesOf, costAt, noCosts, costsOf, oneYearAt, oneYearsOf, yearAt, noYears, yearsOf, maskTotal, figure, okMask, lastMask, bestMask, jointOf, unionOf, okBy, lastBy, bestBy, Tabled, Dated}
+use Rattle.ties.specs.Ties.{yearSets, combinations, Bounded, mostBase, noList, noOwn, touchOf, touchedOf, combinedOf, oneAt, onesOf, costAt, noCosts}
+use Rattle.ties.specs.Ties.{costsOf, oneYearAt, oneYearsOf, yearAt, noYears, yearsOf, maskTotal, figure, okMask, lastMask, bestMask, jointOf, unionOf}
+use Rattle.ties.specs.Ties.{okBy, lastBy, bestBy, Tabled, Dated}
 
 -- ---- binary places
 or-none : (b : Bool) → (b || false) ≡ b

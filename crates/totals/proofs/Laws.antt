@@ -134,8 +134,11 @@ pub total-le : (sheet : List ℕ) (of : Size) (marks prices : List ℕ) (y n : �
 unfolding totalOf costOf
 total-le sheet of marks prices y zero v h g = omega arith
 total-le sheet of marks prices y (suc n) v h g =
-    omega (arith, total-le sheet of marks prices y n v h (omega arith),
-    pick-le (eqb (getD marks n 0) becauseWon) (worth-le sheet of n (getD prices (rowYear sheet n) 0) y v g h))
+    omega (
+      arith,
+      total-le sheet of marks prices y n v h (omega arith),
+      pick-le (eqb (getD marks n 0) becauseWon) (worth-le sheet of n (getD prices (rowYear sheet n) 0) y v g h),
+    )
 
 -- a row of no totals is blank
 pub row-none : (n : ℕ) → n ≤ 8 → noRow ≡ filled (λ _. 0) n

@@ -11,20 +11,20 @@ use Rattle.arrays.proofs.count.Statement.{statement}
 use Rattle.arrays.proofs.count.Tie as tie
 
 abbrev Inv-loop : tie.InvT-loop
-Inv-loop m l k₀ i₀ k i = (i ≤ m) × (k ≡ length (members l i)) × (k ≤ i)
+Inv-loop bids l count₀ k₀ count k = (k ≤ bids) × (count ≡ length (members l k)) × (count ≤ k)
 
 abbrev μ-loop : tie.MeasureT-loop
-μ-loop m l k₀ i₀ k i = m - i
+μ-loop bids l count₀ k₀ count k = bids - k
 
 loop-holds : tie.Need-loop-holds Inv-loop μ-loop
 unfolding members
 loop-holds c = search needs
 
+add-count : tie.Need-add-count Inv-loop μ-loop
+add-count c = omega arith
+
 add-k : tie.Need-add-k Inv-loop μ-loop
 add-k c = omega arith
-
-add-i : tie.Need-add-i Inv-loop μ-loop
-add-i c = omega arith
 
 loop-less : tie.Need-loop-less Inv-loop μ-loop
 loop-less c = omega arith
@@ -44,4 +44,4 @@ returns c = done-by length (members _) (c .before .loop .inv .1) (c .before .loo
 
 pub count-spec : {M : Type 1} → statement M
 count-spec =
-    tie.close (tie.spec Inv-loop μ-loop loop-holds (λ c. search needs) add-k add-i loop-less loop-again returns)
+    tie.close (tie.spec Inv-loop μ-loop loop-holds (λ c. search needs) add-count add-k loop-less loop-again returns)

@@ -9,17 +9,17 @@ use Rattle.arrays.proofs.others.Statement.{statement}
 use Rattle.arrays.proofs.others.Tie as tie
 
 abbrev Inv-loop : tie.InvT-loop
-Inv-loop m l a out₀ i₀ out i = (i ≤ m) × (out ≡ built (without l a) i)
+Inv-loop bids l out rest₀ k₀ rest k = (k ≤ bids) × (rest ≡ built (without l out) k)
 
 abbrev μ-loop : tie.MeasureT-loop
-μ-loop m l a out₀ i₀ out i = m - i
+μ-loop bids l out rest₀ k₀ rest k = bids - k
 
 loop-holds : tie.Need-loop-holds Inv-loop μ-loop
 unfolding fill none
 loop-holds c = search needs
 
-add-i : tie.Need-add-i Inv-loop μ-loop
-add-i c = omega arith
+add-k : tie.Need-add-k Inv-loop μ-loop
+add-k c = omega arith
 
 loop-less : tie.Need-loop-less Inv-loop μ-loop
 loop-less c = omega arith
@@ -33,4 +33,4 @@ returns c = done (built (without _ _)) (c .before .loop .inv .1) (c .before .loo
 pub others-spec : {M : Type 1} → statement M
 others-spec =
     tie.close (tie.spec Inv-loop μ-loop loop-holds (λ c. search needs) (λ c. search needs) (λ c. search needs)
-    (λ c. search needs) add-i loop-less loop-again returns)
+    (λ c. search needs) add-k loop-less loop-again returns)

@@ -7,7 +7,11 @@ use Rattle.pot.proofs.auction.Statement.{statement}
 use Rattle.pot.proofs.auction.Tie as tie
 
 run-requires : tie.Need-run-requires
-run-requires c κs = (c .before .pre, summed-started _ _ (c .before .pre .few) (c .before .pre .years) (c .started .ensures), started-stands _ _ (c .before .pre) (c .started .ensures))
+run-requires c κs = (
+  c .before .pre,
+  summed-started _ _ (c .before .pre .few) (c .before .pre .years) (c .started .ensures),
+  started-stands _ _ (c .before .pre) (c .started .ensures),
+)
 
 returns : tie.Need-returns
 returns c = c .run .ensures

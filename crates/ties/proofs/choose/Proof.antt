@@ -18,9 +18,10 @@ best-mask-requires c κs =
     (g .0, g .1, tied-owned _ _ _ _ (g .0) (g .2) (c .before .before .gathered .ensures) _ (c .before .owns .ensures))
 
 combination-requires : tie.Need-combination-requires
-combination-requires c κs = let g = c .before .before .before .before .pre in
-    (numbers-more mostNumbers (g .0 .few) (tied-numbers _ _ _ _ (g .0) (g .2) (c .before .before .before .gathered .ensures)),
-    tied-placed _ _ _ _ (g .0) (g .2) (c .before .before .before .gathered .ensures))
+combination-requires c κs = let g = c .before .before .before .before .pre in (
+  numbers-more mostNumbers (g .0 .few) (tied-numbers _ _ _ _ (g .0) (g .2) (c .before .before .before .gathered .ensures)),
+  tied-placed _ _ _ _ (g .0) (g .2) (c .before .before .before .gathered .ensures),
+)
 
 returns : tie.Need-returns
 returns c =

@@ -40,9 +40,11 @@ array-write-out : tie.Need-array-write-out Inv-loop μ-loop
 array-write-out c = c .before .before .before .before .before .before .pre .0 .small _ (c .before .before .before .before .loop-test .taken)
 
 loop-again : tie.Need-loop-again Inv-loop μ-loop
-loop-again c =
-    (omega arith, ⊎-elim (λ w. w .2 ∙ combination-hit _ _ _ (c .before .member .ensures) _ (c .before .before .before .before .loop .inv .1) (w .0 .taken))
-    (λ w. w .1 ∙ combination-miss _ _ _ (c .before .member .ensures) _ (c .before .before .before .before .loop .inv .1) (w .0 .left)) (c .if1 .came))
+loop-again c = (
+  omega arith,
+  ⊎-elim (λ w. w .2 ∙ combination-hit _ _ _ (c .before .member .ensures) _ (c .before .before .before .before .loop .inv .1) (w .0 .taken))
+      (λ w. w .1 ∙ combination-miss _ _ _ (c .before .member .ensures) _ (c .before .before .before .before .loop .inv .1) (w .0 .left)) (c .if1 .came),
+)
 
 returns : tie.Need-returns Inv-loop μ-loop
 returns c = done (combinationOf _ _ _) (c .before .loop .inv .1) (c .before .loop .inv .0) (c .loop-test .left)

@@ -31,8 +31,12 @@ worth-requires c κs = let pre = c .before .before .before .before .before .pre 
 
 add-sum : tie.Need-add-sum Inv-loop μ-loop
 add-sum c =
-    omega (arith, c .worth .ensures .small, c .before .before .before .before .before .loop .inv .2,
-    c .before .before .before .before .before .before .pre .0 .few)
+    omega (
+      arith,
+      c .worth .ensures .small,
+      c .before .before .before .before .before .loop .inv .2,
+      c .before .before .before .before .before .before .pre .0 .few,
+    )
 
 loop-again : tie.Need-loop-again Inv-loop μ-loop
 loop-again c =

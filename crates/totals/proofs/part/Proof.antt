@@ -40,8 +40,11 @@ added-requires : tie.Need-added-requires Inv-loop μ-loop
 added-requires c κs =
     let pre = c .before .before .before .before .before .before .pre in
     let inv = c .before .before .before .before .before .loop .inv in
-    adding _ _ _ _ _ pre (omega (arith, c .before .before .before .entrant .ensures,
-    entrant-small pre _ (c .before .before .before .before .loop-test .taken))) (omega (arith, inv .0, entrants-few pre)) (inv .1)
+    adding _ _ _ _ _ pre (omega (
+      arith,
+      c .before .before .before .entrant .ensures,
+      entrant-small pre _ (c .before .before .before .before .loop-test .taken),
+    )) (omega (arith, inv .0, entrants-few pre)) (inv .1)
     (λ y h. part-passed _ _ _ _ _ y pre (inv .0) h)
 
 loop-again : tie.Need-loop-again Inv-loop μ-loop

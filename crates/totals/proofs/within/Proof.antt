@@ -24,7 +24,7 @@ loop-again : tie.Need-loop-again Inv-loop μ-loop
 loop-again c = (
   omega arith,
   ⊎-elim (λ w. w .1 ∙ fits-not _ _ _ refl (c .before .limit .ensures) (w .0 .taken))
-  (λ w. w .1 ∙ fits-more _ _ _ refl (c .before .limit .ensures) (w .0 .left) (c .before .before .before .loop .inv .1)) (c .if1 .came),
+      (λ w. w .1 ∙ fits-more _ _ _ refl (c .before .limit .ensures) (w .0 .left) (c .before .before .before .loop .inv .1)) (c .if1 .came),
 )
 
 returns : tie.Need-returns Inv-loop μ-loop

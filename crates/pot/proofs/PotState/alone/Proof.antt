@@ -17,13 +17,17 @@ follows-requires c κs =
     (record { ready = pre .0 .ready; others = others-turned _ (c .before .before .args .of) _ _ (c .before .turned .ensures) (pre .0 .others) }, pre .1)
 
 returns : tie.Need-returns
-returns c = alone-hung _ _ _ _ (c .before .before .before .before .turned .ensures) (c .before .before .before .year .ensures) (c .before .before .follows .ensures) (c .before .if1 .taken) (c .hung .ensures)
+returns c =
+    alone-hung _ _ _ _ (c .before .before .before .before .turned .ensures) (c .before .before .before .year .ensures) (c .before .before .follows .ensures)
+    (c .before .if1 .taken) (c .hung .ensures)
 
 shut-requires : tie.Need-shut-requires
 shut-requires c κs = year-ok _ (c .before .before .before .before .pre .0 .ready) (c .before .before .before .before .pre .1) (c .before .before .year .ensures)
 
 returns-2 : tie.Need-returns-2
-returns-2 c = alone-shut _ _ _ _ (c .before .before .before .before .turned .ensures) (c .before .before .before .year .ensures) (c .before .before .follows .ensures) (c .before .if1 .left) (c .shut .ensures)
+returns-2 c =
+    alone-shut _ _ _ _ (c .before .before .before .before .turned .ensures) (c .before .before .before .year .ensures) (c .before .before .follows .ensures)
+    (c .before .if1 .left) (c .shut .ensures)
 
 pub alone-spec : {M : Type 1} → statement M
 alone-spec =

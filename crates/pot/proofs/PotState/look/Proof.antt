@@ -27,28 +27,79 @@ entrant-requires : tie.Need-entrant-requires Inv-loop μ-loop
 entrant-requires c κs = omega (arith, c .loop-test .taken, entrants-few (c .before .before .pre .ready), c .before .before .pre .ready .few)
 
 app-requires : tie.Need-app-requires Inv-loop μ-loop
-app-requires c κs = omega (arith, c .entrant .ensures, entrant-small (c .before .before .before .pre .ready) _ (c .before .loop-test .taken), c .before .before .before .pre .ready .few)
+app-requires c κs =
+    omega (
+      arith,
+      c .entrant .ensures,
+      entrant-small (c .before .before .before .pre .ready) _ (c .before .loop-test .taken),
+      c .before .before .before .pre .ready .few,
+    )
 
 year-requires : tie.Need-year-requires Inv-loop μ-loop
-year-requires c κs = omega (arith, c .before .entrant .ensures, entrant-small (c .before .before .before .before .pre .ready) _ (c .before .before .loop-test .taken), c .before .before .before .before .pre .ready .few)
+year-requires c κs =
+    omega (
+      arith,
+      c .before .entrant .ensures,
+      entrant-small (c .before .before .before .before .pre .ready) _ (c .before .before .loop-test .taken),
+      c .before .before .before .before .pre .ready .few,
+    )
 
 mul-live : tie.Need-mul-live Inv-loop μ-loop
-mul-live c = omega (arith, c .before .before .entrant .ensures, entrant-small (c .before .before .before .before .before .pre .ready) _ (c .before .before .before .loop-test .taken), c .before .before .before .before .before .pre .ready .few)
+mul-live c =
+    omega (
+      arith,
+      c .before .before .entrant .ensures,
+      entrant-small (c .before .before .before .before .before .pre .ready) _ (c .before .before .before .loop-test .taken),
+      c .before .before .before .before .before .pre .ready .few,
+    )
 
 element-copy-out-live : tie.Need-element-copy-out-live Inv-loop μ-loop
-element-copy-out-live c = omega (arith, c .before .before .entrant .ensures, entrant-small (c .before .before .before .before .before .pre .ready) _ (c .before .before .before .loop-test .taken), c .before .before .before .before .before .pre .ready .few)
+element-copy-out-live c =
+    omega (
+      arith,
+      c .before .before .entrant .ensures,
+      entrant-small (c .before .before .before .before .before .pre .ready) _ (c .before .before .before .loop-test .taken),
+      c .before .before .before .before .before .pre .ready .few,
+    )
 
 element-copy-out-live-2 : tie.Need-element-copy-out-live-2 Inv-loop μ-loop
-element-copy-out-live-2 c = app-ok _ (c .before .before .before .before .before .before .pre .ready) (omega (arith, c .before .before .before .entrant .ensures, entrant-small (c .before .before .before .before .before .before .pre .ready) _ (c .before .before .before .before .loop-test .taken))) (c .before .before .app .ensures)
+element-copy-out-live-2 c =
+    app-ok _ (c .before .before .before .before .before .before .pre .ready)
+    (omega (
+      arith,
+      c .before .before .before .entrant .ensures,
+      entrant-small (c .before .before .before .before .before .before .pre .ready) _ (c .before .before .before .before .loop-test .taken),
+    ))
+    (c .before .before .app .ensures)
 
 element-copy-out-live-3 : tie.Need-element-copy-out-live-3 Inv-loop μ-loop
-element-copy-out-live-3 c = year-ok _ (c .before .before .before .before .before .before .before .pre .ready) (omega (arith, c .before .before .before .before .entrant .ensures, entrant-small (c .before .before .before .before .before .before .before .pre .ready) _ (c .before .before .before .before .before .loop-test .taken))) (c .before .before .year .ensures)
+element-copy-out-live-3 c =
+    year-ok _ (c .before .before .before .before .before .before .before .pre .ready)
+    (omega (
+      arith,
+      c .before .before .before .before .entrant .ensures,
+      entrant-small (c .before .before .before .before .before .before .before .pre .ready) _ (c .before .before .before .before .before .loop-test .taken),
+    ))
+    (c .before .before .year .ensures)
 
 price-requires : tie.Need-price-requires Inv-loop μ-loop
-price-requires c κs = omega (arith, c .before .before .before .before .before .before .before .entrant .ensures, entrant-small (c .before .before .before .before .before .before .before .before .before .before .pre .ready) _ (c .before .before .before .before .before .before .before .before .loop-test .taken), c .before .before .before .before .before .before .before .before .before .before .pre .ready .few)
+price-requires c κs =
+    omega (
+      arith,
+      c .before .before .before .before .before .before .before .entrant .ensures,
+      entrant-small (c .before .before .before .before .before .before .before .before .before .before .pre .ready) _
+          (c .before .before .before .before .before .before .before .before .loop-test .taken),
+      c .before .before .before .before .before .before .before .before .before .before .pre .ready .few,
+    )
 
 joined-requires : tie.Need-joined-requires Inv-loop μ-loop
-joined-requires c κs = omega (arith, pass-few _ _ _ (c .before .before .before .before .before .before .before .before .before .before .loop .inv .1), entrants-few (c .before .before .before .before .before .before .before .before .before .before .before .pre .ready), c .before .before .before .before .before .before .before .before .before .before .before .pre .ready .few)
+joined-requires c κs =
+    omega (
+      arith,
+      pass-few _ _ _ (c .before .before .before .before .before .before .before .before .before .before .loop .inv .1),
+      entrants-few (c .before .before .before .before .before .before .before .before .before .before .before .pre .ready),
+      c .before .before .before .before .before .before .before .before .before .before .before .pre .ready .few,
+    )
 
 loop-again : tie.Need-loop-again Inv-loop μ-loop
 loop-again c = (
@@ -62,7 +113,9 @@ loop-again c = (
 )
 
 returns : tie.Need-returns Inv-loop μ-loop
-returns c = pass-looked _ _ _ (c .before .before .pre .ready) (c .before .before .pre .others) (c .before .loop .inv .1) (c .before .loop .inv .0) (c .loop-test .left)
+returns c =
+    pass-looked _ _ _ (c .before .before .pre .ready) (c .before .before .pre .others) (c .before .loop .inv .1) (c .before .loop .inv .0)
+    (c .loop-test .left)
 
 pub look-spec : {M : Type 1} → statement M
 look-spec =

@@ -32,8 +32,10 @@ returns : tie.Need-returns Inv-loop μ-loop
 returns c =
     let pre = c .before .before .before .before .before .before .pre in
     let inv = c .before .before .before .before .loop .inv in
-    let step = c .before .step .ensures in
-    (run-wide _ _ (pre .0) _ (run-again _ _ (pre .0) _ (inv .0) (inv .1) (inv .2 .price) (c .before .before .if1 .taken) (step .stepped)) (c .if2 .taken), step .summed)
+    let step = c .before .step .ensures in (
+      run-wide _ _ (pre .0) _ (run-again _ _ (pre .0) _ (inv .0) (inv .1) (inv .2 .price) (c .before .before .if1 .taken) (step .stepped)) (c .if2 .taken),
+      step .summed,
+    )
 
 look-requires-2 : tie.Need-look-requires-2 Inv-loop μ-loop
 look-requires-2 c κs =
@@ -45,12 +47,18 @@ look-requires-2 c κs =
 loop-less : tie.Need-loop-less Inv-loop μ-loop
 loop-less c =
     let inv = c .before .before .before .before .before .loop .inv in
-    run-less _ _ (c .before .before .before .before .before .before .before .pre .0) _ (inv .0) (inv .1) (inv .2 .price) (c .before .before .before .if1 .taken) (c .before .before .step .ensures .stepped) (c .before .if2 .left)
+    run-less _ _ (c .before .before .before .before .before .before .before .pre .0) _ (inv .0) (inv .1) (inv .2 .price)
+    (c .before .before .before .if1 .taken) (c .before .before .step .ensures .stepped) (c .before .if2 .left)
 
 loop-again : tie.Need-loop-again Inv-loop μ-loop
 loop-again c =
-    let inv = c .before .before .before .before .before .loop .inv in
-    (run-again _ _ (c .before .before .before .before .before .before .before .pre .0) _ (inv .0) (inv .1) (inv .2 .price) (c .before .before .before .if1 .taken) (c .before .before .step .ensures .stepped), c .before .if2 .left, c .look2 .ensures, c .before .before .step .ensures .summed)
+    let inv = c .before .before .before .before .before .loop .inv in (
+      run-again _ _ (c .before .before .before .before .before .before .before .pre .0) _ (inv .0) (inv .1) (inv .2 .price)
+          (c .before .before .before .if1 .taken) (c .before .before .step .ensures .stepped),
+      c .before .if2 .left,
+      c .look2 .ensures,
+      c .before .before .step .ensures .summed,
+    )
 
 returns-2 : tie.Need-returns-2 Inv-loop μ-loop
 returns-2 c =

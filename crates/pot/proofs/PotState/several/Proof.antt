@@ -23,7 +23,9 @@ returns c =
     let ok = pre .0 .ready in
     let set = taken-is _ _ _ (pre .0 .looked .price) (c .before .before .before .before .before .taken .ensures) in
     let right = summed-trial _ _ (ok .years) (pre .0 .summed) _ _ (c .before .before .before .before .trial .ensures) in record {
-      stepped = step-fits _ _ ok _ _ _ (pre .0 .looked .price) (many-tried _ _ _ _ set (c .before .before .before .before .trial .ensures)) right (c .before .before .within .ensures) (c .before .if1 .taken) (c .settled .ensures);
+      stepped =
+          step-fits _ _ ok _ _ _ (pre .0 .looked .price) (many-tried _ _ _ _ set (c .before .before .before .before .trial .ensures)) right
+          (c .before .before .within .ensures) (c .before .if1 .taken) (c .settled .ensures);
       summed = summed-settled _ _ (c .settled .ensures) right;
     }
 
@@ -36,7 +38,9 @@ returns-2 c =
     let ok = pre .0 .ready in
     let set = taken-is _ _ _ (pre .0 .looked .price) (c .before .before .before .before .before .taken .ensures) in
     let right = summed-trial _ _ (ok .years) (pre .0 .summed) _ _ (c .before .before .before .before .trial .ensures) in record {
-      stepped = step-tie _ _ ok _ _ _ (pre .0 .looked .price) (many-tried _ _ _ _ set (c .before .before .before .before .trial .ensures)) right (c .before .before .within .ensures) (c .before .if1 .left) set (λ e. pre .1 (pre .0 .looked .count ∙ e)) (c .tie .ensures);
+      stepped =
+          step-tie _ _ ok _ _ _ (pre .0 .looked .price) (many-tried _ _ _ _ set (c .before .before .before .before .trial .ensures)) right
+          (c .before .before .within .ensures) (c .before .if1 .left) set (λ e. pre .1 (pre .0 .looked .count ∙ e)) (c .tie .ensures);
       summed = summed-tie _ _ (ok .years) (pre .0 .summed) _ _ (c .tie .ensures);
     }
 

@@ -5,7 +5,9 @@ use Rattle.pot.proofs.PotState.shared.Statement.{statement}
 use Rattle.pot.proofs.PotState.shared.Tie as tie
 
 returns : tie.Need-returns
-returns c = shared-is _ _ _ _ _ _ (c .before .before .before .win-all .ensures) (c .before .before .others .ensures) (c .before .turn-all .ensures) (c .hung .ensures)
+returns c =
+    shared-is _ _ _ _ _ _ (c .before .before .before .win-all .ensures) (c .before .before .others .ensures) (c .before .turn-all .ensures)
+    (c .hung .ensures)
 
 pub shared-spec : {M : Type 1} → statement M
 shared-spec =

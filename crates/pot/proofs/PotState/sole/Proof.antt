@@ -21,8 +21,11 @@ returns : tie.Need-returns
 returns c =
     let pre = c .before .before .before .before .before .pre in
     let ok = pre .0 .ready in
-    let right = summed-one _ _ _ _ (ok .years) (ok .year _ (sole-small ok (pre .0 .looked) (pre .1))) (c .before .before .before .before .tried .ensures) (pre .0 .summed) in record {
-      stepped = step-fits _ _ ok _ _ _ (pre .0 .looked .price) (one-tried (pre .0 .looked) (pre .1) (c .before .before .before .before .tried .ensures)) right (c .before .before .within .ensures) (c .before .if1 .taken) (c .settled .ensures);
+    let right = summed-one _ _ _ _ (ok .years) (ok .year _ (sole-small ok (pre .0 .looked) (pre .1))) (c .before .before .before .before .tried .ensures)
+    (pre .0 .summed) in record {
+      stepped =
+          step-fits _ _ ok _ _ _ (pre .0 .looked .price) (one-tried (pre .0 .looked) (pre .1) (c .before .before .before .before .tried .ensures)) right
+          (c .before .before .within .ensures) (c .before .if1 .taken) (c .settled .ensures);
       summed = summed-settled _ _ (c .settled .ensures) right;
     }
 
@@ -34,8 +37,11 @@ returns-2 : tie.Need-returns-2
 returns-2 c =
     let pre = c .before .before .before .before .before .pre in
     let ok = pre .0 .ready in
-    let right = summed-one _ _ _ _ (ok .years) (ok .year _ (sole-small ok (pre .0 .looked) (pre .1))) (c .before .before .before .before .tried .ensures) (pre .0 .summed) in record {
-      stepped = step-alone _ _ ok _ _ _ (pre .0 .looked .price) (one-tried (pre .0 .looked) (pre .1) (c .before .before .before .before .tried .ensures)) right (c .before .before .within .ensures) (c .before .if1 .left) (one-taken (pre .0 .looked) (pre .1)) (c .alone .ensures);
+    let right = summed-one _ _ _ _ (ok .years) (ok .year _ (sole-small ok (pre .0 .looked) (pre .1))) (c .before .before .before .before .tried .ensures)
+    (pre .0 .summed) in record {
+      stepped =
+          step-alone _ _ ok _ _ _ (pre .0 .looked .price) (one-tried (pre .0 .looked) (pre .1) (c .before .before .before .before .tried .ensures)) right
+          (c .before .before .within .ensures) (c .before .if1 .left) (one-taken (pre .0 .looked) (pre .1)) (c .alone .ensures);
       summed = summed-alone _ _ _ (c .alone .ensures) (sole-fresh ok (pre .0 .looked) (pre .1)) (pre .0 .summed);
     }
 

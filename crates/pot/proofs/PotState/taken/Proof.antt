@@ -21,13 +21,21 @@ unfolding fill none
 loop-holds c = search needs
 
 element-copy-out-live-2 : tie.Need-element-copy-out-live-2 Inv-loop μ-loop
-element-copy-out-live-2 c = app-ok _ (c .before .before .before .before .before .pre) (c .before .before .before .loop-test .taken) (c .before .before .app .ensures)
+element-copy-out-live-2 c =
+    app-ok _ (c .before .before .before .before .before .pre) (c .before .before .before .loop-test .taken) (c .before .before .app .ensures)
 
 element-copy-out-live-3 : tie.Need-element-copy-out-live-3 Inv-loop μ-loop
-element-copy-out-live-3 c = year-ok _ (c .before .before .before .before .before .before .pre) (c .before .before .before .before .loop-test .taken) (c .before .before .year .ensures)
+element-copy-out-live-3 c =
+    year-ok _ (c .before .before .before .before .before .before .pre) (c .before .before .before .before .loop-test .taken)
+    (c .before .before .year .ensures)
 
 loop-again : tie.Need-loop-again Inv-loop μ-loop
-loop-again c = (omega arith, fill-next _ _ _ (c .before .before .before .before .before .before .before .before .before .loop .inv .1) (at-is _ _ _ (c .before .before .before .before .before .before .before .app .ensures) (c .before .before .before .before .before .before .year .ensures) (c .before .before .live .ensures) _ (c .before .price .ensures) (c .at .ensures)))
+loop-again c = (
+  omega arith,
+  fill-next _ _ _ (c .before .before .before .before .before .before .before .before .before .loop .inv .1)
+      (at-is _ _ _ (c .before .before .before .before .before .before .before .app .ensures)
+      (c .before .before .before .before .before .before .year .ensures) (c .before .before .live .ensures) _ (c .before .price .ensures) (c .at .ensures)),
+)
 
 returns : tie.Need-returns Inv-loop μ-loop
 returns c = done (built (atOf _ _ _)) (c .before .loop .inv .1) (c .before .loop .inv .0) (c .loop-test .left)

@@ -10,18 +10,26 @@ rest-requires : tie.Need-rest-requires
 rest-requires c κs = let pre = c .before .before .before .before .pre in (pre .ready, base-ok _ _ _ _ _ (pre .ready) (c .before .bases .ensures))
 
 returns : tie.Need-returns
-returns c = tie-wide _ _ _ _ _ (c .before .before .before .before .before .bases .ensures) (c .before .before .before .rest .ensures) (c .before .before .count .ensures) (c .before .if1 .taken) (c .too-wide .ensures)
+returns c =
+    tie-wide _ _ _ _ _ (c .before .before .before .before .before .bases .ensures) (c .before .before .before .rest .ensures)
+    (c .before .before .count .ensures) (c .before .if1 .taken) (c .too-wide .ensures)
 
 choose-requires : tie.Need-choose-requires
-choose-requires c κs = let pre = c .before .before .before .before .before .before .before .before .pre in
-    (pre .ready, base-ok _ _ _ _ _ (pre .ready) (c .before .before .before .before .before .bases .ensures), record { counted = c .before .before .count .ensures; few = c .before .if1 .left })
+choose-requires c κs = let pre = c .before .before .before .before .before .before .before .before .pre in (
+  pre .ready,
+  base-ok _ _ _ _ _ (pre .ready) (c .before .before .before .before .before .bases .ensures),
+  record { counted = c .before .before .count .ensures; few = c .before .if1 .left },
+)
 
 revalued-requires : tie.Need-revalued-requires
-revalued-requires c κs = let pre = c .before .before .before .before .before .before .before .before .before .before .pre in (pre .ready, shared-size _ _ (pre .ready .years) (pre .summed) _ _ _ (c .shared .ensures))
+revalued-requires c κs =
+    let pre = c .before .before .before .before .before .before .before .before .before .before .pre in
+    (pre .ready, shared-size _ _ (pre .ready .years) (pre .summed) _ _ _ (c .shared .ensures))
 
 returns-2 : tie.Need-returns-2
 returns-2 c =
-    tie-shared _ _ _ _ _ (c .before .before .before .before .before .before .before .before .bases .ensures) (c .before .before .before .before .before .before .rest .ensures)
+    tie-shared _ _ _ _ _ (c .before .before .before .before .before .before .before .before .bases .ensures)
+    (c .before .before .before .before .before .before .rest .ensures)
     (c .before .before .before .before .before .count .ensures) (c .before .before .before .before .if1 .left) (c .before .before .choose .ensures)
     (c .before .shared .ensures) (c .revalued .ensures)
 

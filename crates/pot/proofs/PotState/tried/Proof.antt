@@ -13,7 +13,14 @@ renewed-requires : tie.Need-renewed-requires
 renewed-requires c κs = (c .before .before .pre .0 .ready, year-ok _ (c .before .before .pre .0 .ready) (c .before .before .pre .1) (c .before .year .ensures))
 
 totalled-requires : tie.Need-totalled-requires
-totalled-requires c κs = let pre = c .before .before .before .pre in record { years = pre .0 .ready .years; small = λ y h. sum-most (parted-win _ _ _ _ _ (pre .0 .ready .years) (pre .0 .ready .year _ (pre .1)) (c .before .before .year .ensures) (c .before .win .ensures) (c .renewed .ensures) (pre .0 .summed .parts)) y h (pre .0 .ready) }
+totalled-requires c κs =
+    let pre = c .before .before .before .pre in
+    record {
+      years = pre .0 .ready .years;
+      small = λ y h. sum-most
+          (parted-win _ _ _ _ _ (pre .0 .ready .years) (pre .0 .ready .year _ (pre .1)) (c .before .before .year .ensures) (c .before .win .ensures)
+          (c .renewed .ensures) (pre .0 .summed .parts)) y h (pre .0 .ready);
+    }
 
 returns : tie.Need-returns
 returns c = tried-is _ _ _ _ _ (c .before .before .before .year .ensures) (c .before .before .win .ensures) (c .before .renewed .ensures) (c .totalled .ensures)

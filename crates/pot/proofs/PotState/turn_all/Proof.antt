@@ -22,7 +22,11 @@ unfolding turnAll members
 loop-holds c = search needs
 
 loop-again : tie.Need-loop-again Inv-loop μ-loop
-loop-again c = (omega arith, ⊎-elim (λ w. w .2 ∙ turnAll-hit _ _ _ _ _ (w .0 .taken) (c .before .before .loop .inv .1) (w .1 .ensures)) (λ w. w .1 ∙ turnAll-miss _ _ _ _ _ (w .0 .left) (c .before .before .loop .inv .1)) (c .if1 .came))
+loop-again c = (
+  omega arith,
+  ⊎-elim (λ w. w .2 ∙ turnAll-hit _ _ _ _ _ (w .0 .taken) (c .before .before .loop .inv .1) (w .1 .ensures))
+      (λ w. w .1 ∙ turnAll-miss _ _ _ _ _ (w .0 .left) (c .before .before .loop .inv .1)) (c .if1 .came),
+)
 
 returns : tie.Need-returns Inv-loop μ-loop
 returns c = done-by (turnAll _ _ _) (members _) (c .before .loop .inv .1) (c .before .loop .inv .0) (c .loop-test .left)

@@ -39,5 +39,6 @@ returns c = done (filled _) (c .before .loop .inv .1) (c .before .loop .inv .0) 
 pub year-totals-spec : {M : Type 1} → statement M
 year-totals-spec =
     tie.close (tie.spec Inv-loop μ-loop loop-holds (λ c. search needs) (λ c. search needs) (λ c. search needs) (λ c. search needs) (λ c. search needs) add-row-2
-    (λ c. search needs) (λ c. search needs) (λ c. search needs) (λ c. search needs) add-row-4 (λ c. search needs) (λ c. search needs) (λ c. search needs) (λ c. search needs)
+    (λ c. search needs) (λ c. search needs) (λ c. search needs) (λ c. search needs) add-row-4 (λ c. search needs) (λ c. search needs) (λ c. search needs)
+    (λ c. search needs)
     add-row-6 (λ c. search needs) (λ c. search needs) (λ c. search needs) (λ c. omega arith) loop-again returns)

@@ -18,8 +18,11 @@ element-copy-out-result c = let g = c .before .before .pre .0 in
 
 add-result-2 : tie.Need-add-result-2
 add-result-2 c =
-    omega (arith, c .before .before .before .before .pre .1 .small (c .before .before .power .result * 8 + c .before .before .before .before .args .y),
-    c .worth .ensures .small)
+    omega (
+      arith,
+      c .before .before .before .before .pre .1 .small (c .before .before .power .result * 8 + c .before .before .before .before .args .y),
+      c .worth .ensures .small,
+    )
 
 returns : tie.Need-returns
 returns c = alone-is _ _ _ _ _ (c .before .before .before .year .ensures) (c .before .before .power .ensures) (c .worth .ensures .value)

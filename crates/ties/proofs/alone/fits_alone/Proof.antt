@@ -32,7 +32,7 @@ loop-again c = let a = c .before .before .alone-total .ensures in
     let l = c .before .limit .ensures in (
       omega arith,
       ⊎-elim (λ w. w .1 ∙ fits-not _ _ _ a l (w .0 .taken)) (λ w. w .1 ∙ fits-more _ _ _ a l (w .0 .left) (c .before .before .before .before .loop .inv .1))
-      (c .if1 .came),
+          (c .if1 .came),
     )
 
 returns : tie.Need-returns Inv-loop μ-loop

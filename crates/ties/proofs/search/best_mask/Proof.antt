@@ -11,9 +11,12 @@ years-requires : tie.Need-years-requires
 years-requires c κs = c .before .pre .2 .placed
 
 search-requires : tie.Need-search-requires
-search-requires c κs = let g = c .before .before .before .before .pre in
-    (g .0, tabled _ _ _ (g .2 .placed .few) (g .1) (g .2 .bids) (c .before .before .before .costs .ensures),
-    dated _ _ _ (g .2 .placed .starts) (c .before .before .years .ensures), g .2 .placed .few)
+search-requires c κs = let g = c .before .before .before .before .pre in (
+  g .0,
+  tabled _ _ _ (g .2 .placed .few) (g .1) (g .2 .bids) (c .before .before .before .costs .ensures),
+  dated _ _ _ (g .2 .placed .starts) (c .before .before .years .ensures),
+  g .2 .placed .few,
+)
 
 returns : tie.Need-returns
 returns c =

@@ -32,9 +32,11 @@ returns : tie.Need-returns Inv-loop μ-loop
 returns c = fits-stops _ _ _ _ (c .before .before .joint .ensures) (c .before .limit .ensures) (c .if1 .taken) (c .before .before .before .loop-test .taken)
 
 loop-again : tie.Need-loop-again Inv-loop μ-loop
-loop-again c =
-    (omega arith, fits-more _ _ _ (c .before .before .joint .ensures) (c .before .limit .ensures) (c .if1 .left)
-    (c .before .before .before .before .loop .inv .1))
+loop-again c = (
+  omega arith,
+  fits-more _ _ _ (c .before .before .joint .ensures) (c .before .limit .ensures) (c .if1 .left)
+      (c .before .before .before .before .loop .inv .1),
+)
 
 returns-2 : tie.Need-returns-2 Inv-loop μ-loop
 returns-2 c = done (fitsTo _ _) (c .before .loop .inv .1) (c .before .loop .inv .0) (c .loop-test .left)

@@ -36,22 +36,30 @@ loop-holds : tie.Need-loop-holds Inv-loop μ-loop
 loop-holds c = (omega arith, best-none _ _ (last-is _ _ _ _ _ (c .before .union .ensures .0) refl (c .joint .ensures)))
 
 union-requires-2 : tie.Need-union-requires-2 Inv-loop μ-loop
-union-requires-2 c κs =
-    (c .before .before .before .before .before .before .pre .2,
-    mask-low (c .before .before .before .before .before .before .pre .3) (c .before .before .before .before .before .power .ensures) (c .loop-test .taken))
+union-requires-2 c κs = (
+  c .before .before .before .before .before .before .pre .2,
+  mask-low (c .before .before .before .before .before .before .pre .3) (c .before .before .before .before .before .power .ensures) (c .loop-test .taken),
+)
 
 joint-fits-requires : tie.Need-joint-fits-requires Inv-loop μ-loop
 joint-fits-requires c κs =
-    let g = c .before .before .before .before .before .before .before .pre in
-    (g .1, mask-low (c .before .before .before .before .before .before .before .pre .3) (c .before .before .before .before .before .before .power .ensures)
-    (c .before .loop-test .taken), c .union2 .ensures .1, g .0 .years)
+    let g = c .before .before .before .before .before .before .before .pre in (
+      g .1,
+      mask-low (c .before .before .before .before .before .before .before .pre .3) (c .before .before .before .before .before .before .power .ensures)
+          (c .before .loop-test .taken),
+      c .union2 .ensures .1,
+      g .0 .years,
+    )
 
 joint-requires-2 : tie.Need-joint-requires-2 Inv-loop μ-loop
 joint-requires-2 c κs =
-    let g = c .before .before .before .before .before .before .before .before .before .pre in
-    (g .1, mask-low (c .before .before .before .before .before .before .before .before .before .pre .3)
-    (c .before .before .before .before .before .before .before .before .power .ensures) (c .before .before .before .loop-test .taken),
-    c .before .before .union2 .ensures .1, omega (arith, g .0 .some, g .0 .years))
+    let g = c .before .before .before .before .before .before .before .before .before .pre in (
+      g .1,
+      mask-low (c .before .before .before .before .before .before .before .before .before .pre .3)
+          (c .before .before .before .before .before .before .before .before .power .ensures) (c .before .before .before .loop-test .taken),
+      c .before .before .union2 .ensures .1,
+      omega (arith, g .0 .some, g .0 .years),
+    )
 
 better-requires : tie.Need-better-requires Inv-loop μ-loop
 better-requires c κs = search needs

@@ -40,23 +40,35 @@ mul-sum-2 c = omega (arith, c .before .before .before .loop-test .taken, c .befo
 
 element-copy-out-sum : tie.Need-element-copy-out-sum Inv-loop μ-loop
 element-copy-out-sum c =
-    omega (arith, c .before .before .before .loop-test .taken, c .before .before .before .before .before .pre .0 .placed .few,
-    c .before .before .before .before .before .pre .1)
+    omega (
+      arith,
+      c .before .before .before .loop-test .taken,
+      c .before .before .before .before .before .pre .0 .placed .few,
+      c .before .before .before .before .before .pre .1,
+    )
 
 add-sum-2 : tie.Need-add-sum-2 Inv-loop μ-loop
 add-sum-2 c =
     let g = c .before .before .before .before .before .before .pre in let l = c .before .before .before .before .before .loop in
-    omega (arith, g .0 .placed .few, g .0 .bids .small (l .j * 8 + c .before .before .before .before .before .before .args .y), l .inv .2,
-    c .before .before .before .before .loop-test .taken)
+    omega (
+      arith,
+      g .0 .placed .few,
+      g .0 .bids .small (l .j * 8 + c .before .before .before .before .before .before .args .y),
+      l .inv .2,
+      c .before .before .before .before .loop-test .taken,
+    )
 
 loop-again : tie.Need-loop-again Inv-loop μ-loop
 loop-again c = let l = c .before .before .before .before .loop in
     let m = c .before .member .ensures in (
       omega arith,
       ⊎-elim (λ w. w .2 ∙ combined-hit _ _ _ m _ _ (l .inv .1) (w .0 .taken)) (λ w. w .1 ∙ combined-miss _ _ _ m _ _ (l .inv .1) (w .0 .left)) (c .if1 .came),
-      ⊎-elim (λ w. omega (arith, w .2,
-      c .before .before .before .before .before .pre .0 .bids .small (l .j * 8 + c .before .before .before .before .before .args .y)))
-      (λ w. omega (arith, w .1)) (c .if1 .came),
+      ⊎-elim (λ w. omega (
+        arith,
+        w .2,
+        c .before .before .before .before .before .pre .0 .bids .small (l .j * 8 + c .before .before .before .before .before .args .y),
+      ))
+          (λ w. omega (arith, w .1)) (c .if1 .came),
     )
 
 returns : tie.Need-returns Inv-loop μ-loop

@@ -65,9 +65,13 @@ add-out : tie.Need-add-out Inv-loop μ-loop
 add-out c = let g = c .before .before .before .before .before .before .pre in
     let e = c .before .before .before .before .before .ones .ensures in
     let n = cost-next _ _ _ _ _ (c .before .before .before .before .loop .inv .1 _ _ e) (e) (c .before .before .before .loop-test .taken)
-      (c .before .top .ensures .0) (c .before .top .ensures .1) (c .before .top .ensures .2) (c .power .ensures) in
-    omega (arith, n, cost-le _ (c .before .before .before .before .before .before .args .tied .ranks) _ (c .before .before .before .before .loop .i)
-    (g .placed .few) (g .bids))
+    (c .before .top .ensures .0) (c .before .top .ensures .1) (c .before .top .ensures .2) (c .power .ensures) in
+    omega (
+      arith,
+      n,
+      cost-le _ (c .before .before .before .before .before .before .args .tied .ranks) _ (c .before .before .before .before .loop .i)
+          (g .placed .few) (g .bids),
+    )
 
 mul-out-3 : tie.Need-mul-out-3 Inv-loop μ-loop
 mul-out-3 c = omega (arith, c .before .before .before .loop-test .taken)

@@ -36,16 +36,19 @@ element-copy-out-touch : tie.Need-element-copy-out-touch Inv-loop μ-loop
 element-copy-out-touch c = omega (arith, c .before .before .before .loop-test .taken, c .before .before .before .before .before .pre .few)
 
 touch-requires : tie.Need-touch-requires Inv-loop μ-loop
-touch-requires c κs =
-    (c .before .before .before .before .before .loop .inv .2,
-    c .before .before .before .before .before .before .pre .starts _ (c .before .before .before .before .loop-test .taken))
+touch-requires c κs = (
+  c .before .before .before .before .before .loop .inv .2,
+  c .before .before .before .before .before .before .pre .starts _ (c .before .before .before .before .loop-test .taken),
+)
 
 loop-again : tie.Need-loop-again Inv-loop μ-loop
 loop-again c =
-    let inv = c .before .before .before .before .loop .inv in
-    (omega arith, ⊎-elim (λ w. w .3 ∙ touched-hit _ _ _ (c .before .member .ensures) _ (inv .1) (w .0 .taken) (w .2 .ensures .0))
-    (λ w. w .1 ∙ touched-miss _ _ _ (c .before .member .ensures) _ (inv .1) (w .0 .left)) (c .if1 .came),
-    ⊎-elim (λ w. omega (arith, w .3, w .2 .ensures .1)) (λ w. omega (arith, w .1)) (c .if1 .came))
+    let inv = c .before .before .before .before .loop .inv in (
+      omega arith,
+      ⊎-elim (λ w. w .3 ∙ touched-hit _ _ _ (c .before .member .ensures) _ (inv .1) (w .0 .taken) (w .2 .ensures .0))
+          (λ w. w .1 ∙ touched-miss _ _ _ (c .before .member .ensures) _ (inv .1) (w .0 .left)) (c .if1 .came),
+      ⊎-elim (λ w. omega (arith, w .3, w .2 .ensures .1)) (λ w. omega (arith, w .1)) (c .if1 .came),
+    )
 
 returns : tie.Need-returns Inv-loop μ-loop
 returns c = (done (touchedOf _ _ _) (c .before .loop .inv .1) (c .before .loop .inv .0) (c .loop-test .left), c .before .loop .inv .2)

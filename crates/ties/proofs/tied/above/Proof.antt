@@ -31,8 +31,12 @@ draw-requires c κs = omega (arith, c .before .before .before .pre .1 .small _ (
 
 add-n : tie.Need-add-n Inv-loop μ-loop
 add-n c =
-    omega (arith, c .before .before .before .before .loop .inv .2, c .before .before .before .loop-test .taken,
-    c .before .before .before .before .before .pre .1 .few)
+    omega (
+      arith,
+      c .before .before .before .before .loop .inv .2,
+      c .before .before .before .loop-test .taken,
+      c .before .before .before .before .before .pre .1 .few,
+    )
 
 loop-again : tie.Need-loop-again Inv-loop μ-loop
 loop-again c = let inv = c .before .before .before .before .loop .inv in

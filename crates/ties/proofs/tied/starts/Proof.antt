@@ -31,8 +31,11 @@ year-requires c κs = omega (arith, c .before .before .before .pre .1 .small _ (
 
 cast-out : tie.Need-cast-out Inv-loop μ-loop
 cast-out c =
-    omega (arith, c .year .ensures,
-    c .before .before .before .before .pre .0 .year _ (c .before .before .before .before .pre .1 .small _ (c .before .before .loop-test .taken)))
+    omega (
+      arith,
+      c .year .ensures,
+      c .before .before .before .before .pre .0 .year _ (c .before .before .before .before .pre .1 .small _ (c .before .before .loop-test .taken)),
+    )
 
 mul-out : tie.Need-mul-out Inv-loop μ-loop
 mul-out c = omega (arith, c .before .before .loop-test .taken, c .before .before .before .before .pre .1 .few)

@@ -22,9 +22,11 @@ unfolding fill noBase
 loop-holds c = search needs
 
 loop-again : tie.Need-loop-again Inv-loop μ-loop
-loop-again c = let inv = c .before .before .before .before .loop .inv in
-    (omega arith, bases-next _ _ _ _ _ _ (c .before .before .before .before .before .pre .years) (c .before .before .repriced .ensures)
-    (c .before .revalued .ensures) (inv .1) (c .laid .ensures))
+loop-again c = let inv = c .before .before .before .before .loop .inv in (
+  omega arith,
+  bases-next _ _ _ _ _ _ (c .before .before .before .before .before .pre .years) (c .before .before .repriced .ensures)
+      (c .before .revalued .ensures) (inv .1) (c .laid .ensures),
+)
 
 returns : tie.Need-returns Inv-loop μ-loop
 returns c = done-by (fill noBase _) (λ t. t * columns) (c .before .loop .inv .1) (c .before .loop .inv .0) (c .loop-test .left)

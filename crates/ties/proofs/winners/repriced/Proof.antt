@@ -25,7 +25,7 @@ loop-again : tie.Need-loop-again Inv-loop μ-loop
 loop-again c = let e = c .before .member .ensures in (
   omega arith,
   ⊎-elim (λ w. w .1 ∙ repriced-hit _ _ _ _ e (c .before .before .before .loop .inv .1) (w .0 .taken))
-  (λ w. w .1 ∙ repriced-miss _ _ _ _ e (c .before .before .before .loop .inv .1) (w .0 .left)) (c .if1 .came),
+      (λ w. w .1 ∙ repriced-miss _ _ _ _ e (c .before .before .before .loop .inv .1) (w .0 .left)) (c .if1 .came),
 )
 
 returns : tie.Need-returns Inv-loop μ-loop
