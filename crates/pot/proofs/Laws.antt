@@ -43,8 +43,7 @@ module _ (sheet : List ℕ) (s : PotState) (p i : ℕ) {d : ℕ} (ed : d ≡ row
         marks = set (s .marks) i 1;
         won = set (s .won) a true;
         opened = s .opened;
-        prices = set
-            (s .prices) d p;
+        prices = set (s .prices) d p;
         sums = s .sums;
         totals = s .totals;
         hang = s .hang;
@@ -57,8 +56,7 @@ module _ (sheet : List ℕ) (s : PotState) (p i : ℕ) {d : ℕ} (ed : d ≡ row
       (record {
         marks = set (s .marks) i p;
         won = s .won;
-        opened = set
-            (s .opened) d false;
+        opened = set (s .opened) d false;
         prices = s .prices;
         sums = s .sums;
         totals = s .totals;

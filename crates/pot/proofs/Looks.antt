@@ -31,7 +31,7 @@ follows-is : (P : Pot) (i : ℕ) (l : List ℕ) → follows P i l ≡ (eqb (leng
 unfolding follows
 follows-is P i [] = refl
 follows-is P i (c ∷ []) = refl
-follows-is P i (c ∷ d ∷ l) = rw (ne-eqb (Prim.Native.Nat.suc (Prim.Native.Nat.suc (length l))) 1 (λ e. let y : ⊥ = omega arith in y))
+follows-is P i (c ∷ d ∷ l) = rw (ne-eqb (Prim.Native.Nat.suc (Prim.Native.Nat.suc (length l))) 1 (λ e. let no : ⊥ = omega arith in no))
 
 -- what is live has not won
 pub not-won : (P : Pot) (t : Trace) (b : ℕ) → live P t b ≡ true → memb b (winners t) ≡ false
@@ -69,7 +69,7 @@ module _ (sheet : List ℕ) (of : Size) (ok : Ready sheet of) where
     su = win-sizes sheet p s (R .sizes) l
 
     won-by : Holds P (l ++ winners t) u
-    won-by = link.holds-win sheet of ok (winners t) s (R .sizes) p l (λ i j. let y = sound i j in (y .0, y .2, y .3)) (holds-rep R)
+    won-by = link.holds-win sheet of ok (winners t) s (R .sizes) p l (λ i j. let f = sound i j in (f .0, f .2, f .3)) (holds-rep R)
 
     -- the winners all entered the auction
     pub trial-others : (i : ℕ) → i < of .bids → inAuction sheet i ≡ false → eqb (getD (u .marks) i 0) becauseWon ≡ false
@@ -89,7 +89,7 @@ module _ (sheet : List ℕ) (of : Size) (ok : Ready sheet of) where
       won = λ y j. ap (λ (x : List Bool). getD x y false) ew ∙ win-won sheet p s (R .sizes) l y (λ i h. ok .app i (sound i h .0));
       opened = λ d j. op d j ∙ ap (λ (x : List ℕ). not (memb d x) && getD (s .opened) d false) (sym (R .hang));
       prices =
-          λ d j. ap (λ (x : List ℕ). getD x d 0) eq ∙ link.win-prices sheet of ok (winners t) s (R .sizes) p l d (λ i h. let y = sound i h in (y .0, y .2));
+          λ d j. ap (λ (x : List ℕ). getD x d 0) eq ∙ link.win-prices sheet of ok (winners t) s (R .sizes) p l d (λ i h. let f = sound i h in (f .0, f .2));
       hang = rw hg;
     }
 
@@ -168,8 +168,7 @@ module _ (sheet : List ℕ) (of : Size) (ok : Ready sheet of) where
           (record {
             marks = sizes .marks;
             won = sizes .won;
-            opened = length-set (s .opened) (rowYear sheet i) false
-                ∙ R .sizes .opened;
+            opened = length-set (s .opened) (rowYear sheet i) false ∙ R .sizes .opened;
             prices = sizes .prices;
           })
           (λ d j. put-is (s .opened) (rowYear sheet i) d false false (omega (arith, R .sizes .opened, ok .year i (sound i h .0)))

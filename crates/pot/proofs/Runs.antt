@@ -69,13 +69,13 @@ module _ (sheet : List ℕ) (of : Size) (ok : Ready sheet of) where
   -- some price is below none where a bid is live
   some-live : (l : List ℕ) → leastOr sheet l < noPrice → (x : ℕ) × In x l
   unfolding leastOr
-  some-live [] e = absurd (let y : ⊥ = omega arith in y)
+  some-live [] e = absurd (let no : ⊥ = omega arith in no)
   some-live (x ∷ l) e = (x, here refl)
 
   none-live : (l : List ℕ) → ((k : ℕ) → In k l → rowPrice sheet k ≤ highestPrice) → noPrice ≤ leastOr sheet l → l ≡ []
   unfolding leastOr
   none-live [] h e = refl
-  none-live (x ∷ l) h e = absurd (let y : ⊥ = omega (arith, h x (here refl)) in y)
+  none-live (x ∷ l) h e = absurd (let no : ⊥ = omega (arith, h x (here refl)) in no)
 
   module _ (s : PotState) (G : Going P s) where
     abbrev t : Trace
@@ -95,8 +95,8 @@ module _ (sheet : List ℕ) (of : Size) (ok : Ready sheet of) where
       found : (x : ℕ) × In x (sift (live P t) (P .bids))
       unfolding lowestOf
       found =
-          let y = some-live (sift (liveOf sheet s) (below (of .bids))) (rw ep at e) in
-          (y .0, rw (sym (link.live-list sheet of ok t s R)) (y .1))
+          let f = some-live (sift (liveOf sheet s) (below (of .bids))) (rw ep at e) in
+          (f .0, rw (sym (link.live-list sheet of ok t s R)) (f .1))
 
       held : In (found .0) (P .bids) × (live P t (found .0) ≡ true)
       held = sift-in (found .0) (live P t) (P .bids) (found .1)
@@ -133,8 +133,7 @@ module _ (sheet : List ℕ) (of : Size) (ok : Ready sheet of) where
                 inv = kept;
                 stands = stands;
                 enough = λ n. omega (arith, less n);
-                on = q
-                    ∙ run-on P j t (first .0) (first .1) ∙ opened;
+                on = q ∙ run-on P j t (first .0) (first .1) ∙ opened;
               }
             where
               opened : pick (event .wide) (event ∷ t) (run P j (event ∷ t)) ≡ pick (wideEnd (event ∷ t)) (event ∷ t) (run P j (event ∷ t))
@@ -165,7 +164,7 @@ module _ (sheet : List ℕ) (of : Size) (ok : Ready sheet of) where
 
         none : (l : List ℕ) → Lows P t l → l ≡ []
         none [] h = refl
-        none (x ∷ l) h = let y = h .sound x (here refl) in in-none (rw empty at (in-sift (live P t) (y .0) (y .1)))
+        none (x ∷ l) h = let f = h .sound x (here refl) in in-none (rw empty at (in-sift (live P t) (f .0) (f .1)))
 
   -- ---- no bid has been looked at
   size : of .bids ≤ length noMarks
@@ -183,7 +182,7 @@ module _ (sheet : List ℕ) (of : Size) (ok : Ready sheet of) where
   started-past (suc n) i h g k =
       put-is (fill noMarks (λ i. firstMark (rowStanding sheet i)) n) n i (firstMark (rowStanding sheet n)) 0
       (omega (arith, fill-length noMarks (λ i. firstMark (rowStanding sheet i)) n))
-      ∙ rw (ne-eqb i n (λ e. let y : ⊥ = omega arith in y)) (started-past n i (omega arith) (omega arith) k)
+      ∙ rw (ne-eqb i n (λ e. let no : ⊥ = omega arith in no)) (started-past n i (omega arith) (omega arith) k)
 
   pub started-stands : {s : PotState} → s ≡ startedOf sheet of → Stands P [] s
   unfolding wideEnd winners seen closed hanging mark priceFrom hangs startedOf noMarks

@@ -50,11 +50,11 @@ module _ (sheet : List ℕ) where
   least-le : (k : ℕ) (l : List ℕ) → In k l → leastOr sheet l ≤ rowPrice sheet k
   unfolding leastOr
   least-le k (x ∷ l) (here e) = rw e (omega arith)
-  least-le k (x ∷ l) (there i) = let y = least-le k l i in omega arith
+  least-le k (x ∷ l) (there i) = let f = least-le k l i in omega arith
 
   none-at : (q : ℕ) (l : List ℕ) → ((k : ℕ) → In k l → q < rowPrice sheet k) → sift (λ i. eqb (rowPrice sheet i) q) l ≡ []
   none-at q [] h = refl
-  none-at q (x ∷ l) h = let y = h x (here refl) in rw (ne-eqb (rowPrice sheet x) q (λ e. let w : ⊥ = omega arith in w)) (none-at q l (λ k i. h k (there i)))
+  none-at q (x ∷ l) h = let f = h x (here refl) in rw (ne-eqb (rowPrice sheet x) q (λ e. let no : ⊥ = omega arith in no)) (none-at q l (λ k i. h k (there i)))
 
   pub look-parts : (l : List ℕ) → ((lookOf sheet l) .price ≡ leastOr sheet l) × ((lookOf sheet l) .count ≡ length (cheapest l)) ×
       ((lookOf sheet l) .last ≡ headOr 0 (cheapest l))
@@ -74,7 +74,7 @@ module _ (sheet : List ℕ) where
           (λ t.
           let h = ltb-true (L .price) (rowPrice sheet x) t in
           let e : min (rowPrice sheet x) (leastOr sheet l) ≡ leastOr sheet l = omega arith in
-          rw (t, e, ne-eqb (rowPrice sheet x) (leastOr sheet l) (λ e. let w : ⊥ = omega arith in w)) (ep, ec, el))
+          rw (t, e, ne-eqb (rowPrice sheet x) (leastOr sheet l) (λ e. let no : ⊥ = omega arith in no)) (ep, ec, el))
           (λ f.
           let h = ltb-false (L .price) (rowPrice sheet x) f in
           let e : min (rowPrice sheet x) (leastOr sheet l) ≡ rowPrice sheet x = omega arith in
@@ -82,7 +82,7 @@ module _ (sheet : List ℕ) where
           (case (ltb (rowPrice sheet x) (L .price))
           (λ t.
           let g = ltb-true (rowPrice sheet x) (L .price) t in
-          rw (t, none-at (rowPrice sheet x) l (λ k i. let y = least-le k l i in omega arith)) (refl, refl, refl))
+          rw (t, none-at (rowPrice sheet x) l (λ k i. let f = least-le k l i in omega arith)) (refl, refl, refl))
           (λ u.
           let g = ltb-false (rowPrice sheet x) (L .price) u in
           let d : rowPrice sheet x ≡ leastOr sheet l = omega arith in
@@ -91,7 +91,7 @@ module _ (sheet : List ℕ) where
   look-few : (l : List ℕ) → (lookOf sheet l) .count ≤ length l
   unfolding lookOf
   look-few [] = omega arith
-  look-few (x ∷ l) = let y = look-few l in let w = joined-count (lookOf sheet l) (rowPrice sheet x) x in omega arith
+  look-few (x ∷ l) = let f = look-few l in let w = joined-count (lookOf sheet l) (rowPrice sheet x) x in omega arith
 
 -- ---- the pass
 module _ (sheet : List ℕ) (s : PotState) (j : ℕ) {l : Look} (e : l ≡ lookOf sheet (sift (liveOf sheet s) (entrants sheet j))) where
@@ -127,8 +127,8 @@ module _ (sheet : List ℕ) (of : Size) (s : PotState) (ck : Ready sheet of) whe
   look-all : Looked sheet of s (lookOf sheet (sift (liveOf sheet s) (below (of .bids))))
   unfolding lowestOf
   look-all =
-      let y = look-parts sheet (sift (liveOf sheet s) (below (of .bids))) in
-      record { price = y .0; count = y .1 ∙ ap length (sym taken-list); last = y .2 ∙ ap (headOr 0) (sym taken-list) }
+      let f = look-parts sheet (sift (liveOf sheet s) (below (of .bids))) in
+      record { price = f .0; count = f .1 ∙ ap length (sym taken-list); last = f .2 ∙ ap (headOr 0) (sym taken-list) }
 
   pub pass-looked : {j : ℕ} {l : Look} → Others sheet of s → l ≡ lookOf sheet (sift (liveOf sheet s) (entrants sheet j)) → j ≤ of .entered → of .entered ≤ j
       → Looked sheet of s l
@@ -136,7 +136,7 @@ module _ (sheet : List ℕ) (of : Size) (s : PotState) (ck : Ready sheet of) whe
 
 -- a sole bid is one of the sheet's, and is live
 head-in : (a : List ℕ) → length a ≡ 1 → In (headOr 0 a) a
-head-in [] e = absurd (let y : ⊥ = omega arith in y)
+head-in [] e = absurd (let no : ⊥ = omega arith in no)
 head-in (x ∷ a) e = here refl
 
 sole-in : {sheet : List ℕ} {of : Size} {s : PotState} {l : Look} → Looked sheet of s l → l .count ≡ 1 → In (l .last) (members (takenOf sheet of s) (of .bids))

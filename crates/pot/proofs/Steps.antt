@@ -24,9 +24,9 @@ use Rattle.pot.proofs.Sums.{revalued-sums, sum-total, row-fits, stands-
 
 -- one taken, or several
 only : (l : List ℕ) {c i : ℕ} → c ≡ length l → c ≡ 1 → i ≡ headOr 0 l → l ≡ i ∷ []
-only [] ec h e = absurd (let y : ⊥ = omega arith in y)
+only [] ec h e = absurd (let no : ⊥ = omega arith in no)
 only (x ∷ []) ec h e = rw e
-only (x ∷ y ∷ l) ec h e = absurd (let y : ⊥ = omega arith in y)
+only (x ∷ y ∷ l) ec h e = absurd (let no : ⊥ = omega arith in no)
 
 several : (P : Pot) (t : Trace) (l : List ℕ) {c x : ℕ} → c ≡ length l → (c ≡ 1 → ⊥) → In x l → lost P t l ≡ tied P t l
 unfolding lost
@@ -112,9 +112,9 @@ module _ (sheet : List ℕ) (of : Size) (ok : Ready sheet of) (s : PotState) {p 
     step-alone {i} q e t x S n j =
         let P = potIn sheet of in
         let R = S .rep n in
-        let y : taken P t ≡ i ∷ [] = sym (of-set t R) ∙ q in
-        let w : In i (taken P t) = rw y (here refl) in
-        rw (look-lost t R ∙ ap (lost P t) y ∙ lost-one P t i, e) (record {
+        let f : taken P t ≡ i ∷ [] = sym (of-set t R) ∙ q in
+        let w : In i (taken P t) = rw f (here refl) in
+        rw (look-lost t R ∙ ap (lost P t) f ∙ lost-one P t i, e) (record {
           wide = looks.alone-wide sheet of ok t s R i ∙ S .wide ∙ n ∙ sym (not-wide P t i);
           rep = λ u. looks.alone-rep sheet of ok t s R i w;
         })

@@ -118,7 +118,7 @@ module _ (sheet : List ℕ) (of : Size) (ok : Ready sheet of) where
           opened = unfold members in refl
 
       in-out : (i : ℕ) → In i out → In i l × (memb i ch ≡ false)
-      in-out i j = let y = sift-in i (λ c. not (memb c ch)) l j in (y .0, not-is-true (memb i ch) (y .1))
+      in-out i j = let f = sift-in i (λ c. not (memb c ch)) l j in (f .0, not-is-true (memb i ch) (f .1))
 
       abbrev v : PotState
       v = winAll sheet p s ch
@@ -132,7 +132,7 @@ module _ (sheet : List ℕ) (of : Size) (ok : Ready sheet of) where
       shared-did : Did P (shared P t l) s x
       unfolding hungOf hangs potIn
       shared-did = record {
-        sizes = let y = turn-sizes sheet downTied v sv out in record { marks = y .marks; won = y .won; opened = y .opened; prices = y .prices };
+        sizes = let f = turn-sizes sheet downTied v sv out in record { marks = f .marks; won = f .won; opened = f .opened; prices = f .prices };
         marks = λ i.
             turn-marks sheet downTied v sv out i (λ c j. few c (in-out c j .0))
             ∙ ap (pick (memb i out) downTied) (win-marks sheet p s (R .sizes) ch i (λ c j. few c (in-choice c j)))
@@ -145,7 +145,7 @@ module _ (sheet : List ℕ) (of : Size) (ok : Ready sheet of) where
             ∙ ap (λ (q : List Bool). not (memb d (map (rowYear sheet) out)) && getD q d false) (win-opened sheet p s (R .sizes) ch);
         prices = λ d j.
             ap (λ (q : List ℕ). getD q d 0) (turn-prices sheet downTied v sv out)
-            ∙ link.win-prices sheet of ok ws s (R .sizes) p ch d (λ c g. let y = sound c (in-choice c g) in (y .0, y .2));
+            ∙ link.win-prices sheet of ok ws s (R .sizes) p ch d (λ c g. let f = sound c (in-choice c g) in (f .0, f .2));
         hang = refl;
       }
         where

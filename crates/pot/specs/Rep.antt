@@ -28,10 +28,10 @@ pub record Sizes (s : PotState) : Type 0 where
 -- The arrays s stand for the trace t
 pub record Rep (P : Pot) (t : Trace) (s : PotState) : Type 0 where
   pub sizes : Sizes s
-  pub other : (b : ℕ) → b < mostNumbers → memb b (P .bids) ≡ false → getD (s .marks) b 0 ≡ notHere
-  pub why : (b : ℕ) → In b (P .bids) → getD (s .marks) b 0 ≡ mark t b
-  pub one : (b : ℕ) → In b (P .bids) → eqb (getD (s .marks) b 0) becauseWon ≡ memb b (winners t)
-  pub fresh : (b : ℕ) → In b (P .bids) → eqb (getD (s .marks) b 0) noReason ≡ not (memb b (seen t))
+  pub other : (k : ℕ) → k < mostNumbers → memb k (P .bids) ≡ false → getD (s .marks) k 0 ≡ notHere
+  pub why : (k : ℕ) → In k (P .bids) → getD (s .marks) k 0 ≡ mark t k
+  pub one : (k : ℕ) → In k (P .bids) → eqb (getD (s .marks) k 0) becauseWon ≡ memb k (winners t)
+  pub fresh : (k : ℕ) → In k (P .bids) → eqb (getD (s .marks) k 0) noReason ≡ not (memb k (seen t))
   pub has : (a : ℕ) → a < mostApps → getD (s .won) a false ≡ memb a (map (P .app) (winners t))
   pub free : (d : ℕ) → d < mostDeliveries → getD (s .opened) d false ≡ not (memb d (closed t))
   pub price : (d : ℕ) → d < mostDeliveries → getD (s .prices) d 0 ≡ priceFrom P noPrice (winners t) d

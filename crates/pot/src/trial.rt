@@ -15,8 +15,8 @@ use sheet::COLUMNS;
 use sheet::Sheet;
 use sheet::Size;
 
-// Sums with a row written as that of delivery year d.
-fn with_row(of: Size, sums: Sums, row: [u64; COLUMNS], d: usize) -> Sums
+// A row of totals, laid as that of delivery year d.
+fn laid(of: Size, sums: Sums, row: [u64; COLUMNS], d: usize) -> Sums
     requires { ⌜ (of .years ≤ columns) × (d < mostDeliveries) ⌝ }
     ensures { λ r. ⌜ r ≡ placed (λ y. getD row y 0) sums (d * columns) (of .years) ⌝ }
 {
@@ -55,7 +55,7 @@ impl PotState {
         let price = self.prices[d];
         let row = totals::part(sheet, of, marks, price, d);
         let sums = self.sums;
-        self.sums = with_row(of, sums, row, d);
+        self.sums = laid(of, sums, row, d);
         self
     }
 
@@ -93,8 +93,8 @@ impl PotState {
         t.totalled(of)
     }
 
-    // A trial of one bid: it is added to the winners, the clearing price of its year is its price, and the winners of that year are revalued, since no other's price
-    // has changed.
+    // A trial of one bid: it is added to the winners, the clearing price of its year is its price, and the winners of that year are revalued, since no
+    // other's price has changed.
     pub(crate) fn tried(self, sheet: &Sheet, of: Size, k: usize, price: u64) -> PotState
         requires { ⌜ Valued (now sheet) of self × (k < of .bids) ⌝ }
         ensures { λ r. ⌜ r ≡ triedOf (now (sheet .entry)) of price k self ⌝ }

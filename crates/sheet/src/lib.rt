@@ -3,7 +3,8 @@
 ghost use mathlib.Core.Path.{_≡_};
 ghost use Prim.Native.Nat.{_<_};
 ghost use Rattle.rules.specs.Names.{mostNumbers};
-ghost use Rattle.sheet.specs.Sheet.{columns, limitAt, entrantAt, rowStanding, rowApp, rowYear, rowPrice, rowDraw, rowAdmin, figReference, figEnergy, figShare};
+ghost use Rattle.sheet.specs.Sheet.{columns, limitAt, entrantAt, rowStanding, rowApp, rowYear, rowPrice, rowDraw, rowAdmin, figReference, figEnergy};
+ghost use Rattle.sheet.specs.Sheet.{figShare};
 
 // How much of a sheet is used: the years of the file; its sealed bids; these and the automatic bid of each application; and the bids that enter the auction.
 pub struct Size {

@@ -41,7 +41,8 @@ repriced-past prices p t zero d h g = refl
 repriced-past prices p t (suc n) d h g =
     let r = repriced-past prices p t n d (omega arith) (omega arith) in
     case (has t n)
-    (λ e. rw e (put-is (repricedTo prices p t n) n d p 0 (omega (arith, repriced-length prices p t n)) ∙ rw (ne-eqb d n (λ q. let y : ⊥ = omega arith in y)) r))
+    (λ e. rw e (put-is (repricedTo prices p t n) n d p 0 (omega (arith, repriced-length prices p t n))
+    ∙ rw (ne-eqb d n (λ q. let no : ⊥ = omega arith in no)) r))
     (λ f. rw f r)
 
 repriced-at : (prices : List ℕ) (p t n d : ℕ) → d < n → n ≤ length prices → getD (repricedTo prices p t n) d 0 ≡ pick (has t d) p (getD prices d 0)
@@ -101,7 +102,7 @@ module _ (sheet : List ℕ) (of : Size) (ok : Ready sheet of) where
 
       past : (n : ℕ) → n ≤ i → sift (λ k. eqb k i) (below n) ≡ []
       past zero g = refl
-      past (suc n) g = rw (ne-eqb n i (λ e. let y : ⊥ = omega arith in y)) (past n (omega arith))
+      past (suc n) g = rw (ne-eqb n i (λ e. let no : ⊥ = omega arith in no)) (past n (omega arith))
 
       one : (n : ℕ) → i < n → sift (λ k. eqb k i) (below n) ≡ i ∷ []
       one zero g = absurd (omega arith)
@@ -358,13 +359,13 @@ module _ (sheet : List ℕ) (of : Size) (ok : Ready sheet of) where
 
             tried : Tried cs years
             tried =
-                let y = touched-is k (omega arith) in
+                let f = touched-is k (omega arith) in
                 record {
                   part = part-com;
                   price = λ i j. pl i (in-com i j);
                   fresh = λ i j. fl i (in-com i j);
-                  low = y .0;
-                  years = λ d g. y .1 d g ∙ ap (λ (x : List ℕ). memb d (map (P .yr) x)) of-com;
+                  low = f .0;
+                  years = λ d g. f .1 d g ∙ ap (λ (x : List ℕ). memb d (map (P .yr) x)) of-com;
                 }
 
             figure-is : (y : ℕ) → y < of .years → figure base own ranks k mask years y ≡ total P (cs ++ ws) y

@@ -31,7 +31,7 @@ listed-set : (a : List ℕ) (k i v : ℕ) → k ≤ i → i < length a → liste
 unfolding listed
 listed-set a zero i v h g = refl
 listed-set a (suc k) i v h g =
-    rw (put-is a i k v 0 g, listed-set a k i v (omega arith) g, ne-eqb k i (λ e. let y : ⊥ = omega arith in y))
+    rw (put-is a i k v 0 g, listed-set a k i v (omega arith) g, ne-eqb k i (λ e. let no : ⊥ = omega arith in no))
 
 -- one more is written at the end
 listed-more : (a : List ℕ) (k v : ℕ) → k < length a → listed (set a k v) (suc k) ≡ v ∷ listed a k
@@ -86,7 +86,7 @@ module _ (l : List Bool) (q : ℕ) {k : ℕ} {list : List ℕ} (ek : k ≡ lengt
       opened j i = unfold members in i
 
 pub numbers-more : {list : List ℕ} {k q : ℕ} (n : ℕ) → q ≤ n → Numbers list k q → Numbers list k n
-numbers-more n h N = record { few = N .few; small = λ j g. let y = N .small j g in omega arith }
+numbers-more n h N = record { few = N .few; small = λ j g. let f = N .small j g in omega arith }
 
 -- ---- all is small
 pub base-ok : (sheet : List ℕ) (of : Size) (marks prices : List ℕ) (p : ℕ) {base : List ℕ} → Ready sheet of → base ≡ basesOf sheet of marks prices p

@@ -1,5 +1,5 @@
--- The combinations by the parts of their numbers: a number below 2 ^ n and a multiple of 2 ^ n have no binary place in common, so what they cost and the years that
--- they touch are joined. Assumes nothing.
+-- The combinations by the parts of their numbers: a number below 2 ^ n and a multiple of 2 ^ n have no binary place in common, so what they cost and the
+-- years that they touch are joined. Assumes nothing.
 use Prim.Native.Nat.{ℕ, zero, suc, _+_, _-_, _*_, _/_, _%_, _^_, _≤_, _<_, max}
 use mathlib.Core.Path.{_≡_, refl, sym, ap, ap₂, _∙_}
 use mathlib.Core.Bool.{Bool, true, false, _&&_, _||_}
@@ -35,7 +35,7 @@ module _ (u : ℕ) where
   half-of n = omega (arith, ap (λ (x : ℕ). x * u) (pow-suc 2 n))
 
   even-not : (n : ℕ) → has (2 ^ suc n * u) 0 ≡ false
-  even-not n = ne-eqb (2 ^ suc n * u / 1 % 2) 1 (λ e. let y : ⊥ = omega (arith, half-of n) in y)
+  even-not n = ne-eqb (2 ^ suc n * u / 1 % 2) 1 (λ e. let no : ⊥ = omega (arith, half-of n) in no)
 
   half-has : (n i : ℕ) → has (2 ^ suc n * u) (suc i) ≡ has (2 ^ n * u) i
   half-has n i = has-suc (2 ^ suc n * u) i ∙ ap (λ (x : ℕ). has x i) (omega (arith, half-of n))
@@ -204,10 +204,10 @@ cost-step own ranks k i r h g ea eb =
     let d = less-row i (2 ^ r) l in
     let q : (i - 2 ^ r * 8) / 8 % 32 ≡ i / 8 % 32 - 2 ^ r = ap (λ (x : ℕ). x % 32) d ∙ less-part (i / 8) (2 ^ r) h in
     let s : (i - 2 ^ r * 8) / 256 ≡ i / 256 = by-parts (i - 2 ^ r * 8) ∙ ap (λ (x : ℕ). x / 32) d ∙ less-above (i / 8) (2 ^ r) h ∙ sym (by-parts i) in
-    let y = less-place i (2 ^ r) l in
+    let f = less-place i (2 ^ r) l in
     let p : ((i / 256 * 5 + r) * 8 + i % 8) / 8 ≡ i / 256 * 5 + r = omega arith in
     let w : ((i / 256 * 5 + r) * 8 + i % 8) % 8 ≡ i % 8 = omega arith in
-    ap₂ _+_ (ea ∙ ap₂ (λ (x m : ℕ). combinedOf own ranks (x * 2 ^ ((i - 2 ^ r * 8) / 256 * 5)) m k) q y
+    ap₂ _+_ (ea ∙ ap₂ (λ (x m : ℕ). combinedOf own ranks (x * 2 ^ ((i - 2 ^ r * 8) / 256 * 5)) m k) q f
     ∙ ap (λ (x : ℕ). combinedOf own ranks ((i / 8 % 32 - 2 ^ r) * 2 ^ (x * 5)) (i % 8) k) s)
     (eb ∙ ap₂ (λ (x m : ℕ). combinedOf own ranks (2 ^ x) m k) p w)
     ∙ combined-part (i / 256 * 5) r (i / 8 % 32) h g own ranks (i % 8) k

@@ -96,7 +96,7 @@ noList = replicate widestTie 0
 -- the members of a set below n, written one after the other
 unfoldable pub compactOf : List Bool → ℕ → List ℕ
 compactOf l zero = noList
-compactOf l (suc i) = pick (getD l i false) (set (compactOf l i) (length (members l i)) i) (compactOf l i)
+compactOf l (suc k) = pick (getD l k false) (set (compactOf l k) (length (members l k)) k) (compactOf l k)
 
 -- how many of the first have a draw above x; the binary place, the start year of the bid at place j
 unfoldable pub aboveOf : (sheet list : List ℕ) (x count : ℕ) → ℕ

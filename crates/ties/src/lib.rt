@@ -1,6 +1,6 @@
 // Ties: several bids at one price that do not fit together. A trial of some of them changes the clearing price of the years in which these start, and of
 // no other; so the totals of the present winners are taken once for each set of delivery years, and a combination adds what its own bids cost,
-// which a table has for each half of its number. specs/Ties.antt says what each function computes.
+// which a table has for each part of its number. specs/Ties.antt says what each function computes.
 ghost use mathlib.Core.Path.{_≡_};
 ghost use Rattle.rules.specs.Names.{mostNumbers};
 ghost use Rattle.sheet.specs.Sheet.{Ready};

@@ -7,12 +7,12 @@ use Rattle.pot.proofs.PotState.renewed.Tie as tie
 part-requires : tie.Need-part-requires
 part-requires c κs = c .before .before .pre .0
 
-with-row-requires : tie.Need-with-row-requires
-with-row-requires c κs = (c .before .before .before .before .pre .0 .years, c .before .before .before .before .pre .1)
+laid-requires : tie.Need-laid-requires
+laid-requires c κs = (c .before .before .before .before .pre .0 .years, c .before .before .before .before .pre .1)
 
 returns : tie.Need-returns
-returns c = renewed-is _ _ _ _ (c .before .before .part .ensures) (c .with-row .ensures)
+returns c = renewed-is _ _ _ _ (c .before .before .part .ensures) (c .laid .ensures)
 
 pub renewed-spec : {M : Type 1} → statement M
 renewed-spec =
-    tie.close (tie.spec (λ c. search needs) (λ c. search needs) part-requires with-row-requires returns)
+    tie.close (tie.spec (λ c. search needs) (λ c. search needs) part-requires laid-requires returns)

@@ -7,8 +7,8 @@ use lib.ListN.{getD}
 use Rattle.arrays.proofs.Laws.{done, place-next}
 use Rattle.arrays.specs.Sets.{placed}
 use Rattle.sheet.specs.Sheet.{columns}
-use Rattle.pot.proofs.trial.with_row.Statement.{statement}
-use Rattle.pot.proofs.trial.with_row.Tie as tie
+use Rattle.pot.proofs.trial.laid.Statement.{statement}
+use Rattle.pot.proofs.trial.laid.Tie as tie
 
 abbrev Inv-loop : tie.InvT-loop
 Inv-loop d row out₀ years y₀ out y = (y ≤ years) × (out ≡ placed (λ x. getD row x 0) out₀ (d * columns) y)
@@ -26,7 +26,7 @@ loop-again c = (omega arith, place-next _ _ _ _ (c .before .loop .inv .1) refl)
 returns : tie.Need-returns Inv-loop μ-loop
 returns c = done (placed _ _ _) (c .before .loop .inv .1) (c .before .loop .inv .0) (c .loop-test .left)
 
-pub with-row-spec : {M : Type 1} → statement M
-with-row-spec =
+pub laid-spec : {M : Type 1} → statement M
+laid-spec =
     tie.close (tie.spec Inv-loop μ-loop loop-holds (λ c. search needs) (λ c. search needs) (λ c. search needs) (λ c. search needs) (λ c. search needs)
     (λ c. search needs) (λ c. omega arith) (λ c. omega arith) loop-again returns)
