@@ -1,18 +1,18 @@
 -- Laws over plain variables: each answers one need of a proof. Assumes nothing.
-use Prim.Native.Nat.{ℕ, _+_, _*_, _≤_, _<_, min}
-use mathlib.Core.Path.{_≡_, ap, ap₂, _∙_}
+use Prim.Native.Nat.{ℕ, _+_, _≤_, _<_, min}
+use mathlib.Core.Path.{_≡_, refl, ap, ap₂, _∙_}
 use mathlib.Core.Bool.{Bool, true, false}
 use mathlib.Core.List.{List}
 use native.Mathlib.Omega.{arith}
 use native.Mathlib.Numerals.{add-one}
-use lib.ListN.{length, getD, set}
+use lib.ListN.{getD, set}
 use borrow.Author.Tests.{eq-eqb, ne-eqb, lt-ltb, le-ltb}
-use Rattle.rules.specs.Names.{becauseWon}
+use Rattle.rules.specs.Names.{noBid, becauseWon, mostNumbers}
+use Rattle.rules.specs.declared.Told.{Told}
 use Rattle.sheet.specs.declared.Size.{Size}
-use Rattle.sheet.specs.Sheet.{Ready, rowApp, rowYear, rowAdmin}
-use Rattle.pot.specs.declared.PotState.{PotState}
-use Rattle.auction.specs.declared.Cleared.{Cleared}
-use Rattle.auction.specs.Numbers.{reasonBy, reasonAt, reasonsOf, winningOf, payOf, paidOf, toldOf}
+use Rattle.sheet.specs.Sheet.{Ready, entrantAt, rowApp, rowYear, rowPrice, rowAdmin}
+use Rattle.sheet.proofs.Entrants.{entrant-small, entrants-few}
+use Rattle.auction.specs.Numbers.{reasonBy, reasonAt, reasonsOf, winningOf, atAdmin, bidBy, toldBy}
 
 -- ---- reasons
 
@@ -28,50 +28,64 @@ pub reason-else : (mark : ℕ) (won : Bool) → mark ≡ 0 → won ≡ false →
 unfolding reasonBy
 reason-else mark won e t = rw (eq-eqb mark 0 e, t)
 
-pub reason-is : (sheet marks : List ℕ) (won : List Bool) (k : ℕ) {r a : ℕ} → a ≡ rowApp sheet k → r ≡ reasonBy (getD marks k 0) (getD won a false) → r ≡ reasonAt sheet marks won k
-unfolding reasonAt
-reason-is sheet marks won k e q = q ∙ ap (λ (x : ℕ). reasonBy (getD marks k 0) (getD won x false)) e
+-- that of the next bid that enters
+pub reason-next : (sheet marks : List ℕ) (won : List Bool) (j : ℕ) {l : List ℕ} {k a r : ℕ} → l ≡ reasonsOf sheet marks won j → k ≡ entrantAt sheet j
+    → a ≡ rowApp sheet k → r ≡ reasonBy (getD marks k 0) (getD won a false) → set l k r ≡ reasonsOf sheet marks won (j + 1)
+unfolding reasonsOf reasonAt
+reason-next sheet marks won j {k = k} e q p h = rw (add-one j, h, p, e, q)
 
 -- ---- winning bids
 
-pub winning-hit : (sheet marks : List ℕ) (k : ℕ) {l : List ℕ} {a : ℕ} → l ≡ winningOf sheet marks k → a ≡ rowApp sheet k → getD marks k 0 ≡ becauseWon → set l a k ≡ winningOf sheet marks (k + 1)
+pub winning-hit : (sheet marks : List ℕ) (k : ℕ) {l : List ℕ} {a : ℕ} → l ≡ winningOf sheet marks k → a ≡ rowApp sheet k → getD marks k 0 ≡ becauseWon
+    → set l a k ≡ winningOf sheet marks (k + 1)
 unfolding winningOf
 winning-hit sheet marks k e p h = rw (add-one k, eq-eqb (getD marks k 0) becauseWon h, e, p)
 
-pub winning-miss : (sheet marks : List ℕ) (k : ℕ) {l : List ℕ} → l ≡ winningOf sheet marks k → (getD marks k 0 ≡ becauseWon → ⊥) → l ≡ winningOf sheet marks (k + 1)
+pub winning-miss : (sheet marks : List ℕ) (k : ℕ) {l : List ℕ} → l ≡ winningOf sheet marks k → (getD marks k 0 ≡ becauseWon → ⊥)
+    → l ≡ winningOf sheet marks (k + 1)
 unfolding winningOf
 winning-miss sheet marks k e h = rw (add-one k, ne-eqb (getD marks k 0) becauseWon h) e
 
--- ---- what is paid
+-- ---- what is told of an application
 
-pub pay-hit : (sheet : List ℕ) (of : Size) (prices : List ℕ) (w : ℕ) {r d c : ℕ} → w < of .bids → d ≡ rowYear sheet w → c ≡ rowAdmin sheet w → r ≡ min (getD prices d 0) c → r ≡ payOf sheet of prices w
-unfolding payOf
-pay-hit sheet of prices w h e q p = rw (lt-ltb w (of .bids) h) (p ∙ ap₂ (λ (x z : ℕ). min (getD prices x 0) z) e q)
+pub bid-sealed : (of : Size) (w : ℕ) → w < of .sealed → w ≡ bidBy of w
+unfolding bidBy
+bid-sealed of w h = rw (lt-ltb w (of .sealed) h)
 
-pub pay-miss : (sheet : List ℕ) (of : Size) (prices : List ℕ) (w : ℕ) → of .bids ≤ w → 0 ≡ payOf sheet of prices w
-unfolding payOf
-pay-miss sheet of prices w h = rw (le-ltb w (of .bids) h)
+pub bid-auto : (of : Size) (w : ℕ) → of .sealed ≤ w → 65534 ≡ bidBy of w
+unfolding bidBy
+bid-auto of w h = rw (le-ltb w (of .sealed) h)
 
--- what an accessor answered is below its bound
+module _ (sheet : List ℕ) (of : Size) (prices : List ℕ) (a w auto : ℕ) where
+  pub told-bid : {bid paid d admin : ℕ} → w < of .bids → bid ≡ bidBy of w → d ≡ rowYear sheet w → admin ≡ rowAdmin sheet w
+      → paid ≡ min (getD prices d 0) admin
+      → _≡_ {A = Told} (record { won = 1; bid = bid; reason = auto; paid = paid }) (toldBy sheet of prices a w auto)
+  unfolding toldBy
+  told-bid h eb ed ea ep = rw (lt-ltb w (of .bids) h, eb, ep, ed, ea)
+
+  pub told-admin : {paid : ℕ} → of .bids ≤ w → w ≡ atAdmin → paid ≡ rowPrice sheet (of .sealed + a)
+      → _≡_ {A = Told} (record { won = 1; bid = noBid; reason = auto; paid = paid }) (toldBy sheet of prices a w auto)
+  unfolding toldBy
+  told-admin h e p = rw (le-ltb w (of .bids) h, eq-eqb w atAdmin e, p)
+
+  pub told-lost : of .bids ≤ w → (w ≡ atAdmin → ⊥)
+      → _≡_ {A = Told} (record { won = 0; bid = noBid; reason = auto; paid = 0 }) (toldBy sheet of prices a w auto)
+  unfolding toldBy
+  told-lost h n = rw (le-ltb w (of .bids) h, ne-eqb w atAdmin n)
+
+-- ---- what an accessor answered is below its bound
+
 pub app-below : (sheet : List ℕ) (of : Size) (k : ℕ) {a : ℕ} → Ready sheet of → k < of .bids → a ≡ rowApp sheet k → a < 64
 app-below sheet of k ok h e = omega (arith, ok .app k h)
 
 pub year-below : (sheet : List ℕ) (of : Size) (k : ℕ) {d : ℕ} → Ready sheet of → k < of .bids → d ≡ rowYear sheet k → d < 4
 year-below sheet of k ok h e = omega (arith, ok .year k h)
 
-pub row-there : (sheet : List ℕ) (of : Size) (k : ℕ) → Ready sheet of → k < of .bids → k < 320
+pub row-there : (sheet : List ℕ) (of : Size) (k : ℕ) → Ready sheet of → k < of .bids → k < mostNumbers
 row-there sheet of k ok h = omega (arith, ok .few)
 
--- the parts of what is told in outcome 1, put together
-pub told-is : (sheet : List ℕ) (of : Size) (s : PotState) {reasons bids paid : List ℕ} → reasons ≡ reasonsOf sheet (s .marks) (s .won) (of .bids)
-    → bids ≡ winningOf sheet (s .marks) (of .bids) → paid ≡ paidOf sheet of (s .prices) bids
-    → _≡_ {A = Cleared} (record { outcome = 1; prices = s .prices; totals = s .totals; reasons = reasons; bids = bids; paid = paid }) (toldOf sheet of s)
-unfolding toldOf
-told-is sheet of s e2 e3 e4 = λ i. record {
-  outcome = 1;
-  prices = s .prices;
-  totals = s .totals;
-  reasons = e2 i;
-  bids = e3 i;
-  paid = (e4 ∙ ap (λ (l : List ℕ). paidOf sheet of (s .prices) l) e3) i;
-}
+pub entrant-there : (sheet : List ℕ) (of : Size) (j : ℕ) → Ready sheet of → j < of .entered → j < mostNumbers
+entrant-there sheet of j ok h = omega (arith, entrants-few ok, ok .few)
+
+pub entrant-below : (sheet : List ℕ) (of : Size) (j : ℕ) {k : ℕ} → Ready sheet of → j < of .entered → k ≡ entrantAt sheet j → k < of .bids
+entrant-below sheet of j ok h e = omega (arith, entrant-small ok j h)

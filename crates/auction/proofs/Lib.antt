@@ -1,2 +1,3 @@
 pub mod Laws
-pub mod Ended
+pub mod Places
+pub mod Outcomes

@@ -1,31 +1,41 @@
--- What it is for the numbers of a clearing to be those that the rules tell of a pot. Assumes nothing.
-use Prim.Native.Nat.{ℕ, _<_}
+-- What it is for the numbers of a clearing to be those that the rules tell of a pot: every place of them is told. Assumes nothing.
+use Prim.Native.Nat.{ℕ, _+_, _-_, _≤_, _<_}
 use mathlib.Core.Path.{_≡_}
-use mathlib.Core.Bool.{true, false}
-use mathlib.Core.List.{List, [], _∷_}
+use mathlib.Core.Bool.{Bool}
+use mathlib.Core.List.{List}
+use lib.Dec.{ltb}
 use lib.ListN.{getD}
-use Rattle.rules.specs.Names.{mostApps, mostDeliveries, noBid}
-use Rattle.rules.specs.Pot.{Pot, auction, wideEnd, adminFits, outcome, priceIn, totalIn, paid, reason, winnersOf}
+use Rattle.rules.specs.Names.{mostApps, mostBids, mostDeliveries, noReason}
+use Rattle.rules.specs.Lists.{pick, memb}
+use Rattle.rules.specs.Pot.{Pot, outcome, priceIn, totalIn, reason}
+use Rattle.rules.specs.Result.{untold, toldIn}
 use Rattle.pot_laws.specs.Lists.{In}
+use Rattle.sheet.specs.declared.Size.{Size}
+use Rattle.sheet.specs.Sheet.{potIn}
 use Rattle.auction.specs.declared.Cleared.{Cleared}
+use Rattle.auction.specs.declared.End.{End}
+use Rattle.auction.specs.Numbers.{reasonAt, toldBy}
 
--- an application's winning bid, where those that won for it are listed; and what it is paid
-abbrev pub bidOr : List ℕ → ℕ
-bidOr [] = noBid
-bidOr (w ∷ ws) = w
+-- the automatic bids of all applications come after the sealed bids
+pub record Numbered (of : Size) : Type 0 where
+  pub sealed : of .sealed ≤ of .bids
+  pub few : of .sealed ≤ mostBids
+  pub apps : of .bids ≤ of .sealed + mostApps
 
-abbrev pub paidOr : Pot → List ℕ → ℕ
-paidOr P [] = 0
-paidOr P (w ∷ ws) = paid P w
-
-pub record ClearedAs (P : Pot) (c : Cleared) : Type 0 where
+-- a pot of this size is told by c: the applications that the sheet numbers, each by its automatic bid, and the bids of its auction
+pub record ClearedAs (of : Size) (P : Pot) (c : Cleared) : Type 0 where
   pub outcome : c .outcome ≡ outcome P
   pub price : (d : ℕ) → d < mostDeliveries → getD (c .prices) d 0 ≡ priceIn P d
-  pub total : (z : ℕ) → z < P .years → getD (c .totals) z 0 ≡ totalIn P z
-  pub reason : (k : ℕ) → In k (P .bids) → getD (c .reasons) k 0 ≡ reason P k
-  -- in outcome 1
-  pub bid : adminFits P ≡ false → wideEnd (auction P) ≡ false → (a : ℕ) → a < mostApps → getD (c .bids) a 0 ≡ bidOr (winnersOf P a)
-  pub paid : adminFits P ≡ false → wideEnd (auction P) ≡ false → (a : ℕ) → a < mostApps → getD (c .paid) a 0 ≡ paidOr P (winnersOf P a)
-  -- in outcome 2
-  pub no-bid : adminFits P ≡ false → wideEnd (auction P) ≡ true → (a : ℕ) → a < mostApps → getD (c .bids) a 0 ≡ noBid
-  pub no-pay : adminFits P ≡ false → wideEnd (auction P) ≡ true → (a : ℕ) → a < mostApps → getD (c .paid) a 0 ≡ 0
+  pub total : (y : ℕ) → getD (c .totals) y 0 ≡ pick (ltb y (of .years)) (totalIn P y) 0
+  pub app : (a : ℕ) → getD (c .apps) a untold ≡ pick (ltb a (of .bids - of .sealed)) (toldIn (of .sealed) (memb (of .sealed + a) (P .bids)) P a) untold
+  pub reason : (k : ℕ) → getD (c .reasons) k 0 ≡ pick (memb k (P .bids)) (reason P k) noReason
+
+-- the pot of a sheet ended as e: what is told from it is what the rules tell
+pub record EndedAs (sheet : List ℕ) (of : Size) (e : End) : Type 0 where
+  pub outcome : e .outcome ≡ outcome (potIn sheet of)
+  pub price : (d : ℕ) → d < mostDeliveries → getD (e .prices) d 0 ≡ priceIn (potIn sheet of) d
+  pub total : (y : ℕ) → getD (e .totals) y 0 ≡ pick (ltb y (of .years)) (totalIn (potIn sheet of) y) 0
+  pub app : (a : ℕ) (silent : Bool) → a < mostApps
+      → toldBy sheet of (e .prices) a (getD (e .winning) a 0) (pick silent (reason (potIn sheet of) (of .sealed + a)) noReason)
+      ≡ toldIn (of .sealed) silent (potIn sheet of) a
+  pub reason : (k : ℕ) → In k (potIn sheet of .bids) → reasonAt sheet (e .marks) (e .won) k ≡ reason (potIn sheet of) k

@@ -1,63 +1,87 @@
 -- What the functions of `auction` compute from the arrays of a pot that has come to its end. Assumes nothing.
-use Prim.Native.Nat.{ℕ, zero, suc, min}
+use Prim.Native.Nat.{ℕ, zero, suc, _+_, min}
 use mathlib.Core.Bool.{Bool, false}
 use mathlib.Core.List.{List}
 use lib.ListN.{getD, set, replicate}
 use lib.Dec.{eqb, ltb}
-use Rattle.rules.specs.Names.{auctioned, noPrice, noBid, noReason, becauseWon, unlookedWon, unlookedElse}
+use Rattle.rules.specs.Names.{mostNumbers, mostApps, mostDeliveries, auctioned, noPrice, automaticBid, noBid, noReason, becauseWon, unlookedWon, unlookedElse}
 use Rattle.rules.specs.Lists.{pick}
+use Rattle.rules.specs.Result.{untold}
+use Rattle.rules.specs.declared.Told.{Told}
 use Rattle.sheet.specs.declared.Size.{Size}
-use Rattle.sheet.specs.Sheet.{rowApp, rowYear, rowAdmin}
+use Rattle.sheet.specs.Sheet.{entrantAt, rowApp, rowYear, rowPrice, rowAdmin}
 use Rattle.arrays.specs.Sets.{fill}
 use Rattle.pot.specs.declared.PotState.{PotState}
-use Rattle.auction.specs.declared.Cleared.{Cleared}
+use Rattle.auction.specs.declared.End.{End}
+
+-- ---- reasons
 
 -- the reason of a bid by its mark: of one not looked at, by whether its application won
 unfoldable pub reasonBy : (mark : ℕ) → Bool → ℕ
 reasonBy mark won = pick (eqb mark noReason) (pick won unlookedWon unlookedElse) mark
 
-unfoldable pub noReasons : List ℕ
-noReasons = replicate 320 0
-
-unfoldable pub reasonAt : (sheet marks : List ℕ) → List Bool → ℕ → ℕ
+unfoldable pub reasonAt : (sheet marks : List ℕ) → List Bool → (k : ℕ) → ℕ
 reasonAt sheet marks won k = reasonBy (getD marks k 0) (getD won (rowApp sheet k) false)
 
-abbrev pub reasonsOf : (sheet marks : List ℕ) → List Bool → ℕ → List ℕ
-reasonsOf sheet marks won n = fill noReasons (reasonAt sheet marks won) n
+unfoldable pub noReasons : List ℕ
+noReasons = replicate mostNumbers noReason
+
+-- those of the first j bids that enter the auction
+unfoldable pub reasonsOf : (sheet marks : List ℕ) → List Bool → (j : ℕ) → List ℕ
+reasonsOf sheet marks won zero = noReasons
+reasonsOf sheet marks won (suc j) = set (reasonsOf sheet marks won j) (entrantAt sheet j) (reasonAt sheet marks won (entrantAt sheet j))
+
+-- ---- applications
 
 -- the winning bid of each application, among the bids below m
-unfoldable pub winningOf : (sheet marks : List ℕ) → ℕ → List ℕ
-winningOf sheet marks zero = replicate 64 noBid
+unfoldable pub winningOf : (sheet marks : List ℕ) → (m : ℕ) → List ℕ
+winningOf sheet marks zero = replicate mostApps noBid
 winningOf sheet marks (suc k) = pick (eqb (getD marks k 0) becauseWon) (set (winningOf sheet marks k) (rowApp sheet k) k) (winningOf sheet marks k)
 
--- what the winning bid w is paid, where the bids are numbered below m
-unfoldable pub payOf : (sheet : List ℕ) (of : Size) (prices : List ℕ) (w : ℕ) → ℕ
-payOf sheet of prices w = pick (ltb w (of .bids)) (min (getD prices (rowYear sheet w) 0) (rowAdmin sheet w)) 0
+-- no bid's number: the application won at its administrative price
+abbrev pub atAdmin : ℕ
+atAdmin = mostNumbers
 
-unfoldable pub noPay : List ℕ
-noPay = replicate 64 0
+-- a winning bid as it is told
+unfoldable pub bidBy : Size → (w : ℕ) → ℕ
+bidBy of w = pick (ltb w (of .sealed)) w automaticBid
 
-abbrev pub paidOf : (sheet : List ℕ) (of : Size) (prices bids : List ℕ) → List ℕ
-paidOf sheet of prices bids = fill noPay (λ a. payOf sheet of prices (getD bids a 0)) 64
+-- what is told of application a: it won with bid w, or at its administrative price, or it lost
+unfoldable pub toldBy : (sheet : List ℕ) (of : Size) (prices : List ℕ) (a w auto : ℕ) → Told
+toldBy sheet of prices a w auto =
+    pick (ltb w (of .bids))
+    (record { won = 1; bid = bidBy of w; reason = auto; paid = min (getD prices (rowYear sheet w) 0) (rowAdmin sheet w) })
+    (pick (eqb w atAdmin)
+    (record { won = 1; bid = noBid; reason = auto; paid = rowPrice sheet (of .sealed + a) })
+    (record { won = 0; bid = noBid; reason = auto; paid = 0 }))
 
--- outcomes 0 and 2: no price, no winning bid, one reason for all bids
-unfoldable pub flatOf : (outcome : ℕ) → (totals : List ℕ) → (reason : ℕ) → Cleared
-flatOf outcome totals reason = record {
+unfoldable pub noApps : List Told
+noApps = replicate mostApps untold
+
+-- of the first n applications, from what each won with and all reasons
+abbrev pub appsOf : (sheet : List ℕ) (of : Size) (prices winning reasons : List ℕ) → (n : ℕ) → List Told
+appsOf sheet of prices winning reasons n = fill noApps (λ a. toldBy sheet of prices a (getD winning a 0) (getD reasons (of .sealed + a) 0)) n
+
+-- ---- how a pot ended
+
+-- outcomes 0 and 2
+unfoldable pub flatOf : (outcome : ℕ) → (totals : List ℕ) → (mark w : ℕ) → End
+flatOf outcome totals mark w = record {
   outcome = outcome;
-  prices = replicate 4 noPrice;
+  prices = replicate mostDeliveries noPrice;
   totals = totals;
-  reasons = replicate 320 reason;
-  bids = replicate 64 noBid;
-  paid = replicate 64 0;
+  marks = replicate mostNumbers mark;
+  won = replicate mostApps false;
+  winning = replicate mostApps w;
 }
 
--- outcome 1, from the state
-unfoldable pub toldOf : (sheet : List ℕ) (of : Size) → PotState → Cleared
-toldOf sheet of s = record {
+-- outcome 1
+unfoldable pub soldOf : (sheet : List ℕ) (of : Size) → PotState → End
+soldOf sheet of s = record {
   outcome = auctioned;
   prices = s .prices;
   totals = s .totals;
-  reasons = reasonsOf sheet (s .marks) (s .won) (of .bids);
-  bids = winningOf sheet (s .marks) (of .bids);
-  paid = paidOf sheet of (s .prices) (winningOf sheet (s .marks) (of .bids));
+  marks = s .marks;
+  won = s .won;
+  winning = winningOf sheet (s .marks) (of .bids);
 }

@@ -1,26 +1,41 @@
-// The clearing of one pot: the first test, the auction, and what is told of the pot. specs/Cleared.antt says what it is in the words of the rules,
-// specs/Numbers.antt what each function computes.
+// The clearing of one pot: the first test, the auction, and what is told of the pot, of its applications and of its bids. specs/Cleared.antt says what it is in
+// the words of the rules, specs/Numbers.antt what each function computes.
 ghost use mathlib.Core.Path.{_≡_};
-ghost use Prim.Native.Nat.{_+_, _<_};
+ghost use Prim.Native.Nat.{_+_, _-_, _<_};
+ghost use Rattle.sheet.specs.Sheet.{potIn, Ready};
+ghost use Rattle.auction.specs.Cleared.{Numbered, EndedAs, ClearedAs};
+ghost use Rattle.auction.specs.Numbers.{reasonBy, reasonsOf, winningOf, bidBy, toldBy, appsOf, flatOf, soldOf};
+use names::MOST_APPS;
+use names::MOST_DELIVERIES;
 use names::NUMBERS;
 use pot::PotState;
+use rules::Told;
 use sheet::COLUMNS;
 use sheet::Sheet;
 use sheet::Size;
-ghost use Rattle.sheet.specs.Sheet.{potIn, Ready};
-ghost use Rattle.auction.specs.Cleared.{ClearedAs};
-ghost use Rattle.auction.specs.Numbers.{reasonBy, reasonsOf, winningOf, payOf, paidOf, flatOf, toldOf};
 
-// What is told of a pot: the outcome, the clearing price of each delivery year, the total of each year, the reason of each bid, and for each application the
-// number of its winning bid and the price paid.
+// What is told of a pot: the outcome, the clearing price of each delivery year, the total of each year; of each application; and the reason of each bid.
 pub struct Cleared {
     pub outcome: u64,
-    pub prices: [u64; 4],
+    pub prices: [u64; MOST_DELIVERIES],
     pub totals: [u64; COLUMNS],
+    pub apps: [Told; MOST_APPS as usize],
     pub reasons: [u64; NUMBERS],
-    pub bids: [u64; 64],
-    pub paid: [u64; 64],
 }
+
+// How a pot ended: its outcome, clearing prices and totals; the mark of each bid and which applications won, from which the reasons are told; and with what
+// each application won: the number of its bid, AT_ADMIN, or NO_BID where it lost.
+struct End {
+    outcome: u64,
+    prices: [u64; MOST_DELIVERIES],
+    totals: [u64; COLUMNS],
+    marks: [u16; NUMBERS],
+    won: [bool; MOST_APPS as usize],
+    winning: [u64; MOST_APPS as usize],
+}
+
+// No bid has this number: the application won at its administrative price.
+const AT_ADMIN: u64 = NUMBERS as u64;
 
 // The reason of a bid by its mark: where it was not looked at, 4 if its application won and else 5.
 fn reason(mark: u16, won: bool) -> u64
@@ -36,28 +51,34 @@ fn reason(mark: u16, won: bool) -> u64
     }
 }
 
-// The reasons of all bids.
-fn reasons(sheet: &Sheet, of: Size, marks: [u16; NUMBERS], won: [bool; 64]) -> [u64; NUMBERS]
+// The reasons of the bids of the auction, by their numbers.
+fn reasons(
+    sheet: &Sheet,
+    of: Size,
+    marks: [u16; NUMBERS],
+    won: [bool; MOST_APPS as usize],
+) -> [u64; NUMBERS]
     requires { ⌜ Ready (now sheet) of ⌝ }
-    ensures { λ r. ⌜ r ≡ reasonsOf (now (sheet .entry)) marks won (of .bids) ⌝ }
+    ensures { λ r. ⌜ r ≡ reasonsOf (now (sheet .entry)) marks won (of .entered) ⌝ }
 {
-    let mut out = [0u64; NUMBERS];
-    let m = of.bids;
-    let mut k: usize = 0;
-    while k < m {
+    let mut out = [names::NO_REASON; NUMBERS];
+    let m = of.entered;
+    let mut j: usize = 0;
+    while j < m {
+        let k = sheet::entrant(sheet, j);
         let a = sheet::app(sheet, k);
         out[k] = reason(marks[k], won[a]);
-        k += 1;
+        j += 1;
     }
     out
 }
 
 // The number of each application's winning bid.
-fn winning(sheet: &Sheet, of: Size, marks: [u16; NUMBERS]) -> [u64; 64]
+fn winning(sheet: &Sheet, of: Size, marks: [u16; NUMBERS]) -> [u64; MOST_APPS as usize]
     requires { ⌜ Ready (now sheet) of ⌝ }
     ensures { λ r. ⌜ r ≡ winningOf (now (sheet .entry)) marks (of .bids) ⌝ }
 {
-    let mut out = [names::NO_BID; 64];
+    let mut out = [names::NO_BID; MOST_APPS as usize];
     let m = of.bids;
     let mut k: usize = 0;
     while k < m {
@@ -70,80 +91,165 @@ fn winning(sheet: &Sheet, of: Size, marks: [u16; NUMBERS]) -> [u64; 64]
     out
 }
 
-// What the winning bid w is paid: its year's clearing price, capped.
-fn pay(sheet: &Sheet, of: Size, prices: [u64; 4], w: u64) -> u64
-    requires { ⌜ Ready (now sheet) of ⌝ }
-    ensures { λ r. ⌜ r ≡ payOf (now (sheet .entry)) of prices w ⌝ }
+// The winning bid w as it is told: its number, or that it is automatic.
+fn bid(of: Size, w: u64) -> u64
+    ensures { λ r. ⌜ r ≡ bidBy of w ⌝ }
+{
+    if w < of.sealed as u64 {
+        w
+    } else {
+        names::AUTOMATIC_BID
+    }
+}
+
+// What is told of application a, which won with w or lost, and the reason of whose automatic bid is told as `auto`: with a bid it is paid its year's clearing
+// price, capped.
+fn told(
+    sheet: &Sheet,
+    of: Size,
+    prices: [u64; MOST_DELIVERIES],
+    a: usize,
+    w: u64,
+    auto: u64,
+) -> Told
+    requires { ⌜ Ready (now sheet) of × (of .sealed + a < of .bids) ⌝ }
+    ensures { λ r. ⌜ r ≡ toldBy (now (sheet .entry)) of prices a w auto ⌝ }
 {
     let k = w as usize;
     if k < of.bids {
         let d = sheet::year(sheet, k);
-        return value::capped(prices[d], sheet::admin(sheet, k));
+        let paid = value::capped(prices[d], sheet::admin(sheet, k));
+        return Told {
+            won: 1,
+            bid: bid(of, w),
+            reason: auto,
+            paid,
+        };
     }
-    0
+    if w == AT_ADMIN {
+        let paid = sheet::price(sheet, of.sealed + a);
+        return Told {
+            won: 1,
+            bid: names::NO_BID,
+            reason: auto,
+            paid,
+        };
+    }
+    Told {
+        won: 0,
+        bid: names::NO_BID,
+        reason: auto,
+        paid: 0,
+    }
 }
 
-fn paid(sheet: &Sheet, of: Size, prices: [u64; 4], bids: [u64; 64]) -> [u64; 64]
-    requires { ⌜ Ready (now sheet) of ⌝ }
-    ensures { λ r. ⌜ r ≡ paidOf (now (sheet .entry)) of prices bids ⌝ }
+// What is told of the applications, from what each won with and the reasons of all bids.
+fn apps(
+    sheet: &Sheet,
+    of: Size,
+    prices: [u64; MOST_DELIVERIES],
+    winning: [u64; MOST_APPS as usize],
+    reasons: [u64; NUMBERS],
+) -> [Told; MOST_APPS as usize]
+    requires { ⌜ Ready (now sheet) of × Numbered of ⌝ }
+    ensures { λ r. ⌜ r ≡ appsOf (now (sheet .entry)) of prices winning reasons (of .bids - of .sealed) ⌝ }
 {
-    let mut out = [0u64; 64];
+    let nothing = Told {
+        won: 0,
+        bid: 0,
+        reason: 0,
+        paid: 0,
+    };
+    let mut out = [nothing; MOST_APPS as usize];
+    let b = of.sealed;
+    let n = of.bids - b;
     let mut a: usize = 0;
-    while a < 64 {
-        out[a] = pay(sheet, of, prices, bids[a]);
+    while a < n {
+        let t = told(sheet, of, prices, a, winning[a], reasons[b + a]);
+        out[a] = t;
         a += 1;
     }
     out
 }
 
-// Outcomes 0 and 2: no price, no winning bid, one reason for all bids.
-fn flat(outcome: u64, totals: [u64; COLUMNS], reason: u64) -> Cleared
-    ensures { λ r. ⌜ r ≡ flatOf outcome totals reason ⌝ }
+// Outcomes 0 and 2: no price, one mark for all bids, and all applications won with w, or lost.
+fn flat(outcome: u64, totals: [u64; COLUMNS], mark: u16, w: u64) -> End
+    ensures { λ r. ⌜ r ≡ flatOf outcome totals mark w ⌝ }
 {
-    Cleared {
+    End {
         outcome,
-        prices: [names::NO_PRICE; 4],
+        prices: [names::NO_PRICE; MOST_DELIVERIES],
         totals,
-        reasons: [reason; NUMBERS],
-        bids: [names::NO_BID; 64],
-        paid: [0; 64],
+        marks: [mark; NUMBERS],
+        won: [false; MOST_APPS as usize],
+        winning: [w; MOST_APPS as usize],
     }
 }
 
-// Outcome 1, from the state in which the pot ended.
-fn told(sheet: &Sheet, of: Size, s: PotState) -> Cleared
+// Outcome 1, from the state in which the auction ended.
+fn sold(sheet: &Sheet, of: Size, s: PotState) -> End
     requires { ⌜ Ready (now sheet) of ⌝ }
-    ensures { λ r. ⌜ r ≡ toldOf (now (sheet .entry)) of s ⌝ }
+    ensures { λ r. ⌜ r ≡ soldOf (now (sheet .entry)) of s ⌝ }
 {
     let marks = s.marks;
     let won = s.won;
     let prices = s.prices;
     let totals = s.totals;
-    let reasons = reasons(sheet, of, marks, won);
-    let bids = winning(sheet, of, marks);
-    let paid = paid(sheet, of, prices, bids);
-    Cleared {
+    let winning = winning(sheet, of, marks);
+    End {
         outcome: names::AUCTIONED,
         prices,
         totals,
-        reasons,
-        bids,
-        paid,
+        marks,
+        won,
+        winning,
     }
 }
 
-// The clearing of the pot that a sheet shows.
-pub fn clear_pot(sheet: &Sheet, of: Size) -> Cleared
+// The first test, and where it does not fit the auction.
+fn ended(sheet: &Sheet, of: Size) -> End
     requires { ⌜ Ready (now sheet) of ⌝ }
-    ensures { λ r. ⌜ ClearedAs (potIn (now (sheet .entry)) of) r ⌝ }
+    ensures { λ r. ⌜ EndedAs (now (sheet .entry)) of r ⌝ }
 {
     let first = totals::admin_totals(sheet, of);
     if totals::within(sheet, of, first) {
-        return flat(names::ADMINISTRATIVE, first, names::BECAUSE_ADMINISTRATIVE);
+        return flat(
+            names::ADMINISTRATIVE,
+            first,
+            names::BECAUSE_ADMINISTRATIVE as u16,
+            AT_ADMIN,
+        );
     }
     let s = pot::auction(sheet, of);
     if s.wide {
-        return flat(names::TOO_WIDE, [0; COLUMNS], names::BECAUSE_TOO_WIDE);
+        return flat(
+            names::TOO_WIDE,
+            [0; COLUMNS],
+            names::BECAUSE_TOO_WIDE as u16,
+            names::NO_BID,
+        );
     }
-    told(sheet, of, s)
+    sold(sheet, of, s)
+}
+
+// The clearing of the pot that a sheet shows: it ends, and what is told of its applications and bids is told from how it ended, whatever the outcome.
+pub fn clear_pot(sheet: &Sheet, of: Size) -> Cleared
+    requires { ⌜ Ready (now sheet) of × Numbered of ⌝ }
+    ensures { λ r. ⌜ ClearedAs of (potIn (now (sheet .entry)) of) r ⌝ }
+{
+    let e = ended(sheet, of);
+    let marks = e.marks;
+    let won = e.won;
+    let reasons = reasons(sheet, of, marks, won);
+    let prices = e.prices;
+    let winning = e.winning;
+    let apps = apps(sheet, of, prices, winning, reasons);
+    let totals = e.totals;
+    Cleared {
+        outcome: e.outcome,
+        prices,
+        totals,
+        apps,
+        reasons,
+    }
 }

@@ -2,138 +2,196 @@
 ghost use mathlib.Core.Path.{_≡_};
 ghost use Prim.Native.Nat.{_+_, _*_, _≤_, _<_};
 ghost use lib.ListN.{length};
+ghost use Rattle.rules.specs.Names.{countWidth};
 ghost use Rattle.rules.specs.Bytes.{each, onto};
 ghost use Rattle.rules.specs.File.{Round};
 ghost use Rattle.rules.specs.Result.{appBytes, needed, resultBytes};
 ghost use Rattle.store.specs.Filled.{Filled};
-ghost use Rattle.result.specs.Tells.{Small, Counted, Tells};
-ghost use Rattle.result.specs.Told.{toldOf, appAt, size, potTold, potsTold, appsTold, bidsTold, roundTold};
+ghost use Rattle.result.specs.Tells.{InRange, Counted, Tells};
+ghost use Rattle.result.specs.ToldBytes.{appSize, reasonSize, potSize, size, largestPots, largestResult};
+ghost use Rattle.result.specs.ToldBytes.{potBytesTold, potRecord, appRecord, potsTold, appsTold, bidsTold, roundTold};
+use names::COUNT_WIDTH;
+use names::MOST_APPS;
+use names::MOST_BIDS;
 use names::MOST_DELIVERIES;
+use names::MOST_POTS;
 use names::YEARS;
+use rules::Sections;
+use rules::Told;
 use store::put;
 use store::put_all;
 
-// What is told of a round before it is bytes. The clearing price of pot p in delivery year k stands at p * MOST_DELIVERIES + k, its total in
-// year y at p * YEARS + y. Of each application: whether it won, its bid, the reason of its automatic bid, the price paid. Of each bid: the reason.
+// The sizes in bytes of the result's fields: of a pot, of an application, and the reason of a bid as of an automatic one.
+const OUTCOME_SIZE: usize = 2;
+
+const PRICE_SIZE: usize = 4;
+
+const TOTAL_SIZE: usize = 8;
+
+const WON_SIZE: usize = 2;
+
+const BID_SIZE: usize = 2;
+
+const REASON_SIZE: usize = 2;
+
+const PAID_SIZE: usize = 4;
+
+// Of the record of an application.
+const APP_SIZE: usize = WON_SIZE + BID_SIZE + REASON_SIZE + PAID_SIZE;
+
+// Where the bid, the reason and the price paid stand in it.
+const BID_AT: usize = WON_SIZE;
+
+const REASON_AT: usize = BID_AT + BID_SIZE;
+
+const PAID_AT: usize = REASON_AT + REASON_SIZE;
+
+// What is told of a pot: the outcome, the clearing price of each delivery year, the total of each year.
+pub struct PotTold {
+    pub outcome: u64,
+    pub prices: [u64; MOST_DELIVERIES],
+    pub totals: [u64; YEARS],
+}
+
+// What is told of a round before it is bytes: of each pot, of each application, and the reason of each bid.
 pub struct Tellings {
-    pub outcomes: [u64; 4],
-    pub prices: [u64; 16],
-    pub totals: [u64; 32],
-    pub won: [u64; 64],
-    pub bids: [u64; 64],
-    pub autos: [u64; 64],
-    pub paid: [u64; 64],
-    pub reasons: [u64; 256],
+    pub pots: [PotTold; MOST_POTS as usize],
+    pub apps: [Told; MOST_APPS as usize],
+    pub reasons: [u64; MOST_BIDS as usize],
 }
 
-// The record of pot p: outcome 2, clearing price 4 for each of d delivery years, total 8 for each of y years.
-fn pot(s: &mut [u8], t: Tellings, p: usize, d: usize, y: usize)
-    requires { ⌜ (p < 4) × (d ≤ 4) × (y ≤ 8) × (2 + 4 * d + 8 * y ≤ length (now s)) ⌝ }
-    ensures { λ _. ⌜ Filled (potTold t d y p) (now (s .entry)) (now (s .exit)) ⌝ }
+// The record of a pot: outcome, clearing price for each delivery year, total for each year.
+fn pot_record(s: &mut [u8], told: PotTold, sections: Sections)
+    requires ready { ⌜ InRange sections ⌝ }
+    requires room { ⌜ potSize sections ≤ length (now s) ⌝ }
+    ensures { λ _. ⌜ Filled (potBytesTold sections told) (now (s .entry)) (now (s .exit)) ⌝ }
 {
-    put(s, 2, t.outcomes[p]);
-    let prices = t.prices;
-    put_all(&mut s[2..], 4, &prices, p * MOST_DELIVERIES, d);
-    let totals = t.totals;
-    let at = 2 + 4 * d;
-    put_all(&mut s[at..], 8, &totals, p * YEARS, y);
+    put(s, OUTCOME_SIZE, told.outcome);
+    let prices = told.prices;
+    let d = sections.deliveries;
+    put_all(&mut s[OUTCOME_SIZE..], PRICE_SIZE, &prices, 0, d);
+    let totals = told.totals;
+    let at = OUTCOME_SIZE + PRICE_SIZE * d;
+    put_all(&mut s[at..], TOTAL_SIZE, &totals, 0, sections.years);
 }
 
-// The records of p pots, one after the other.
-fn pot_records(s: &mut [u8], t: Tellings, p: usize, d: usize, y: usize)
-    requires { ⌜ (p ≤ 4) × (d ≤ 4) × (y ≤ 8) × (p * (2 + 4 * d + 8 * y) ≤ length (now s)) ⌝ }
-    ensures { λ _. ⌜ Filled (each (potTold t d y) p) (now (s .entry)) (now (s .exit)) ⌝ }
+// How many bytes the record of a pot takes.
+fn pot_size(sections: Sections) -> usize
+    requires { ⌜ InRange sections ⌝ }
+    ensures { λ r. ⌜ r ≡ potSize sections ⌝ }
 {
-    let mut i = 0;
+    OUTCOME_SIZE + PRICE_SIZE * sections.deliveries + TOTAL_SIZE * sections.years
+}
+
+// The records of the pots, one after the other.
+fn pot_records(s: &mut [u8], t: Tellings, sections: Sections)
+    requires ready { ⌜ InRange sections ⌝ }
+    requires room { ⌜ sections .pots * potSize sections ≤ length (now s) ⌝ }
+    ensures { λ _. ⌜ Filled (each (potRecord t sections) (sections .pots)) (now (s .entry)) (now (s .exit)) ⌝ }
+{
+    let pots = t.pots;
+    let width = pot_size(sections);
+    let n = sections.pots;
+    let mut p = 0;
     let mut at = 0;
-    while i < p {
-        pot(&mut s[at..], t, i, d, y);
-        at = at + (2 + 4 * d + 8 * y);
-        i += 1;
+    while p < n {
+        pot_record(&mut s[at..], pots[p], sections);
+        at = at + width;
+        p += 1;
     }
 }
 
 // The section of the pots: their count, then their records.
-fn pots(s: &mut [u8], t: Tellings, p: usize, d: usize, y: usize)
-    requires { ⌜ (p ≤ 4) × (d ≤ 4) × (y ≤ 8) × (2 + p * (2 + 4 * d + 8 * y) ≤ length (now s)) ⌝ }
-    ensures { λ _. ⌜ Filled (potsTold t d y p) (now (s .entry)) (now (s .exit)) ⌝ }
+fn pots(s: &mut [u8], t: Tellings, sections: Sections)
+    requires ready { ⌜ InRange sections ⌝ }
+    requires room { ⌜ countWidth + sections .pots * potSize sections ≤ length (now s) ⌝ }
+    ensures { λ _. ⌜ Filled (potsTold t sections) (now (s .entry)) (now (s .exit)) ⌝ }
 {
-    put(s, 2, p as u64);
-    pot_records(&mut s[2..], t, p, d, y);
+    put(s, COUNT_WIDTH, sections.pots as u64);
+    pot_records(&mut s[COUNT_WIDTH..], t, sections);
 }
 
-// The record of an application: won 2, bid 2, automatic bid's reason 2, price paid 4.
-fn application(s: &mut [u8], won: u64, bid: u64, auto: u64, paid: u64)
-    requires { ⌜ 10 ≤ length (now s) ⌝ }
-    ensures { λ _. ⌜ Filled (appBytes (toldOf won bid auto paid)) (now (s .entry)) (now (s .exit)) ⌝ }
+// The record of an application: won, bid, automatic bid's reason, price paid.
+fn application_record(s: &mut [u8], told: Told)
+    requires { ⌜ appSize ≤ length (now s) ⌝ }
+    ensures { λ _. ⌜ Filled (appBytes told) (now (s .entry)) (now (s .exit)) ⌝ }
 {
-    put(s, 2, won);
-    put(&mut s[2..], 2, bid);
-    put(&mut s[4..], 2, auto);
-    put(&mut s[6..], 4, paid);
+    put(s, WON_SIZE, told.won);
+    put(&mut s[BID_AT..], BID_SIZE, told.bid);
+    put(&mut s[REASON_AT..], REASON_SIZE, told.reason);
+    put(&mut s[PAID_AT..], PAID_SIZE, told.paid);
 }
 
-// The records of n applications, one after the other.
-fn application_records(s: &mut [u8], t: Tellings, n: usize)
-    requires { ⌜ (n ≤ 64) × (n * 10 ≤ length (now s)) ⌝ }
-    ensures { λ _. ⌜ Filled (each (λ a. appBytes (appAt t a)) n) (now (s .entry)) (now (s .exit)) ⌝ }
+// The records of the applications, one after the other.
+fn application_records(s: &mut [u8], t: Tellings, sections: Sections)
+    requires ready { ⌜ InRange sections ⌝ }
+    requires room { ⌜ sections .applications * appSize ≤ length (now s) ⌝ }
+    ensures { λ _. ⌜ Filled (each (appRecord t) (sections .applications)) (now (s .entry)) (now (s .exit)) ⌝ }
 {
-    let mut i = 0;
+    let apps = t.apps;
+    let n = sections.applications;
+    let mut a = 0;
     let mut at = 0;
-    while i < n {
-        application(&mut s[at..], t.won[i], t.bids[i], t.autos[i], t.paid[i]);
-        at = at + 10;
-        i += 1;
+    while a < n {
+        application_record(&mut s[at..], apps[a]);
+        at = at + APP_SIZE;
+        a += 1;
     }
 }
 
 // The section of the applications: their count, then their records.
-fn applications(s: &mut [u8], t: Tellings, n: usize)
-    requires { ⌜ (n ≤ 64) × (2 + n * 10 ≤ length (now s)) ⌝ }
-    ensures { λ _. ⌜ Filled (appsTold t n) (now (s .entry)) (now (s .exit)) ⌝ }
+fn applications(s: &mut [u8], t: Tellings, sections: Sections)
+    requires ready { ⌜ InRange sections ⌝ }
+    requires room { ⌜ countWidth + sections .applications * appSize ≤ length (now s) ⌝ }
+    ensures { λ _. ⌜ Filled (appsTold t sections) (now (s .entry)) (now (s .exit)) ⌝ }
 {
-    put(s, 2, n as u64);
-    application_records(&mut s[2..], t, n);
+    put(s, COUNT_WIDTH, sections.applications as u64);
+    application_records(&mut s[COUNT_WIDTH..], t, sections);
 }
 
-// The section of the bids: their count, then the reason 2 of each.
-fn bids(s: &mut [u8], t: Tellings, b: usize)
-    requires { ⌜ (b ≤ 256) × (2 + b * 2 ≤ length (now s)) ⌝ }
-    ensures { λ _. ⌜ Filled (bidsTold t b) (now (s .entry)) (now (s .exit)) ⌝ }
+// The section of the bids: their count, then the reason of each.
+fn bids(s: &mut [u8], t: Tellings, sections: Sections)
+    requires ready { ⌜ InRange sections ⌝ }
+    requires room { ⌜ countWidth + sections .bids * reasonSize ≤ length (now s) ⌝ }
+    ensures { λ _. ⌜ Filled (bidsTold t sections) (now (s .entry)) (now (s .exit)) ⌝ }
 {
-    put(s, 2, b as u64);
+    put(s, COUNT_WIDTH, sections.bids as u64);
     let reasons = t.reasons;
-    put_all(&mut s[2..], 2, &reasons, 0, b);
+    let n = sections.bids;
+    put_all(&mut s[COUNT_WIDTH..], REASON_SIZE, &reasons, 0, n);
 }
 
-// How many bytes the records of p pots take.
-fn pots_size(p: usize, d: usize, y: usize) -> usize
-    requires { ⌜ (p ≤ 4) × (d ≤ 4) × (y ≤ 8) ⌝ }
-    ensures { λ r. ⌜ (r ≡ p * (2 + 4 * d + 8 * y)) × (r ≤ 328) ⌝ }
+// How many bytes the records of the pots take.
+fn pots_size(sections: Sections) -> usize
+    requires { ⌜ InRange sections ⌝ }
+    ensures { λ r. ⌜ (r ≡ sections .pots * potSize sections) × (r ≤ largestPots) ⌝ }
 {
-    p * (2 + 4 * d + 8 * y)
+    sections.pots * pot_size(sections)
 }
 
-// How many bytes the result needs, of y years, d of them delivery years, p pots, n applications and b bids.
-pub fn needed(y: usize, d: usize, p: usize, n: usize, b: usize) -> usize
-    requires { ⌜ Small y d p n b ⌝ }
-    ensures { λ r. ⌜ (r ≡ size y d p n b) × (r ≤ 1486) ⌝ }
-    ensures { λ r. ⌜ ((R : Round) → Counted R y d p n b → r ≡ needed R) ⌝ }
+// How many bytes the result needs.
+pub fn needed(sections: Sections) -> usize
+    requires { ⌜ InRange sections ⌝ }
+    ensures sized { λ r. ⌜ (r ≡ size sections) × (r ≤ largestResult) ⌝ }
+    ensures meant { λ r. ⌜ ((R : Round) → Counted R sections → r ≡ needed R) ⌝ }
 {
-    6 + pots_size(p, d, y) + 10 * n + 2 * b
+    3 * COUNT_WIDTH
+        + pots_size(sections)
+        + APP_SIZE * sections.applications
+        + REASON_SIZE * sections.bids
 }
 
 // The result over the start of the lent buffer: the three sections, each through its own part.
-pub fn write(t: Tellings, y: usize, d: usize, p: usize, n: usize, b: usize, result: &mut [u8])
-    requires { ⌜ Small y d p n b ⌝ }
-    requires { ⌜ size y d p n b ≤ length (now result) ⌝ }
-    ensures { λ _. ⌜ now (result .exit) ≡ onto (roundTold t y d p n b) (now (result .entry)) ⌝ }
-    ensures { λ _. ⌜ ((R : Round) → Counted R y d p n b → Tells R t → now (result .exit) ≡ onto (resultBytes R) (now (result .entry))) ⌝ }
+pub fn write(t: Tellings, sections: Sections, result: &mut [u8])
+    requires ready { ⌜ InRange sections ⌝ }
+    requires room { ⌜ size sections ≤ length (now result) ⌝ }
+    ensures told { λ _. ⌜ now (result .exit) ≡ onto (roundTold t sections) (now (result .entry)) ⌝ }
+    ensures meant { λ _. ⌜ ((R : Round) → Counted R sections → Tells R t → now (result .exit) ≡ onto (resultBytes R) (now (result .entry))) ⌝ }
 {
-    let second = 2 + pots_size(p, d, y);
-    let third = second + (2 + n * 10);
-    let end = third + (2 + b * 2);
-    pots(&mut result[0..second], t, p, d, y);
-    applications(&mut result[second..third], t, n);
-    bids(&mut result[third..end], t, b);
+    let second = COUNT_WIDTH + pots_size(sections);
+    let third = second + (COUNT_WIDTH + sections.applications * APP_SIZE);
+    let end = third + (COUNT_WIDTH + sections.bids * REASON_SIZE);
+    pots(&mut result[0..second], t, sections);
+    applications(&mut result[second..third], t, sections);
+    bids(&mut result[third..end], t, sections);
 }

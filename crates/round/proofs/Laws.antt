@@ -18,26 +18,22 @@ use Rattle.reading_laws.specs.Fault.{handed-on, ends-there}
 use Rattle.reading_laws.specs.Small.{reading-small}
 use Rattle.rows.specs.Rows.{roundIn, Held}
 use Rattle.result.specs.declared.Tellings.{Tellings}
-use Rattle.result.specs.Tells.{Small, Counted, Tells}
+use Rattle.result.specs.Tells.{InRange, Counted, Tells}
 use Rattle.rules.specs.Listing.{refusalLine, roundLines, listingFor, listingOf}
 use Rattle.lines.specs.Printed.{Printed}
-use Rattle.listing.specs.Told.{longest}
+use Rattle.listing.specs.ToldLines.{longest, longestRefusal}
 use Rattle.round.specs.Round.{Clears, SmallAnswer, listed, Lists}
 
--- what is known of an accepted file
+-- what is known of an accepted file and its sections
 pub record Handed (s : List ℕ) (z : Sections) : Type 0 where
   pub round : roundIn s z ≡ roundOf s
-  pub sound : Sound (roundOf s)
-  pub small : Small (z .years) (z .deliveries) (z .pots) (z .applications) (z .bids)
-  pub counted : Counted (roundOf s) (z .years) (z .deliveries) (z .pots) (z .applications) (z .bids)
-  pub one : countWidth ≤ z .«pots_at»
-  pub two : z .«pots_at» + countWidth ≤ z .«technologies_at»
-  pub three : z .«technologies_at» + countWidth ≤ z .«applications_at»
-  pub four : z .«applications_at» + countWidth ≤ z .«bids_at»
-  pub five : z .«bids_at» + countWidth ≤ length s
+  pub held : Held s z
+  pub ranges : InRange z
+  pub counted : Counted (roundOf s) z
 
 -- the sections of a file that ends where they do
-parts-whole : (s : List ℕ) → length s ≡ endAt (roundOf s .y) (roundOf s .p) (roundOf s .t) (roundOf s .n) (roundOf s .b) → roundIn s (sectionsOf (roundOf s)) ≡ roundOf s
+parts-whole : (s : List ℕ) → length s ≡ endAt (roundOf s .y) (roundOf s .p) (roundOf s .t) (roundOf s .n) (roundOf s .b)
+    → roundIn s (sectionsOf (roundOf s)) ≡ roundOf s
 unfolding sectionsOf roundOf sections
 parts-whole s e = ap (λ (n : ℕ). upTo n) e
   where
@@ -56,18 +52,14 @@ parts-whole s e = ap (λ (n : ℕ). upTo n) e
       b = roundOf s .b;
     }
 
-handed-sections : (s : List ℕ) → length s ≡ endAt (roundOf s .y) (roundOf s .p) (roundOf s .t) (roundOf s .n) (roundOf s .b) → Sound (roundOf s) → Handed s (sectionsOf (roundOf s))
+handed-sections : (s : List ℕ) → length s ≡ endAt (roundOf s .y) (roundOf s .p) (roundOf s .t) (roundOf s .n) (roundOf s .b) → Sound (roundOf s)
+    → Handed s (sectionsOf (roundOf s))
 unfolding sectionsOf
 handed-sections s e S = record {
   round = parts-whole s e;
-  sound = S;
-  small = record { years = S .years-most; deliveries = S .deliveries-few; pots = S .pots-few; apps = S .apps-few; bids = S .bids-few };
+  held = record { sound = rw (parts-whole s e) S; one = omega arith; two = omega arith; three = omega arith; four = omega arith; five = omega arith };
+  ranges = record { years = S .years-most; deliveries = S .deliveries-few; pots = S .pots-few; apps = S .apps-few; bids = S .bids-few };
   counted = record { years = refl; deliveries = refl; pots = refl; apps = refl; bids = refl };
-  one = omega arith;
-  two = omega arith;
-  three = omega arith;
-  four = omega arith;
-  five = omega arith;
 }
 
 pub handed : (s : List ℕ) {z : Sections} → reading s ≡ r.Accepted z → Handed s z
@@ -76,9 +68,6 @@ handed s {z} e =
     rw (h .0) (handed-sections s (ends-there s (unfold refusal in ap refusal e)) (h .1))
 
 -- ---- one law for each return
-
-pub held : (s : List ℕ) {z : Sections} → Handed s z → Held s z
-held s h = record { sound = rw (h .round) (h .sound); one = h .one; two = h .two; three = h .three; four = h .four; five = h .five }
 
 pub parts-told : (s : List ℕ) {z : Sections} {t : Tellings} → Handed s z → Tells (roundIn s z) t → Tells (roundOf s) t
 parts-told s h t = rw (h .round) at t
@@ -130,7 +119,7 @@ unfolding listed listingOf listingFor
 lines-listed s lent e h p = record { length = rw (le-ltb (length lent) longest h, e) (p .0); bytes = rw (le-ltb (length lent) longest h, e) (p .1) }
 
 pub refusal-listed : (s lent : List ℕ) {m at n : ℕ} {exit : List ℕ} → reading s ≡ r.Refused m at → longest ≤ length lent
-    → Printed (refusalLine m at) 53 lent exit n → Lists s lent n exit
+    → Printed (refusalLine m at) longestRefusal lent exit n → Lists s lent n exit
 unfolding listed listingOf listingFor
 refusal-listed s lent e h p =
     record { length = rw (le-ltb (length lent) longest h, e) (p .long); bytes = rw (le-ltb (length lent) longest h, e) (p .filled .bytes) }

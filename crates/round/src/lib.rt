@@ -12,39 +12,31 @@ ghost use Rattle.rules.specs.Refusals.{reading};
 ghost use Rattle.rules.specs.Result.{lengthOf};
 ghost use Rattle.rules.specs.declared.Reading.the-variants.{Accepted};
 ghost use Rattle.result.specs.Tells.{Tells};
-ghost use Rattle.listing.specs.Told.{longest};
+ghost use Rattle.listing.specs.ToldLines.{longest};
 ghost use Rattle.round.specs.Round.{Clears, SmallAnswer, Lists};
 
 // What is told of an accepted file, whose sections these are.
-fn told(file: &[u8], z: Sections) -> Tellings
-    requires { ⌜ reading (now file) ≡ Accepted z ⌝ }
+fn told(file: &[u8], sections: Sections) -> Tellings
+    requires { ⌜ reading (now file) ≡ Accepted sections ⌝ }
     ensures { λ r. ⌜ Tells (roundOf (now (file .entry))) r ⌝ }
 {
-    tell::tell(file, z)
+    tell::tell(file, sections)
 }
 
 // An accepted file cleared into a lent result, if that is long enough.
-fn cleared(file: &[u8], z: Sections, result: &mut [u8]) -> Answer
-    requires { ⌜ reading (now file) ≡ Accepted z ⌝ }
+fn cleared(file: &[u8], sections: Sections, result: &mut [u8]) -> Answer
+    requires { ⌜ reading (now file) ≡ Accepted sections ⌝ }
     ensures { λ r. ⌜ Clears (now (file .entry)) (now (result .entry)) r (now (result .exit)) × SmallAnswer r ⌝ }
 {
-    let need = result::needed(z.years, z.deliveries, z.pots, z.applications, z.bids);
+    let need = result::needed(sections);
     if result.len() < need {
         return Answer::Refused {
             number: names::RESULT_SHORT,
             at: 0,
         };
     }
-    let t = told(file, z);
-    result::write(
-        t,
-        z.years,
-        z.deliveries,
-        z.pots,
-        z.applications,
-        z.bids,
-        result,
-    );
+    let t = told(file, sections);
+    result::write(t, sections, result);
     Answer::Cleared { length: need }
 }
 
@@ -65,29 +57,19 @@ pub fn result_len(file: &[u8]) -> usize
 {
     let got = file::read(file);
     match got {
-        Reading::Accepted { sections: z } => {
-            result::needed(z.years, z.deliveries, z.pots, z.applications, z.bids)
-        }
+        Reading::Accepted { sections } => result::needed(sections),
         Reading::Refused { number: _, at: _ } => 0,
     }
 }
 
 // The listing of an accepted file.
-fn lines(file: &[u8], z: Sections, text: &mut [u8]) -> usize
-    requires { ⌜ reading (now file) ≡ Accepted z ⌝ }
-    requires { ⌜ longest ≤ length (now text) ⌝ }
+fn lines(file: &[u8], sections: Sections, text: &mut [u8]) -> usize
+    requires accepted { ⌜ reading (now file) ≡ Accepted sections ⌝ }
+    requires room { ⌜ longest ≤ length (now text) ⌝ }
     ensures { λ r. ⌜ Lists (now (file .entry)) (now (text .entry)) r (now (text .exit)) ⌝ }
 {
-    let t = told(file, z);
-    listing::write(
-        t,
-        z.years,
-        z.deliveries,
-        z.pots,
-        z.applications,
-        z.bids,
-        text,
-    )
+    let t = told(file, sections);
+    listing::write(t, sections, text)
 }
 
 // The listing of a file over the start of a lent text, and its length: 0, and nothing is written, where the text is shorter than the longest listing.

@@ -11,7 +11,8 @@ use Rattle.rules.specs.Lists.{pick, memb}
 use Rattle.rules.specs.File.{Round, appAt}
 use Rattle.rules.specs.Pot.{Pot, winners, auction, adminTotal, adminFits, priceIn, totalIn, total, paid, reason, winnersOf}
 use Rattle.rules.specs.Round.{techOf, automatic, bidOf, mine, silent, rowFor, potOf}
-use Rattle.rules.specs.Result.{Told, potFor, told, toldIn, appTold}
+use Rattle.rules.specs.Result.{potFor, told, toldIn, appTold}
+use Rattle.rules.specs.declared.Told.{Told}
 use Rattle.pot_laws.specs.Lists.{case, clash, In, here, sift-in}
 use Rattle.reading_laws.specs.Reading.{Sound, admin-most, app-tech, app-year, bid-app, bid-year, bid-price}
 use Rattle.pot_laws.specs.Money.{within-true}

@@ -13,7 +13,8 @@ use Rattle.rules.specs.Value.{exactParts}
 use Rattle.rules.specs.File.{Round, yearAt}
 use Rattle.rules.specs.Pot.{Pot, winners, auction, totalIn, paid, clearing, tally, exact, total, counted, reason, winnersOf}
 use Rattle.rules.specs.Round.{bidOf, mine, silent, rowFor, energyOf, costOf, potOf}
-use Rattle.rules.specs.Result.{Told, told, toldIn, appTold}
+use Rattle.rules.specs.Result.{told, toldIn, appTold}
+use Rattle.rules.specs.declared.Told.{Told}
 use Rattle.pot_laws.specs.Lists.{case, clash, and-true, In, here, there, memb-in, in-memb, in-none, in-one, in-below, sift-in, in-sift, sift-both, sift-same}
 use Rattle.reading_laws.specs.Reading.{Sound}
 use Rattle.pot_laws.specs.Runs.{won-seen}

@@ -12,7 +12,8 @@ use Rattle.rules.specs.Lists.{pick, below, sum}
 use Rattle.rules.specs.File.{Round, roundOf, deliveries}
 use Rattle.rules.specs.Pot.{Pot, totalIn, reason}
 use Rattle.rules.specs.Round.{bidOf, rowFor, costOf, mine, silent, enters, potOf}
-use Rattle.rules.specs.Result.{Told, potFor, told, toldIn, appTold, refusedAs, clearOf}
+use Rattle.rules.specs.Result.{potFor, told, toldIn, appTold, refusedAs, clearOf}
+use Rattle.rules.specs.declared.Told.{Told}
 use Rattle.pot_laws.specs.Lists.{clash, In, below-in, sift-in, sift-same}
 use Rattle.reading_laws.specs.Reading.{Sound, counts}
 use Rattle.round_laws.specs.Bids.{appPot, bidPot, mine-auto, mine-out, Kind, own, auto, out, kind, mine-is, bids-in}

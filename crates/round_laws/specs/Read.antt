@@ -10,7 +10,8 @@ use Rattle.rules.specs.Bytes.{le, bytes, each}
 use Rattle.rules.specs.File.{Round}
 use Rattle.rules.specs.Pot.{Pot, outcome, priceIn, totalIn, reason}
 use Rattle.rules.specs.Round.{potOf}
-use Rattle.rules.specs.Result.{Told, potAt, appTold, appBytes, potBytes, bidBytes, potsPart, appsPart, bidsPart, resultBytes, needed}
+use Rattle.rules.specs.Result.{potAt, appTold, appBytes, potBytes, bidBytes, potsPart, appsPart, bidsPart, resultBytes, needed}
+use Rattle.rules.specs.declared.Told.{Told}
 use Rattle.reading_laws.specs.Reading.{Sound}
 use Rattle.round_laws.specs.Places.{At, at-left, at-right, at-each, length-bytes, length-each, length-joined, read}
 use Rattle.pot_laws.specs.Reasons.{outcome-most, reason-most}

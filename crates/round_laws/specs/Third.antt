@@ -12,7 +12,7 @@ use Rattle.rules.specs.File.{Round, budgetAt}
 use Rattle.rules.specs.Names.{becauseWon}
 use Rattle.rules.specs.Pot.{downs, auction}
 use Rattle.rules.specs.Round.{bidOf, rowFor, costOf, potOf}
-use Rattle.rules.specs.Result.{Told}
+use Rattle.rules.specs.declared.Told.{Told}
 use Rattle.pot_laws.specs.Lists.{In}
 use Rattle.round_laws.specs.Bids.{appPot}
 use Rattle.pot_laws.specs.Once.{NoneTwice}

@@ -35,7 +35,9 @@ array-write-out : tie.Need-array-write-out Inv-loop μ-loop
 array-write-out c = app-below _ _ _ (c .before .before .before .before .pre) (c .before .before .loop-test .taken) (c .app .ensures)
 
 loop-again : tie.Need-loop-again Inv-loop μ-loop
-loop-again c = let inv = c .before .before .loop .inv .1 in (omega arith, ⊎-elim (λ w. w .2 ∙ winning-hit _ _ _ inv (w .1 .ensures) (w .0 .taken)) (λ w. w .1 ∙ winning-miss _ _ _ inv (w .0 .left)) (c .if1 .came))
+loop-again c =
+    let inv = c .before .before .loop .inv .1 in
+    (omega arith, ⊎-elim (λ w. w .2 ∙ winning-hit _ _ _ inv (w .1 .ensures) (w .0 .taken)) (λ w. w .1 ∙ winning-miss _ _ _ inv (w .0 .left)) (c .if1 .came))
 
 returns : tie.Need-returns Inv-loop μ-loop
 returns c = done (winningOf _ _) (c .before .loop .inv .1) (c .before .loop .inv .0) (c .loop-test .left)

@@ -10,5 +10,5 @@ returns c = ((omega arith, omega arith), λ R C. omega (arith, needed-is C))
 
 pub needed-spec : {M : Type 1} → statement M
 needed-spec =
-    tie.close (tie.spec (λ c κs. search needs) (λ c. search needs) (λ c. search needs) (λ c. search needs) (λ c. search needs) (λ c. search needs)
-    returns)
+    tie.close (tie.spec (λ c. search needs) (λ c κs. search needs) (λ c. search needs) (λ c. search needs) (λ c. search needs) (λ c. search needs)
+    (λ c. search needs) returns)

@@ -1,7 +1,7 @@
 -- `result::pots` meets its contract: the records follow the count. Assumes nothing.
 use borrow.Author.Needs.{needs}
 use Rattle.store.proofs.Laws.{filled-rest, length-bytes}
-use Rattle.result.specs.Told.{potsTold}
+use Rattle.result.specs.ToldBytes.{potsTold}
 use Rattle.result.proofs.pots.Statement.{statement}
 use Rattle.result.proofs.pots.Tie as tie
 

@@ -2,16 +2,17 @@
 use borrow.Author.Needs.{needs}
 use native.Mathlib.Omega.{arith}
 use mathlib.Core.Path.{refl}
+use Prim.Native.Nat.{_*_}
 use Rattle.result.proofs.Laws.{pots-few}
 use Rattle.result.proofs.pots_size.Statement.{statement}
 use Rattle.result.proofs.pots_size.Tie as tie
 
-mul-result-3 : tie.Need-mul-result-3
-mul-result-3 c = omega (arith, pots-few _ _ _ (c .pre .0) (c .pre .1) (c .pre .2))
+mul-result : tie.Need-mul-result
+mul-result c = rw (c .before .pot-size .ensures) (omega (arith, pots-few _ (c .before .before .pre)))
 
 returns : tie.Need-returns
-returns c = (refl, pots-few _ _ _ (c .pre .0) (c .pre .1) (c .pre .2))
+returns c = rw (c .before .pot-size .ensures) (refl, pots-few _ (c .before .before .pre))
 
 pub pots-size-spec : {M : Type 1} → statement M
 pots-size-spec =
-    tie.close (tie.spec (λ c. search needs) (λ c. search needs) (λ c. search needs) (λ c. search needs) mul-result-3 returns)
+    tie.close (tie.spec (λ c κs. search needs) mul-result returns)

@@ -1,3 +1,4 @@
+-- `round::clear` meets its contract: an accepted file is cleared, a refusal carried out.
 use mathlib.Core.Path.{sym, _∙_}
 use borrow.Author.Needs.{needs}
 use Rattle.round.proofs.Laws.{turned-away}

@@ -1,3 +1,4 @@
+-- `round::list` meets its contract: the text is too short, or the file is listed, or its refusal is.
 use mathlib.Core.Path.{sym, _∙_}
 use borrow.Author.Needs.{needs}
 use Rattle.round.proofs.Laws.{text-short, refusal-listed}

@@ -3,7 +3,7 @@ use mathlib.Core.Path.{ap}
 use lib.Dec.{eqb}
 use Prim.Native.Nat.{ℕ}
 use Rattle.sheet.specs.Sheet.{absent}
-use Rattle.tell.specs.Tell.{stands}
+use Rattle.tell.specs.ToldTo.{stands}
 use borrow.Author.Needs.{needs}
 use Rattle.tell.proofs.stands.Statement.{statement}
 use Rattle.tell.proofs.stands.Tie as tie

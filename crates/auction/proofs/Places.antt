@@ -1,0 +1,96 @@
+-- What stands at each place of the arrays of a clearing. Assumes nothing.
+use Prim.Native.Nat.{ℕ, zero, suc, _≤_, _<_}
+use mathlib.Core.Path.{_≡_, refl, _∙_}
+use mathlib.Core.Bool.{Bool, _&&_, _||_}
+use mathlib.Core.List.{List, [], _∷_}
+use native.Mathlib.Omega.{arith}
+use lib.ListN.{length, getD, set, replicate, length-set}
+use lib.Dec.{eqb, ltb}
+use borrow.Author.Tests.{eqb-true, ne-eqb, lt-ltb, le-ltb}
+use native.Mathlib.Decide.{decLt}
+use Rattle.rules.specs.Names.{mostNumbers, mostApps, noBid, noReason, becauseWon}
+use Rattle.rules.specs.Lists.{pick, memb, sift, below}
+use Rattle.pot_laws.specs.Lists.{case}
+use Rattle.sheet.specs.Sheet.{rowApp, entrantAt, entrants}
+use Rattle.arrays.specs.Sets.{fill}
+use Rattle.arrays.proofs.Arrays.{eqb-sym, put-is, at-start, fill-length, fill-at, zeros}
+use Rattle.totals.specs.Totals.{noRow, filled}
+use Rattle.auction.specs.Numbers.{reasonAt, noReasons, reasonsOf, winningOf}
+
+-- the places of an array that was filled: those past the last are as they were
+pub fill-past : {A : Type 0} (l : List A) (f : ℕ → A) (n k : ℕ) (d : A) → n ≤ length l → n ≤ k → getD (fill l f n) k d ≡ getD l k d
+unfolding fill
+fill-past l f zero k d h g = refl
+fill-past l f (suc n) k d h g =
+    put-is (fill l f n) n k (f n) d (omega (arith, fill-length l f n))
+    ∙ rw (ne-eqb k n (λ e. omega arith)) (fill-past l f n k d (omega arith) (omega arith))
+
+pub fill-each : {A : Type 0} (l : List A) (f g : ℕ → A) (n : ℕ) (d : A) → n ≤ length l → ((k : ℕ) → getD l k d ≡ d) → ((k : ℕ) → k < n → f k ≡ g k)
+    → (k : ℕ) → getD (fill l f n) k d ≡ pick (ltb k n) (g k) d
+fill-each l f g n d h e q k =
+    elim (decLt k n) [
+      | yes y ↦ rw (lt-ltb k n y) (fill-at l f n k d h y ∙ q k y)
+      | no z ↦ rw (le-ltb k n (omega (arith, z))) (fill-past l f n k d h (omega (arith, z)) ∙ e k)
+    ]
+
+-- a repeated value, past its end too
+pub repeated : {A : Type 0} (n k : ℕ) (v : A) → getD (replicate n v) k v ≡ v
+repeated zero k v = refl
+repeated (suc n) zero v = refl
+repeated (suc n) (suc k) v = repeated n k v
+
+-- a row of totals
+pub row-each : (f g : ℕ → ℕ) (n : ℕ) → n ≤ 8 → ((y : ℕ) → y < n → f y ≡ g y) → (y : ℕ) → getD (filled f n) y 0 ≡ pick (ltb y n) (g y) 0
+row-each f g n h q y = fill-each noRow f g n 0 (long h) blank q y
+  where
+    long : n ≤ 8 → n ≤ length noRow
+    long h = unfold noRow in h
+
+    blank : (k : ℕ) → _≡_ {A = ℕ} (getD noRow k 0) 0
+    blank k = unfold noRow in zeros 8 k
+
+-- ---- reasons
+
+reasons-length : (sheet marks : List ℕ) (won : List Bool) (j : ℕ) → length (reasonsOf sheet marks won j) ≡ mostNumbers
+unfolding reasonsOf
+reasons-length sheet marks won zero = unfold noReasons in refl
+reasons-length sheet marks won (suc j) =
+    length-set (reasonsOf sheet marks won j) (entrantAt sheet j) (reasonAt sheet marks won (entrantAt sheet j)) ∙ reasons-length sheet marks won j
+
+pub reasons-at : (sheet marks : List ℕ) (won : List Bool) (j k : ℕ) → ((i : ℕ) → i < j → entrantAt sheet i < mostNumbers)
+    → getD (reasonsOf sheet marks won j) k 0 ≡ pick (memb k (entrants sheet j)) (reasonAt sheet marks won k) noReason
+unfolding reasonsOf entrants
+reasons-at sheet marks won zero k h = unfold noReasons in zeros mostNumbers k
+reasons-at sheet marks won (suc j) k h =
+    let e = entrantAt sheet j in
+    put-is (reasonsOf sheet marks won j) e k (reasonAt sheet marks won e) 0 (omega (arith, reasons-length sheet marks won j, h j (omega arith)))
+    ∙ case (eqb k e) (λ t. rw (t, eqb-true k e t)) (λ f. rw f (reasons-at sheet marks won j k (λ i l. h i (omega arith))))
+
+-- ---- winning bids
+
+-- an application's winning bid, where those that won for it are listed
+abbrev pub bidOr : List ℕ → ℕ
+bidOr [] = noBid
+bidOr (w ∷ ws) = w
+
+-- the winning bid of application a among the bids below n: the last that is marked as won for it
+abbrev pub wonFor : (sheet marks : List ℕ) (a w : ℕ) → Bool
+wonFor sheet marks a w = eqb (rowApp sheet w) a && eqb (getD marks w 0) becauseWon
+
+winning-length : (sheet marks : List ℕ) (n : ℕ) → length (winningOf sheet marks n) ≡ mostApps
+unfolding winningOf
+winning-length sheet marks zero = refl
+winning-length sheet marks (suc n) =
+    case (eqb (getD marks n 0) becauseWon) (λ t. rw t (length-set (winningOf sheet marks n) (rowApp sheet n) n ∙ winning-length sheet marks n))
+    (λ f. rw f (winning-length sheet marks n))
+
+pub winning-at : (sheet marks : List ℕ) (n a : ℕ) → ((k : ℕ) → k < n → rowApp sheet k < mostApps) → a < mostApps
+    → getD (winningOf sheet marks n) a 0 ≡ bidOr (sift (wonFor sheet marks a) (below n))
+unfolding winningOf
+winning-at sheet marks zero a h l = at-start mostApps a noBid 0 l
+winning-at sheet marks (suc n) a h l =
+    let ih = winning-at sheet marks n a (λ k g. h k (omega arith)) l in
+    case (eqb (getD marks n 0) becauseWon)
+    (λ t. rw t (put-is (winningOf sheet marks n) (rowApp sheet n) a n 0 (omega (arith, winning-length sheet marks n, h n (omega arith)))
+    ∙ rw (eqb-sym a (rowApp sheet n)) (case (eqb (rowApp sheet n) a) (λ u. rw u) (λ u. rw u ih))))
+    (λ f. rw f (case (eqb (rowApp sheet n) a) (λ u. rw u ih) (λ u. rw u ih)))
