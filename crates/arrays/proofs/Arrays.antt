@@ -12,7 +12,7 @@ use lib.Dec.{eqb}
 use borrow.Author.Tests.{eqb-true, eqb-false, eq-eqb, ne-eqb}
 use Rattle.rules.specs.Names.{mostNumbers}
 use Rattle.rules.specs.Lists.{pick, memb, sift, below}
-use Rattle.pot_laws.specs.Lists.{case, clash, memb-in, in-memb, in-sift, sift-in, sift-same, in-below, below-in}
+use Rattle.laws_pot.specs.Lists.{case, clash, memb-in, in-memb, in-sift, sift-in, sift-same, in-below, below-in}
 use Rattle.arrays.specs.Sets.{fill, placed, none, built, members}
 
 pub eqb-sym : (a b : ℕ) → eqb a b ≡ eqb b a

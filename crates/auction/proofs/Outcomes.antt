@@ -11,13 +11,13 @@ use Rattle.rules.specs.Names.{mostNumbers, mostApps, mostDeliveries, noPrice, n
 use Rattle.rules.specs.Lists.{pick, memb, sift, below}
 use Rattle.rules.specs.Pot.{Pot, winners, seen, priceFrom, clearing, total, auction, wideEnd, adminFits, winnersOf}
 use Rattle.rules.specs.Pot.{outcome, priceIn, totalIn, paid, unlookedReason, auctionReason, reason}
-use Rattle.rules.specs.Result.{untold, told, toldIn}
+use Rattle.rules.specs.Result.{told, toldIn}
+use Rattle.result.specs.Tells.{untold}
 use Rattle.rules.specs.declared.Told.{Told}
-use Rattle.pot_laws.specs.Lists.{case, clash, In, here, memb-in, sift-in, sift-same, sift-both, below-in}
+use Rattle.laws_pot.specs.Lists.{case, clash, In, here, memb-in, sift-in, sift-same, sift-both, below-in}
 use Rattle.sheet.specs.declared.Size.{Size}
 use Rattle.sheet.specs.Sheet.{rowApp, rowYear, rowAdmin, rowPrice, inAuction, entrants, potIn, Ready}
 use Rattle.sheet.proofs.Entrants.{entrant-small}
-use Rattle.arrays.specs.Sets.{fill}
 use Rattle.arrays.proofs.Arrays.{at-start}
 use Rattle.totals.specs.Totals.{totalOf, filled, rowFits, autoTotal}
 use Rattle.totals.proofs.Link as link
@@ -27,7 +27,6 @@ use Rattle.pot.specs.Marks.{yearSum, Summed}
 use Rattle.pot.specs.Rep.{Rep, Stands}
 use Rattle.pot.proofs.Sums.{sum-total}
 use Rattle.pot.proofs.Link as held
-use Rattle.auction.specs.declared.Cleared.{Cleared}
 use Rattle.auction.specs.declared.End.{End}
 use Rattle.auction.specs.Cleared.{Numbered, ClearedAs, EndedAs}
 use Rattle.auction.specs.Numbers.{reasonBy, reasonAt, reasonsOf, winningOf, atAdmin, bidBy, toldBy, noApps, appsOf, flatOf, soldOf}

@@ -1,16 +1,16 @@
 -- What stands at each place of the arrays of a clearing. Assumes nothing.
 use Prim.Native.Nat.{ℕ, zero, suc, _≤_, _<_}
 use mathlib.Core.Path.{_≡_, refl, _∙_}
-use mathlib.Core.Bool.{Bool, _&&_, _||_}
+use mathlib.Core.Bool.{Bool, _&&_}
 use mathlib.Core.List.{List, [], _∷_}
 use native.Mathlib.Omega.{arith}
-use lib.ListN.{length, getD, set, replicate, length-set}
+use lib.ListN.{length, getD, replicate, length-set}
 use lib.Dec.{eqb, ltb}
 use borrow.Author.Tests.{eqb-true, ne-eqb, lt-ltb, le-ltb}
 use native.Mathlib.Decide.{decLt}
 use Rattle.rules.specs.Names.{mostNumbers, mostApps, noBid, noReason, becauseWon}
 use Rattle.rules.specs.Lists.{pick, memb, sift, below}
-use Rattle.pot_laws.specs.Lists.{case}
+use Rattle.laws_pot.specs.Lists.{case}
 use Rattle.sheet.specs.Sheet.{rowApp, entrantAt, entrants}
 use Rattle.arrays.specs.Sets.{fill}
 use Rattle.arrays.proofs.Arrays.{eqb-sym, put-is, at-start, fill-length, fill-at, zeros}

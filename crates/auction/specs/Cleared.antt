@@ -8,8 +8,9 @@ use lib.ListN.{getD}
 use Rattle.rules.specs.Names.{mostApps, mostBids, mostDeliveries, noReason}
 use Rattle.rules.specs.Lists.{pick, memb}
 use Rattle.rules.specs.Pot.{Pot, outcome, priceIn, totalIn, reason}
-use Rattle.rules.specs.Result.{untold, toldIn}
-use Rattle.pot_laws.specs.Lists.{In}
+use Rattle.rules.specs.Result.{toldIn}
+use Rattle.result.specs.Tells.{untold}
+use Rattle.laws_pot.specs.Lists.{In}
 use Rattle.sheet.specs.declared.Size.{Size}
 use Rattle.sheet.specs.Sheet.{potIn}
 use Rattle.auction.specs.declared.Cleared.{Cleared}

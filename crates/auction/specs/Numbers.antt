@@ -6,7 +6,7 @@ use lib.ListN.{getD, set, replicate}
 use lib.Dec.{eqb, ltb}
 use Rattle.rules.specs.Names.{mostNumbers, mostApps, mostDeliveries, auctioned, noPrice, automaticBid, noBid, noReason, becauseWon, unlookedWon, unlookedElse}
 use Rattle.rules.specs.Lists.{pick}
-use Rattle.rules.specs.Result.{untold}
+use Rattle.result.specs.Tells.{untold}
 use Rattle.rules.specs.declared.Told.{Told}
 use Rattle.sheet.specs.declared.Size.{Size}
 use Rattle.sheet.specs.Sheet.{entrantAt, rowApp, rowYear, rowPrice, rowAdmin}

@@ -112,7 +112,8 @@ fn told(
     w: u64,
     auto: u64,
 ) -> Told
-    requires { ⌜ Ready (now sheet) of × (of .sealed + a < of .bids) ⌝ }
+    requires ready { ⌜ Ready (now sheet) of ⌝ }
+    requires known { ⌜ of .sealed + a < of .bids ⌝ }
     ensures { λ r. ⌜ r ≡ toldBy (now (sheet .entry)) of prices a w auto ⌝ }
 {
     let k = w as usize;
@@ -151,7 +152,8 @@ fn apps(
     winning: [u64; MOST_APPS as usize],
     reasons: [u64; NUMBERS],
 ) -> [Told; MOST_APPS as usize]
-    requires { ⌜ Ready (now sheet) of × Numbered of ⌝ }
+    requires ready { ⌜ Ready (now sheet) of ⌝ }
+    requires numbered { ⌜ Numbered of ⌝ }
     ensures { λ r. ⌜ r ≡ appsOf (now (sheet .entry)) of prices winning reasons (of .bids - of .sealed) ⌝ }
 {
     let nothing = Told {
@@ -234,7 +236,8 @@ fn ended(sheet: &Sheet, of: Size) -> End
 
 // The clearing of the pot that a sheet shows: it ends, and what is told of its applications and bids is told from how it ended, whatever the outcome.
 pub fn clear_pot(sheet: &Sheet, of: Size) -> Cleared
-    requires { ⌜ Ready (now sheet) of × Numbered of ⌝ }
+    requires ready { ⌜ Ready (now sheet) of ⌝ }
+    requires numbered { ⌜ Numbered of ⌝ }
     ensures { λ r. ⌜ ClearedAs of (potIn (now (sheet .entry)) of) r ⌝ }
 {
     let e = ended(sheet, of);

@@ -12,7 +12,7 @@ use Rattle.rules.specs.Names.{bidsEach, bidsAYear, bidsTooMany, priceTwice}
 use Rattle.rules.specs.File.{bidAt}
 use Rattle.rules.specs.Lists.{given, both, howMany}
 use Rattle.rules.specs.Refusals.{orFault, eightOf, nineOf, sameApp?, sameYear?}
-use Rattle.reading_laws.specs.Walk.{given-yes, given-no, is-one, not-one, one-counted, found, passed}
+use Rattle.laws_reading.specs.Walk.{given-yes, given-no, is-one, not-one, one-counted, found, passed}
 use Rattle.bids.specs.Bids.{alone, samePrice?, Free, Latest, Previous}
 
 -- ---- places of a list

@@ -11,7 +11,7 @@ use Rattle.rules.specs.declared.Reading.{Reading}
 use Rattle.rules.specs.declared.Reading.the-variants.{Refused}
 use Rattle.layout.specs.Layout.{yearsIn, technologiesIn, applicationsIn}
 use Rattle.layout.proofs.Laws.{read-in}
-use Rattle.reading_laws.specs.Walk.{refuses, same-rule}
+use Rattle.laws_reading.specs.Walk.{refuses, same-rule}
 use Rattle.bids.specs.Bids.{judgeOf, heldOf, tablesOf, TablesRight, alone}
 
 -- the rule of the numbers that were read in the parts of the file is the rule of the bid

@@ -6,7 +6,7 @@ use Rattle.rules.specs.Names.{resultShort}
 use Rattle.rules.specs.Result.{refusedAs, refusedAt, codeOf}
 use Rattle.rules.specs.declared.Answer.{Answer}
 use Rattle.rules.specs.declared.Answer.the-variants.{Cleared, Refused}
-use Rattle.reading_laws.specs.Small.{largest}
+use Rattle.laws_reading.specs.Small.{largest}
 use Rattle.round.specs.Round.{SmallAnswer}
 
 pub number-small : (r : Answer) {m at : ℕ} → SmallAnswer r → r ≡ Refused m at → (m ≤ resultShort) × (at ≤ largest)

@@ -12,14 +12,16 @@ use Rattle.rules.specs.Refusals.{scan, countFault, section, sevenOf, eightOf, n
 use Rattle.rules.specs.declared.Sections.{Sections}
 use Rattle.rules.specs.declared.Reading.{Reading}
 use Rattle.rules.specs.declared.Reading.the-variants.{Accepted, Refused}
-use Rattle.reading_laws.specs.Walk.{given-yes, refuses}
-use Rattle.reading_laws.specs.Reading.{holds, YearRight, year-right, app-right, deliveries-most, counts}
-use Rattle.reading_laws.specs.Fault.{Table, years, pots, techs, apps, bids, tables, says, countIs, recordIs, judges, judgesAll, Right, AllRight, none, also, after, goes, stops, faulty, or-passes, sections-pass, count-right, record-right, ends-within}
+use Rattle.laws_reading.specs.Walk.{given-yes, refuses}
+use Rattle.laws_reading.specs.Reading.{holds, YearRight, year-right, app-right, deliveries-most, counts}
+use Rattle.laws_reading.specs.Fault.{Table, years, pots, techs, apps, bids, tables, says, countIs, recordIs, judges, judgesAll, Right, AllRight, none, also}
+use Rattle.laws_reading.specs.Fault.{after, goes, stops, faulty, or-passes, sections-pass, count-right, record-right, ends-within}
 use Rattle.fields.proofs.Le.{part-length}
 use Rattle.layout.specs.Layout.{yearsIn}
 use Rattle.records.specs.Records.{yearsOf, potsOf, techsOf, appsOf}
 use Rattle.bids.specs.Bids.{TablesRight, bidsOf, lowestOf}
-use Rattle.file.specs.Reads.{ends, withPots, withTechs, withApps, withBids, toYears, toPots, toTechs, toApps, afterYears, afterPots, afterTechs, afterApps, readYears, readPots, readTechs, readApps, readBids}
+use Rattle.file.specs.Reads.{ends, withPots, withTechs, withApps, withBids, toYears, toPots, toTechs, toApps, afterYears, afterPots, afterTechs}
+use Rattle.file.specs.Reads.{afterApps, readYears, readPots, readTechs, readApps, readBids}
 
 -- ---- a section by its count and its records
 
@@ -57,7 +59,8 @@ module _ (s : List ℕ) {Ts : List Table} (a : AllRight s Ts) (T : Table) (q : R
 
   -- its count is accepted, and F is what its n records answer, in the part of the file that they occupy
   pub next-read : (F : Sections → (n next : ℕ) → List ℕ → Reading)
-      → F h (le countWidth s (at h)) (ends (at h) (le countWidth s (at h)) (width h)) (part s (at h + countWidth) (ends (at h) (le countWidth s (at h)) (width h)))
+      → F h (le countWidth s (at h)) (ends (at h) (le countWidth s (at h)) (width h))
+      (part s (at h + countWidth) (ends (at h) (le countWidth s (at h)) (width h)))
       ≡ scan (recordIs s T) (T .width) (T .at + countWidth) 0 (says s T) q
       → f ≡ 0 → {n next : ℕ} {l : List ℕ} {r : Reading} → n ≡ le countWidth s (at g) → next ≡ ends (at g) n (width g)
       → l ≡ part s (at g + countWidth) next → r ≡ F g n next l
@@ -244,7 +247,8 @@ module _ (s : List ℕ) where
       omega (arith, part-length s (appsAt (R .y) (R .p) (R .t) + countWidth) (bidsAt (R .y) (R .p) (R .t) (R .n)) (omega arith) (apps-known s r .1))
 
   apps-tech : Right s (apps (roundOf s)) → (a : ℕ) → a < roundOf s .n
-      → appAt (part s (appsAt (roundOf s .y) (roundOf s .p) (roundOf s .t) + countWidth) (bidsAt (roundOf s .y) (roundOf s .p) (roundOf s .t) (roundOf s .n))) a .tech < roundOf s .t
+      → appAt (part s (appsAt (roundOf s .y) (roundOf s .p) (roundOf s .t) + countWidth) (bidsAt (roundOf s .y) (roundOf s .p) (roundOf s .t) (roundOf s .n)))
+      a .tech < roundOf s .t
   unfolding roundOf sections
   apps-tech r a l = app-right _ _ _ _ a (record-right s (apps (roundOf s)) r a l .1) .tech
 

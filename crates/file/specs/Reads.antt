@@ -6,7 +6,7 @@ use Rattle.rules.specs.File.{Round, roundOf, sectionsOf}
 use Rattle.rules.specs.declared.Sections.{Sections}
 use Rattle.rules.specs.declared.Reading.{Reading}
 use Rattle.rules.specs.declared.Reading.the-variants.{Accepted}
-use Rattle.reading_laws.specs.Fault.{Table, judgesAll, years, pots, techs, apps, tables}
+use Rattle.laws_reading.specs.Fault.{Table, judgesAll, years, pots, techs, apps, tables}
 use Rattle.layout.specs.Layout.{laidOut}
 use Rattle.records.specs.Records.{withYears}
 

@@ -15,13 +15,15 @@ use Rattle.rules.specs.Lists.{pick, sift, below}
 use Rattle.rules.specs.Bytes.{part}
 use Rattle.rules.specs.File.{Round, App, Bid, appAt, budgetAt}
 use Rattle.rules.specs.Round.{bidOf, mine, enters}
-use Rattle.pot_laws.specs.Lists.{case}
-use Rattle.reading_laws.specs.Reading.{Sound}
+use Rattle.laws_pot.specs.Lists.{case}
+use Rattle.laws_reading.specs.Reading.{Sound}
 use Rattle.layout.specs.Layout.{Room}
-use Rattle.sheet.specs.Sheet.{entrantsAt, absent, entered, spare, rowStanding, entrantAt, entrants, inAuction, rowPlace, figurePlace, figuresPlace, sheetLength, figuresAt}
+use Rattle.sheet.specs.Sheet.{entrantsAt, absent, entered, spare, rowStanding, entrantAt, entrants, inAuction, rowPlace, figurePlace, figuresPlace}
+use Rattle.sheet.specs.Sheet.{sheetLength, figuresAt}
 use Rattle.rows.specs.Rows.{standingOf, rowNumbers, figureNumbers, figuresIn}
 use Rattle.rows.proofs.Laws.{figure-blank, figure-own}
-use Rattle.fill.specs.Fill.{BlankFigures, Stands, Kept, Rest, Put, Figured, RowsRight, FiguresRight, AllFigures, LimitsRight, FiguresOf, FiguresWritten, Entered}
+use Rattle.fill.specs.Fill.{BlankFigures, Stands, Kept, Rest, Put, Figured, RowsRight, FiguresRight, AllFigures, LimitsRight, FiguresOf, FiguresWritten}
+use Rattle.fill.specs.Fill.{Entered}
 
 -- ---- the record of a pot
 

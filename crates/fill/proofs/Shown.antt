@@ -14,12 +14,13 @@ use Rattle.rules.specs.Bytes.{le}
 use Rattle.rules.specs.Value.{exactParts, hoursOf, pound, mostEnergy}
 use Rattle.rules.specs.File.{Round, yearAt, budgetAt}
 use Rattle.rules.specs.Round.{Row, blank, energyOf, costOf, assemble, bidOf, mine, enters, rowFor, potOf}
-use Rattle.pot_laws.specs.Lists.{case, in-sift, in-below, sift-same}
-use Rattle.reading_laws.specs.Reading.{Sound}
-use Rattle.reading_laws.specs.Reading as r
-use Rattle.pot_laws.specs.Mono.{Lawful}
-use Rattle.round_laws.specs.Bids.{mine-out, lawful}
-use Rattle.sheet.specs.Sheet.{sheetLength, limitAt, entrants, absent, entered, spare, rowStanding, rowApp, rowYear, rowPrice, rowDraw, rowAdmin, figReference, figEnergy, figShare, sheetCost, inAuction, inTest, potIn, Ready, rowPlace, figurePlace}
+use Rattle.laws_pot.specs.Lists.{case, in-sift, in-below, sift-same}
+use Rattle.laws_reading.specs.Reading.{Sound}
+use Rattle.laws_reading.specs.Reading as r
+use Rattle.laws_pot.specs.Mono.{Lawful}
+use Rattle.laws_round.specs.Bids.{mine-out, lawful}
+use Rattle.sheet.specs.Sheet.{sheetLength, limitAt, entrants, absent, entered, spare, rowStanding, rowApp, rowYear, rowPrice, rowDraw, rowAdmin, figReference}
+use Rattle.sheet.specs.Sheet.{figEnergy, figShare, sheetCost, inAuction, inTest, potIn, Ready, rowPlace, figurePlace}
 use Rattle.rows.specs.Rows.{rowOf, standingOf, rowNumbers, figureNumbers}
 use Rattle.rows.proofs.Laws.{good, mine-in, row-blank, energy-most, share-most}
 use Rattle.fill.specs.Fill.{RowsRight, AllFigures, LimitsRight, RowsWritten, FiguresWritten, LimitsWritten, Entered, sizeOf}

@@ -16,15 +16,15 @@ pub struct Application {
 }
 
 // Where a field stands in the record, which starts with the technology.
-pub const YEAR: usize = 2;
+const YEAR: usize = 2;
 
-pub const DAYS: usize = 4;
+const DAYS: usize = 4;
 
-pub const DRAW: usize = 6;
+const DRAW: usize = 6;
 
-pub const CAPACITY: usize = 8;
+const CAPACITY: usize = 8;
 
-pub const DECLARED_COST: usize = 12;
+const DECLARED_COST: usize = 12;
 
 // Application a.
 pub fn read(recs: &[u8], a: usize) -> Application

@@ -14,13 +14,13 @@ pub struct Bid {
 }
 
 // Where a field stands in the record, which starts with the application.
-pub const YEAR: usize = 2;
+const YEAR: usize = 2;
 
-pub const DAYS: usize = 4;
+const DAYS: usize = 4;
 
-pub const CAPACITY: usize = 6;
+const CAPACITY: usize = 6;
 
-pub const PRICE: usize = 10;
+const PRICE: usize = 10;
 
 // Bid k.
 pub fn read(recs: &[u8], k: usize) -> Bid

@@ -6,13 +6,13 @@ ghost use Rattle.rules.specs.File.{techAt};
 ghost use Rattle.layout.specs.Layout.{Room};
 
 // Where a field stands in the record, which starts with the pot. Of the last three, each year has its own, `TECH_YEAR` bytes further on.
-pub const RQM: usize = 2;
+const RQM: usize = 2;
 
-pub const ADMIN: usize = 4;
+const ADMIN: usize = 4;
 
-pub const REFERENCE: usize = 8;
+const REFERENCE: usize = 8;
 
-pub const LOAD: usize = 12;
+const LOAD: usize = 12;
 
 // The bytes of a record, in a file of so many years.
 pub fn width(years: usize) -> usize

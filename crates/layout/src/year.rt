@@ -6,9 +6,9 @@ ghost use Rattle.rules.specs.File.{yearAt};
 ghost use Rattle.layout.specs.Layout.{Room};
 
 // Where a field stands in the record, which starts with the days.
-pub const KIND: usize = 2;
+const KIND: usize = 2;
 
-pub const TLM: usize = 4;
+const TLM: usize = 4;
 
 pub fn days(recs: &[u8], y: usize) -> u64
     requires { ⌜ Room (now recs) yearWidth y ⌝ }

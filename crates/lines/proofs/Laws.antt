@@ -28,7 +28,8 @@ pub printed-none : (s : List ℕ) → Printed [] 0 s s 0
 printed-none s = record { long = refl; within = zero-le; filled = filled-none s }
 
 -- one record more, each no longer than w
-pub each-printed : {s s₀ ys : List ℕ} {a b : ℕ} (f : ℕ → List ℕ) (w i : ℕ) → Printed (each f i) (w * i) s₀ s a → Printed (f i) w (take (length s - a) (drop a s)) ys b
+pub each-printed : {s s₀ ys : List ℕ} {a b : ℕ} (f : ℕ → List ℕ) (w i : ℕ) → Printed (each f i) (w * i) s₀ s a
+    → Printed (f i) w (take (length s - a) (drop a s)) ys b
     → Printed (each f (i + 1)) (w * (i + 1)) s₀ (putMid a (length s - a) s ys) (a + b)
 each-printed f w i p q =
     let e : w * i + w ≡ w * (i + 1) = omega arith in

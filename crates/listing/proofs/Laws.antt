@@ -8,9 +8,8 @@ use lib.ListN.{length, getD}
 use borrow.Author.Tests.{lt-ltb, le-ltb}
 use Rattle.rules.specs.Bytes.{each, onto}
 use Rattle.rules.specs.File.{Round}
-use Rattle.rules.specs.Pot.{outcome, totalIn, reason}
+use Rattle.rules.specs.Pot.{totalIn, reason}
 use Rattle.rules.specs.Round.{potOf}
-use Rattle.rules.specs.Result.{appTold}
 use Rattle.rules.specs.Result as rules
 use Rattle.rules.specs.Listing.{appLine, yearLine, bidLine, priceListed, potLines, appLineOf, roundLines}
 use Rattle.rules.specs.declared.Sections.{Sections}

@@ -6,12 +6,11 @@ use lib.Dec.{ltb}
 use Rattle.rules.specs.Names.{noPrice, mostYears, mostPots, mostApps, mostBids}
 use Rattle.rules.specs.Lists.{pick}
 use Rattle.rules.specs.Bytes.{each}
-use Rattle.rules.specs.Result.{untold}
 use Rattle.rules.specs.Listing.{potLine, yearLine, appLine, bidLine}
 use Rattle.rules.specs.declared.Sections.{Sections}
 use Rattle.result.specs.declared.PotTold.{PotTold}
 use Rattle.result.specs.declared.Tellings.{Tellings}
-use Rattle.result.specs.Tells.{noPot}
+use Rattle.result.specs.Tells.{untold, noPot}
 
 -- ---- the most bytes of a line: of a pot, a year, an application, a bid, a refusal; of a pot with its years, and of a listing
 abbrev pub longestPotLine : ℕ

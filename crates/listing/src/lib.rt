@@ -10,13 +10,37 @@ ghost use Rattle.result.specs.Tells.{InRange, Counted, Tells};
 ghost use Rattle.lines.specs.Printed.{Printed};
 ghost use Rattle.listing.specs.ToldLines.{longestYear, longestApp, longestBid, longestRefusal, longestPot, longest};
 ghost use Rattle.listing.specs.ToldLines.{priceTold, yearLineTold, potLinesTold, potListed, appLineTold, bidLineTold, linesTold};
+use names::MOST_APPS;
+use names::MOST_BIDS;
+use names::MOST_POTS;
 use names::NO_PRICE;
+use names::YEARS;
 use result::PotTold;
 use result::Tellings;
 use rules::Sections;
 
-// The most bytes that a listing has.
-pub const LONGEST: usize = 21600;
+// The most bytes of a line: of a pot, a year, an application, a bid.
+const LONGEST_POT_LINE: usize = 40;
+
+const LONGEST_YEAR: usize = 80;
+
+const LONGEST_APP: usize = 83;
+
+const LONGEST_BID: usize = 53;
+
+// Of a pot with its years, and of a listing.
+const LONGEST_POT: usize = LONGEST_POT_LINE + LONGEST_YEAR * YEARS;
+
+pub const LONGEST: usize = LONGEST_POT * MOST_POTS as usize
+    + LONGEST_APP * MOST_APPS as usize
+    + LONGEST_BID * MOST_BIDS as usize;
+
+// Room for a listing.
+pub fn blank() -> [u8; LONGEST]
+    ensures { λ r. ⌜ longest ≡ length r ⌝ }
+{
+    [0; LONGEST]
+}
 
 // The clearing price of year y in a pot: a valuation-only year has none.
 fn price_in(told: PotTold, sections: Sections, y: usize) -> u64
@@ -31,7 +55,8 @@ fn price_in(told: PotTold, sections: Sections, y: usize) -> u64
 
 // The line of year y in a pot.
 fn year_line(s: &mut [u8], told: PotTold, sections: Sections, y: usize) -> usize
-    requires ready { ⌜ InRange sections × (y < mostYears) ⌝ }
+    requires ready { ⌜ InRange sections ⌝ }
+    requires known { ⌜ y < mostYears ⌝ }
     requires room { ⌜ longestYear ≤ length (now s) ⌝ }
     ensures { λ r. ⌜ Printed (yearLineTold sections told y) longestYear (now (s .entry)) (now (s .exit)) r ⌝ }
 {
@@ -66,6 +91,7 @@ fn pot_lines(s: &mut [u8], told: PotTold, sections: Sections, p: usize) -> usize
     at + year_lines(&mut s[at..], told, sections)
 }
 
+// The lines of the pots, of the applications, and of the bids.
 fn pots(s: &mut [u8], t: Tellings, sections: Sections) -> usize
     requires ready { ⌜ InRange sections ⌝ }
     requires room { ⌜ longestPot * sections .pots ≤ length (now s) ⌝ }

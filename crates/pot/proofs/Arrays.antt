@@ -8,7 +8,7 @@ use lib.ListN.{getD, length-set}
 use lib.Dec.{eqb}
 use Rattle.rules.specs.Lists.{pick, memb}
 use Rattle.rules.specs.Pot.{Pot, priceFrom}
-use Rattle.pot_laws.specs.Lists.{case, In, here, there}
+use Rattle.laws_pot.specs.Lists.{case, In, here, there}
 use Rattle.arrays.proofs.Arrays.{put-is, pick-or}
 use Rattle.sheet.specs.Sheet.{rowApp, rowYear}
 use Rattle.pot.specs.declared.PotState.{PotState}

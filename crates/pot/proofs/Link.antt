@@ -12,8 +12,8 @@ use Rattle.rules.specs.Names.{noPrice, noReason, becauseWon, highestPrice}
 use Rattle.rules.specs.Lists.{pick, memb, sift, below}
 use Rattle.rules.specs.Pot.{Pot, Event, Trace, winners, downs, seen, closed, hanging, mark, priceFrom, clearing, total, within, fits, live, least, lowest}
 use Rattle.rules.specs.Pot.{taken}
-use Rattle.pot_laws.specs.Lists.{case, clash, and-true, In, here, there, memb-in, in-memb, sift-in, sift-same, sift-both, memb-join, memb-map-join, below-in}
-use Rattle.pot_laws.specs.Mono.{Lawful}
+use Rattle.laws_pot.specs.Lists.{case, clash, and-true, In, here, there, memb-in, in-memb, sift-in, sift-same, sift-both, memb-join, memb-map-join, below-in}
+use Rattle.laws_pot.specs.Mono.{Lawful}
 use Rattle.arrays.specs.Sets.{built, members}
 use Rattle.arrays.proofs.Arrays.{eqb-sym, put-is, members-built}
 use Rattle.sheet.specs.declared.Size.{Size}

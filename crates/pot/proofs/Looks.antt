@@ -10,9 +10,9 @@ use borrow.Author.Tests.{ne-eqb, lt-ltb, ltb-true}
 use Rattle.rules.specs.Names.{becauseWon, downAlone}
 use Rattle.rules.specs.Lists.{pick, memb}
 use Rattle.rules.specs.Pot.{Pot, Trace, winners, priceFrom, live, taken, fits, won, down, follows, alone}
-use Rattle.pot_laws.specs.Lists.{case, clash, In, memb-in, in-memb, in-none, in-one}
-use Rattle.pot_laws.specs.Taken as taken
-use Rattle.pot_laws.specs.Runs.{won-seen}
+use Rattle.laws_pot.specs.Lists.{case, clash, In, memb-in, in-memb, in-none, in-one}
+use Rattle.laws_pot.specs.Taken as taken
+use Rattle.laws_pot.specs.Runs.{won-seen}
 use Rattle.arrays.specs.Sets.{members, headOr}
 use Rattle.arrays.proofs.Arrays.{put-is}
 use Rattle.sheet.specs.declared.Size.{Size}

@@ -10,9 +10,9 @@ use borrow.Author.Tests.{ne-eqb, ltb-true, ltb-false}
 use Rattle.rules.specs.Names.{noPrice, noReason, becauseWon, highestPrice}
 use Rattle.rules.specs.Lists.{pick, memb, sift, below}
 use Rattle.rules.specs.Pot.{Pot, Event, Trace, winners, seen, closed, hanging, wideEnd, mark, priceFrom, live, taken, look, run, onward, auction}
-use Rattle.pot_laws.specs.Lists.{case, clash, In, here, in-memb, in-none, in-length, sift-in, in-sift, sift-le, below-in}
-use Rattle.pot_laws.specs.Taken.{Lows, taken-lows}
-use Rattle.pot_laws.specs.Runs.{Inv, inv-none, looked-next, inv-looked, step-of, lives, fewer}
+use Rattle.laws_pot.specs.Lists.{case, clash, In, here, in-memb, in-none, in-length, sift-in, in-sift, sift-le, below-in}
+use Rattle.laws_pot.specs.Taken.{Lows, taken-lows}
+use Rattle.laws_pot.specs.Runs.{Inv, inv-none, looked-next, inv-looked, step-of, lives, fewer}
 use Rattle.arrays.specs.Sets.{fill}
 use Rattle.arrays.proofs.Arrays.{put-is, at-start, fill-length, fill-at}
 use Rattle.sheet.specs.declared.Size.{Size}

@@ -6,16 +6,16 @@ use mathlib.Core.List.{List, [], _∷_}
 use native.Mathlib.Omega.{arith}
 use native.Mathlib.Nat.{le-antisymm}
 use native.Mathlib.Numerals.{add-one}
-use lib.ListN.{length, getD, set, length-set}
+use lib.ListN.{length, getD}
 use lib.Dec.{eqb, ltb}
 use borrow.Author.Tests.{eqb-true, eq-eqb, ne-eqb, lt-ltb, le-ltb, ltb-true, ltb-false}
 use Rattle.rules.specs.Names.{noReason, becauseWon}
 use Rattle.rules.specs.Lists.{sift, below}
-use Rattle.pot_laws.specs.Lists.{case, and-true, In, here, there, sift-in, sift-same, sift-both, sift-le, below-in}
+use Rattle.laws_pot.specs.Lists.{case, and-true, In, here, there, sift-in, sift-same, sift-both, sift-le, below-in}
 use Rattle.arrays.specs.Sets.{members, headOr}
 use Rattle.arrays.proofs.Arrays.{members-built}
 use Rattle.sheet.specs.declared.Size.{Size}
-use Rattle.sheet.specs.Sheet.{Ready, entrantAt, entrants, rowStanding, rowApp, rowYear, rowPrice, inAuction}
+use Rattle.sheet.specs.Sheet.{Ready, entrantAt, entrants, rowApp, rowYear, rowPrice, inAuction}
 use Rattle.sheet.proofs.Entrants.{entrants-length}
 use Rattle.pot.specs.declared.PotState.{PotState}
 use Rattle.pot.specs.declared.Look.{Look}

@@ -1,5 +1,5 @@
 -- One look: the arrays follow the trace. Assumes nothing.
-use Prim.Native.Nat.{ℕ, _≤_, _<_}
+use Prim.Native.Nat.{ℕ, _<_}
 use mathlib.Core.Path.{_≡_, refl, sym, ap, _∙_}
 use mathlib.Core.Bool.{Bool, true, false}
 use mathlib.Core.List.{List, [], _∷_, _++_}
@@ -8,14 +8,14 @@ use lib.ListN.{length, getD}
 use lib.Dec.{eqb}
 use Rattle.rules.specs.Names.{becauseWon}
 use Rattle.rules.specs.Pot.{Pot, Trace, winners, wideEnd, taken, fits, down, follows, alone, tied, lost, look}
-use Rattle.pot_laws.specs.Lists.{case, In, here, in-none}
+use Rattle.laws_pot.specs.Lists.{case, In, here, in-none}
 use Rattle.arrays.specs.Sets.{built, members, headOr}
 use Rattle.sheet.specs.declared.Size.{Size}
 use Rattle.sheet.specs.Sheet.{potIn, Ready, inAuction}
 use Rattle.totals.specs.Totals.{totalOf, rowFits}
 use Rattle.pot.specs.declared.PotState.{PotState}
 use Rattle.pot.specs.declared.Look.{Look}
-use Rattle.pot.specs.Marks.{lowestOf, atOf, winOf, winAll, Looked, settledOf, takenOf, aloneOf, tieOf, yearSum, withSums, renewedOf, totalledOf}
+use Rattle.pot.specs.Marks.{lowestOf, atOf, winAll, Looked, settledOf, takenOf, aloneOf, tieOf, yearSum, withSums, renewedOf, totalledOf}
 use Rattle.pot.specs.Marks.{triedOf, trialOf, Summed}
 use Rattle.pot.specs.Rep.{Rep, Stepped}
 use Rattle.pot.proofs.Looks as looks

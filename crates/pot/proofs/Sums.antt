@@ -5,17 +5,17 @@ use mathlib.Core.Bool.{Bool, true, false, _&&_}
 use mathlib.Core.List.{List, [], _∷_}
 use native.Mathlib.Numerals.{add-one}
 use native.Mathlib.Omega.{arith}
-use lib.ListN.{length, getD, set, length-set, replicate}
+use lib.ListN.{length, getD, set, replicate}
 use lib.Seq.{getD-set-other}
 use lib.Dec.{eqb, ltb}
-use borrow.Author.Tests.{eqb-true, eqb-false, eq-eqb, ne-eqb}
+use borrow.Author.Tests.{eqb-true, eqb-false, ne-eqb}
 use Rattle.rules.specs.Value.{dearest}
 use Rattle.rules.specs.Names.{becauseWon, widestTie}
 use Rattle.rules.specs.Lists.{pick, sift, below}
 use Rattle.rules.specs.Pot.{Pot, Trace}
-use Rattle.pot_laws.specs.Lists.{case, In, here, there, sift-in, below-in}
+use Rattle.laws_pot.specs.Lists.{case, In, here, there, sift-in, below-in}
 use Rattle.arrays.specs.Sets.{fill, placed, members}
-use Rattle.arrays.proofs.Arrays.{put-is, zeros, fill-at, placed-length, placed-at, placed-other}
+use Rattle.arrays.proofs.Arrays.{zeros, fill-at, placed-length, placed-at, placed-other}
 use Rattle.sheet.specs.declared.Size.{Size}
 use Rattle.sheet.specs.Sheet.{columns, Ready, inAuction, rowStanding, rowYear}
 use Rattle.totals.specs.Totals.{worthOf, totalOf, partOn, partOf, noRow, filled, fitsTo, rowFits}

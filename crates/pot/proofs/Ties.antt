@@ -9,7 +9,7 @@ use borrow.Author.Tests.{ltb-false}
 use Rattle.rules.specs.Names.{becauseWon, downTied, widestTie}
 use Rattle.rules.specs.Lists.{pick, memb, sift, below}
 use Rattle.rules.specs.Pot.{Pot, Trace, winners, wideEnd, live, taken, remaining, choose, others, shared, tied}
-use Rattle.pot_laws.specs.Lists.{case, clash, not-is-true, In, memb-in, sift-in, sift-same, sift-both}
+use Rattle.laws_pot.specs.Lists.{case, clash, not-is-true, In, memb-in, sift-in, sift-same, sift-both}
 use Rattle.arrays.specs.Sets.{built, members, without}
 use Rattle.arrays.proofs.Arrays.{members-built}
 use Rattle.sheet.specs.declared.Size.{Size}

@@ -8,7 +8,7 @@ use lib.Dec.{eqb, ltb}
 use Rattle.rules.specs.Names.{mostNumbers, mostApps, mostDeliveries, noPrice, noReason, becauseWon}
 use Rattle.rules.specs.Lists.{pick, memb}
 use Rattle.rules.specs.Pot.{Pot, Trace, winners, seen, closed, hanging, wideEnd, mark, priceFrom, taken, look}
-use Rattle.pot_laws.specs.Lists.{In}
+use Rattle.laws_pot.specs.Lists.{In}
 use Rattle.sheet.specs.declared.Size.{Size}
 use Rattle.sheet.specs.Sheet.{potIn, Ready}
 use Rattle.pot.specs.declared.PotState.{PotState}

@@ -8,8 +8,8 @@ use Rattle.rules.specs.File.{App, appAt}
 use Rattle.rules.specs.Refusals.{appFault}
 use Rattle.rules.specs.declared.Reading.{Reading}
 use Rattle.rules.specs.declared.Reading.the-variants.{Refused}
-use Rattle.reading_laws.specs.Walk.{given-yes, same-rule, part-broken}
-use Rattle.reading_laws.specs.Reading.{holds}
+use Rattle.laws_reading.specs.Walk.{given-yes, same-rule, part-broken}
+use Rattle.laws_reading.specs.Reading.{holds}
 use Rattle.records.specs.Numbers.{pricesOf, numbersOf, drawOf}
 
 -- ---- refusals

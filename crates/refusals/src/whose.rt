@@ -1,6 +1,9 @@
 // The count or record that stands at an offset of a refused file. The counts before the fault are right, and they say where each section
 // stands; a count that the file does not have is 0.
-ghost use Prim.Native.Nat.{_<_};
+ghost use mathlib.Core.Path.{_≡_};
+ghost use Prim.Native.Nat.{_+_, _*_, _<_, min};
+ghost use Rattle.rules.specs.Names.{countWidth};
+ghost use Rattle.layout.specs.Layout.{beyond};
 use layout::pot;
 use layout::technology;
 use libc::STDOUT_FILENO;
@@ -10,6 +13,7 @@ use places::on;
 // The place after a section whose count, at `at`, is n.
 fn after(at: usize, n: usize, width: usize) -> usize
     requires { ⌜ (n < 65536) × (width < 1000000) ⌝ }
+    ensures { λ r. ⌜ r ≡ min (min (at + countWidth) beyond + n * width) beyond ⌝ }
 {
     on(on(at, names::COUNT_WIDTH), n * width)
 }
@@ -30,43 +34,57 @@ fn told(start: usize, at: usize, width: usize, one: &[u8], many: &[u8]) {
     }
 }
 
-// An application or a bid, where the applications' count is at `fourth`.
-fn of_offers(file: &[u8], fourth: usize, at: usize) {
-    let fifth = after(fourth, count(file, fourth), names::APP_WIDTH);
-    if at < fifth {
+// An application or a bid, where the applications' count is at `applications_at`.
+fn of_offers(file: &[u8], applications_at: usize, at: usize) {
+    let bids_at = after(
+        applications_at,
+        count(file, applications_at),
+        names::APP_WIDTH,
+    );
+    if at < bids_at {
         return told(
-            fourth,
+            applications_at,
             at,
             names::APP_WIDTH,
             b"application",
             b"applications",
         );
     }
-    told(fifth, at, names::BID_WIDTH, b"bid", b"bids");
+    told(bids_at, at, names::BID_WIDTH, b"bid", b"bids");
 }
 
-// A pot, or what follows, in a file of so many years whose count of pots is at `second`.
-fn of_pots(file: &[u8], years: usize, second: usize, at: usize)
+// A pot, or what follows, in a file of so many years whose count of pots is at `pots_at`.
+fn of_pots(file: &[u8], years: usize, pots_at: usize, at: usize)
     requires { ⌜ years < 65536 ⌝ }
 {
     let pot_width = pot::width(years);
-    let third = after(second, count(file, second), pot_width);
-    if at < third {
-        return told(second, at, pot_width, b"pot", b"pots");
+    let technologies_at = after(pots_at, count(file, pots_at), pot_width);
+    if at < technologies_at {
+        return told(pots_at, at, pot_width, b"pot", b"pots");
     }
     let technology_width = technology::width(years);
-    let fourth = after(third, count(file, third), technology_width);
-    if at < fourth {
-        return told(third, at, technology_width, b"technology", b"technologies");
+    let applications_at = after(
+        technologies_at,
+        count(file, technologies_at),
+        technology_width,
+    );
+    if at < applications_at {
+        return told(
+            technologies_at,
+            at,
+            technology_width,
+            b"technology",
+            b"technologies",
+        );
     }
-    of_offers(file, fourth, at);
+    of_offers(file, applications_at, at);
 }
 
 pub fn record(file: &[u8], at: usize) {
     let years = count(file, 0);
-    let second = after(0, years, names::YEAR_WIDTH);
-    if at < second {
+    let pots_at = after(0, years, names::YEAR_WIDTH);
+    if at < pots_at {
         return told(0, at, names::YEAR_WIDTH, b"year", b"years");
     }
-    of_pots(file, years, second, at);
+    of_pots(file, years, pots_at, at);
 }

@@ -1,21 +1,18 @@
 -- The lengths of the sections, and what is told of a round is its result. Assumes nothing.
 use Prim.Native.Nat.{ℕ, _+_, _-_, _*_, _≤_, _<_}
-use mathlib.Core.Bool.{_&&_}
 use mathlib.Core.Path.{_≡_, refl, sym, ap, _∙_}
 use mathlib.Core.List.{List}
 use native.Mathlib.Nat.{mul-le-mul}
 use native.Mathlib.Omega.{arith}
-use lib.Dec.{ltb}
 use lib.ListN.{length, take, drop, getD, length-append}
 use borrow.Rule.Slice.PartMut.{putMid}
 use borrow.Author.Tests.{lt-ltb}
 use Rattle.rules.specs.Names.{countWidth, mostDeliveries}
-use Rattle.rules.specs.Lists.{pick}
 use Rattle.rules.specs.Bytes.{bytes, each}
 use Rattle.rules.specs.File.{Round}
-use Rattle.rules.specs.Pot.{Pot, outcome, priceIn, totalIn, reason}
+use Rattle.rules.specs.Pot.{outcome, priceIn, totalIn, reason}
 use Rattle.rules.specs.Round.{potOf}
-use Rattle.rules.specs.Result.{untold, appBytes, potBytes, bidBytes, appTold, potsPart, appsPart, bidsPart, resultBytes, needed}
+use Rattle.rules.specs.Result.{appBytes, potBytes, bidBytes, appTold, potsPart, appsPart, bidsPart, resultBytes, needed}
 use Rattle.rules.specs.Result as rules
 use Rattle.rules.specs.declared.Sections.{Sections}
 use Rattle.rules.specs.declared.Told.{Told}
@@ -23,8 +20,8 @@ use Rattle.store.specs.Filled.{Filled, numbers}
 use Rattle.store.proofs.Laws.{filled-none, filled-span, filled-rest, length-bytes, length-each, length-numbers, each-same, room}
 use Rattle.result.specs.declared.PotTold.{PotTold}
 use Rattle.result.specs.declared.Tellings.{Tellings}
-use Rattle.result.specs.Tells.{InRange, Counted, noPot, Tells}
-use Rattle.result.specs.ToldBytes.{outcomeSize, priceSize, totalSize, reasonSize, appSize, potSize, size, largestPots}
+use Rattle.result.specs.Tells.{untold, InRange, Counted, noPot, Tells}
+use Rattle.result.specs.ToldBytes.{outcomeSize, priceSize, totalSize, reasonSize, appSize, potSize, resultSize, largestPots}
 use Rattle.result.specs.ToldBytes.{potBytesTold, potRecord, appRecord, potsTold, appsTold, bidsTold, roundTold}
 
 -- ---- the lengths, and the parts filled one after the other
@@ -131,6 +128,6 @@ module _ {R : Round} {t : Tellings} {sections : Sections} (ok : InRange sections
         C .bids,
       )
 
-pub needed-is : {R : Round} {sections : Sections} → Counted R sections → size sections ≡ needed R
+pub needed-is : {R : Round} {sections : Sections} → Counted R sections → resultSize sections ≡ needed R
 unfolding needed
 needed-is C = rw (C .years, C .deliveries, C .pots, C .apps, C .bids)

@@ -10,8 +10,9 @@ use Rattle.rules.specs.Lists.{pick}
 use Rattle.rules.specs.File.{Round}
 use Rattle.rules.specs.Pot.{outcome, priceIn, totalIn, reason}
 use Rattle.rules.specs.Round.{potOf}
-use Rattle.rules.specs.Result.{appTold, untold, potAt}
+use Rattle.rules.specs.Result.{appTold, potAt}
 use Rattle.rules.specs.declared.Sections.{Sections}
+use Rattle.rules.specs.declared.Told.{Told}
 use Rattle.result.specs.declared.PotTold.{PotTold}
 use Rattle.result.specs.declared.Tellings.{Tellings}
 
@@ -31,7 +32,10 @@ pub record Counted (R : Round) (sections : Sections) : Type 0 where
   pub apps : sections .applications ≡ R .n
   pub bids : sections .bids ≡ R .b
 
--- what stands in a place of which nothing is told
+-- what stands in a place of which nothing is told: of an application, of a pot
+abbrev pub untold : Told
+untold = record { won = 0; bid = 0; reason = 0; paid = 0 }
+
 abbrev pub noPot : PotTold
 noPot = record { outcome = 0; prices = []; totals = [] }
 

@@ -4,12 +4,12 @@ use mathlib.Core.List.{List, _++_}
 use lib.ListN.{getD}
 use Rattle.rules.specs.Names.{countWidth}
 use Rattle.rules.specs.Bytes.{bytes, each}
-use Rattle.rules.specs.Result.{appBytes, untold}
+use Rattle.rules.specs.Result.{appBytes}
 use Rattle.rules.specs.declared.Sections.{Sections}
 use Rattle.store.specs.Filled.{numbers}
 use Rattle.result.specs.declared.PotTold.{PotTold}
 use Rattle.result.specs.declared.Tellings.{Tellings}
-use Rattle.result.specs.Tells.{noPot}
+use Rattle.result.specs.Tells.{untold, noPot}
 
 -- ---- the sizes in bytes of the result's fields: of a pot, of an application, and the reason of a bid as of an automatic one
 abbrev pub outcomeSize : ℕ
@@ -40,8 +40,8 @@ appSize = wonSize + bidSize + reasonSize + paidSize
 abbrev pub potSize : Sections → ℕ
 potSize sections = outcomeSize + priceSize * sections .deliveries + totalSize * sections .years
 
-abbrev pub size : Sections → ℕ
-size sections = 3 * countWidth + sections .pots * potSize sections + appSize * sections .applications + reasonSize * sections .bids
+abbrev pub resultSize : Sections → ℕ
+resultSize sections = 3 * countWidth + sections .pots * potSize sections + appSize * sections .applications + reasonSize * sections .bids
 
 -- the largest result: 4 pots of 82 bytes, 64 applications, 256 bids
 abbrev pub largestPots : ℕ

@@ -8,7 +8,7 @@ ghost use Rattle.rules.specs.File.{Round};
 ghost use Rattle.rules.specs.Result.{appBytes, needed, resultBytes};
 ghost use Rattle.store.specs.Filled.{Filled};
 ghost use Rattle.result.specs.Tells.{InRange, Counted, Tells};
-ghost use Rattle.result.specs.ToldBytes.{appSize, reasonSize, potSize, size, largestPots, largestResult};
+ghost use Rattle.result.specs.ToldBytes.{appSize, reasonSize, potSize, resultSize, largestPots, largestResult};
 ghost use Rattle.result.specs.ToldBytes.{potBytesTold, potRecord, appRecord, potsTold, appsTold, bidsTold, roundTold};
 use names::COUNT_WIDTH;
 use names::MOST_APPS;
@@ -164,7 +164,8 @@ fn bids(s: &mut [u8], t: Tellings, sections: Sections)
 // How many bytes the records of the pots take.
 fn pots_size(sections: Sections) -> usize
     requires { ⌜ InRange sections ⌝ }
-    ensures { λ r. ⌜ (r ≡ sections .pots * potSize sections) × (r ≤ largestPots) ⌝ }
+    ensures sized { λ r. ⌜ r ≡ sections .pots * potSize sections ⌝ }
+    ensures small { λ r. ⌜ r ≤ largestPots ⌝ }
 {
     sections.pots * pot_size(sections)
 }
@@ -172,7 +173,8 @@ fn pots_size(sections: Sections) -> usize
 // How many bytes the result needs.
 pub fn needed(sections: Sections) -> usize
     requires { ⌜ InRange sections ⌝ }
-    ensures sized { λ r. ⌜ (r ≡ size sections) × (r ≤ largestResult) ⌝ }
+    ensures sized { λ r. ⌜ r ≡ resultSize sections ⌝ }
+    ensures small { λ r. ⌜ r ≤ largestResult ⌝ }
     ensures meant { λ r. ⌜ ((R : Round) → Counted R sections → r ≡ needed R) ⌝ }
 {
     3 * COUNT_WIDTH
@@ -184,7 +186,7 @@ pub fn needed(sections: Sections) -> usize
 // The result over the start of the lent buffer: the three sections, each through its own part.
 pub fn write(t: Tellings, sections: Sections, result: &mut [u8])
     requires ready { ⌜ InRange sections ⌝ }
-    requires room { ⌜ size sections ≤ length (now result) ⌝ }
+    requires room { ⌜ resultSize sections ≤ length (now result) ⌝ }
     ensures told { λ _. ⌜ now (result .exit) ≡ onto (roundTold t sections) (now (result .entry)) ⌝ }
     ensures meant { λ _. ⌜ ((R : Round) → Counted R sections → Tells R t → now (result .exit) ≡ onto (resultBytes R) (now (result .entry))) ⌝ }
 {

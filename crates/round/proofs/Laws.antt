@@ -1,22 +1,23 @@
 -- What the reading of an accepted file says to those who clear it, and one law for each return. Assumes nothing.
-use Prim.Native.Nat.{ℕ, _+_, _-_, _≤_, _<_}
+use Prim.Native.Nat.{ℕ, _-_, _≤_, _<_}
 use mathlib.Core.Path.{_≡_, refl, ap, _∙_}
 use mathlib.Core.List.{List}
 use native.Mathlib.Omega.{arith}
 use lib.ListN.{length}
 use borrow.Author.Tests.{lt-ltb, le-ltb}
-use Rattle.rules.specs.Names.{countWidth, resultShort}
-use Rattle.rules.specs.Bytes.{part, onto}
-use Rattle.rules.specs.File.{Round, roundOf, sections, sectionsOf, potsAt, techsAt, appsAt, bidsAt, endAt}
+use Rattle.rules.specs.Names.{resultShort}
+use Rattle.rules.specs.Bytes.{onto}
+use Rattle.rules.specs.File.{Round, roundOf, sectionsOf}
 use Rattle.rules.specs.Refusals.{refusal, place, reading}
 use Rattle.rules.specs.Result.{needed, resultBytes, refusedAs, refusedAt, answerTo, answerOf, after, clearOf, lengthTo, lengthOf}
 use Rattle.rules.specs.declared.Sections.{Sections}
 use Rattle.rules.specs.declared.Reading.the-variants as r
 use Rattle.rules.specs.declared.Answer.the-variants.{Cleared, Refused}
-use Rattle.reading_laws.specs.Reading.{Sound}
-use Rattle.reading_laws.specs.Fault.{handed-on, ends-there}
-use Rattle.reading_laws.specs.Small.{reading-small}
+use Rattle.laws_reading.specs.Reading.{Sound}
+use Rattle.laws_reading.specs.Fault.{handed-on}
+use Rattle.laws_reading.specs.Small.{reading-small}
 use Rattle.rows.specs.Rows.{roundIn, Held}
+use Rattle.rows.proofs.Accepted.{accepted}
 use Rattle.result.specs.declared.Tellings.{Tellings}
 use Rattle.result.specs.Tells.{InRange, Counted, Tells}
 use Rattle.rules.specs.Listing.{refusalLine, roundLines, listingFor, listingOf}
@@ -31,41 +32,19 @@ pub record Handed (s : List ℕ) (z : Sections) : Type 0 where
   pub ranges : InRange z
   pub counted : Counted (roundOf s) z
 
--- the sections of a file that ends where they do
-parts-whole : (s : List ℕ) → length s ≡ endAt (roundOf s .y) (roundOf s .p) (roundOf s .t) (roundOf s .n) (roundOf s .b)
-    → roundIn s (sectionsOf (roundOf s)) ≡ roundOf s
-unfolding sectionsOf roundOf sections
-parts-whole s e = ap (λ (n : ℕ). upTo n) e
-  where
-    upTo : ℕ → Round
-    upTo n = record {
-      years = part s countWidth (potsAt (roundOf s .y));
-      pots = roundOf s .pots;
-      techs = roundOf s .techs;
-      apps = roundOf s .apps;
-      bids = part s (bidsAt (roundOf s .y) (roundOf s .p) (roundOf s .t) (roundOf s .n) + countWidth) n;
-      y = roundOf s .y;
-      d = roundOf s .d;
-      p = roundOf s .p;
-      t = roundOf s .t;
-      n = roundOf s .n;
-      b = roundOf s .b;
-    }
-
-handed-sections : (s : List ℕ) → length s ≡ endAt (roundOf s .y) (roundOf s .p) (roundOf s .t) (roundOf s .n) (roundOf s .b) → Sound (roundOf s)
-    → Handed s (sectionsOf (roundOf s))
+counts-of : (R : Round) → Sound R → InRange (sectionsOf R) × Counted R (sectionsOf R)
 unfolding sectionsOf
-handed-sections s e S = record {
-  round = parts-whole s e;
-  held = record { sound = rw (parts-whole s e) S; one = omega arith; two = omega arith; three = omega arith; four = omega arith; five = omega arith };
-  ranges = record { years = S .years-most; deliveries = S .deliveries-few; pots = S .pots-few; apps = S .apps-few; bids = S .bids-few };
-  counted = record { years = refl; deliveries = refl; pots = refl; apps = refl; bids = refl };
-}
+counts-of R S = (
+  record { years = S .years-most; deliveries = S .deliveries-few; pots = S .pots-few; apps = S .apps-few; bids = S .bids-few },
+  record { years = refl; deliveries = refl; pots = refl; apps = refl; bids = refl },
+)
 
 pub handed : (s : List ℕ) {z : Sections} → reading s ≡ r.Accepted z → Handed s z
-handed s {z} e =
+handed s e =
     let h = handed-on s e in
-    rw (h .0) (handed-sections s (ends-there s (unfold refusal in ap refusal e)) (h .1))
+    let a = accepted s e in
+    let c = counts-of (roundOf s) (h .1) in
+    record { round = a .0; held = a .1; ranges = rw (h .0) (c .0); counted = rw (h .0) (c .1) }
 
 -- ---- one law for each return
 
@@ -77,7 +56,10 @@ pub short : (s lent : List ℕ) {z : Sections} {need : ℕ} → reading s ≡ r.
     → Clears s lent (Refused resultShort 0) lent × SmallAnswer (Refused resultShort 0)
 unfolding clearOf answerOf answerTo after refusedAs refusedAt
 short s lent e q h = (
-  record { answer = rw (e, lt-ltb (length lent) (needed (roundOf s)) (omega arith)); bytes = rw (e, lt-ltb (length lent) (needed (roundOf s)) (omega arith)) },
+  record {
+    answer = rw (e, lt-ltb (length lent) (needed (roundOf s)) (omega arith));
+    bytes = rw (e, lt-ltb (length lent) (needed (roundOf s)) (omega arith));
+  },
   record { number = omega arith; at = omega arith },
 )
 
@@ -86,7 +68,11 @@ pub written : (s lent : List ℕ) {z : Sections} {need : ℕ} {exit : List ℕ} 
     → exit ≡ onto (resultBytes (roundOf s)) lent → Clears s lent (Cleared need) exit × SmallAnswer (Cleared need)
 unfolding clearOf answerOf answerTo after refusedAs refusedAt
 written s lent e q h b = (
-  record { answer = rw (e, q, le-ltb (length lent) (needed (roundOf s)) (omega arith)); bytes = b ∙ rw (e, le-ltb (length lent) (needed (roundOf s)) (omega arith)) },
+  record {
+    answer = rw (e, q, le-ltb (length lent) (needed (roundOf s)) (omega arith));
+    bytes = b
+        ∙ rw (e, le-ltb (length lent) (needed (roundOf s)) (omega arith));
+  },
   record { number = omega arith; at = omega arith },
 )
 

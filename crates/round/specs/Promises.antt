@@ -10,13 +10,13 @@ use Rattle.rules.specs.Refusals.{reading}
 use Rattle.rules.specs.Result.{needed, refusedAs, lengthOf, Outcome}
 use Rattle.rules.specs.declared.Reading.{Reading}
 use Rattle.rules.specs.declared.Answer.{Answer}
-use Rattle.reading_laws.specs.Small.{largest}
-use Rattle.round_laws.specs.Apart.{DifferElsewhere}
-use Rattle.round_laws.specs.Undeclared.{SaveCosts}
-use Rattle.round_laws.specs.Third.{Third}
-use Rattle.round_laws.specs.Read.{outcomeAt, totalAt, toldAt}
-use Rattle.round_laws.specs.Demanded.{whyAt, SameRecords}
-use Rattle.round_laws.specs.Theorems as laws
+use Rattle.laws_reading.specs.Small.{largest}
+use Rattle.laws_round.specs.Apart.{DifferElsewhere}
+use Rattle.laws_round.specs.Undeclared.{SaveCosts}
+use Rattle.laws_round.specs.Third.{Third}
+use Rattle.laws_round.specs.Read.{outcomeAt, totalAt, toldAt}
+use Rattle.laws_round.specs.Demanded.{whyAt, SameRecords}
+use Rattle.laws_round.specs.Theorems as laws
 use Rattle.round.specs.Round.{Clears, Lists}
 
 -- Demand 3, of each pot that an auction cleared, as the bytes that were written tell it: the five sentences are the fields of `Third`

@@ -10,7 +10,7 @@ use Rattle.rules.specs.Bytes.{onto}
 use Rattle.rules.specs.Result.{refusedAs, refusedAt, clearOf}
 use Rattle.rules.specs.Listing.{listingOf}
 use Rattle.rules.specs.declared.Answer.{Answer}
-use Rattle.reading_laws.specs.Small.{largest}
+use Rattle.laws_reading.specs.Small.{largest}
 use Rattle.listing.specs.ToldLines.{longest}
 
 -- a clearing: the answer and every byte of the lent buffer are those of the rules

@@ -10,8 +10,8 @@ use Rattle.rules.specs.File.{Round, roundOf, sections, sectionsOf, potsAt, bids
 use Rattle.rules.specs.Refusals.{refusal, reading}
 use Rattle.rules.specs.declared.Sections.{Sections}
 use Rattle.rules.specs.declared.Reading.the-variants.{Accepted}
-use Rattle.reading_laws.specs.Reading.{Sound}
-use Rattle.reading_laws.specs.Fault.{handed-on, ends-there}
+use Rattle.laws_reading.specs.Reading.{Sound}
+use Rattle.laws_reading.specs.Fault.{handed-on, ends-there}
 use Rattle.rows.specs.Rows.{roundIn, Held}
 
 -- where the sections of a file end

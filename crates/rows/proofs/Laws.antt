@@ -14,10 +14,10 @@ use Rattle.rules.specs.Lists.{pick, memb, below}
 use Rattle.rules.specs.Value.{hoursOf, mostEnergy, mostShare}
 use Rattle.rules.specs.File.{Round, App, Bid, yearAt, techAt, appAt, bidAt}
 use Rattle.rules.specs.Round.{energyOf, rowFor, automatic, bidOf, mine, silent, enters}
-use Rattle.pot_laws.specs.Lists.{and-true, In, in-memb, in-map, in-below}
-use Rattle.reading_laws.specs.Reading.{Sound}
-use Rattle.reading_laws.specs.Reading as r
-use Rattle.round_laws.specs.Bids.{bid-own, bid-auto, Kind, own, auto, out, kind}
+use Rattle.laws_pot.specs.Lists.{and-true, In, in-memb, in-map, in-below}
+use Rattle.laws_reading.specs.Reading.{Sound}
+use Rattle.laws_reading.specs.Reading as r
+use Rattle.laws_round.specs.Bids.{bid-own, bid-auto, Kind, own, auto, out, kind}
 use Rattle.layout.specs.Layout.{Room}
 use Rattle.layout.proofs.Laws.{read-in}
 use Rattle.sheet.specs.Sheet.{entered, spare}

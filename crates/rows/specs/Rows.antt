@@ -9,7 +9,7 @@ use Rattle.rules.specs.Lists.{pick, memb, below}
 use Rattle.rules.specs.File.{Round, Bid, yearAt, techAt, bidAt}
 use Rattle.rules.specs.Round.{Row, blank, energyOf, bidOf, mine, silent, enters, rowFor}
 use Rattle.rules.specs.declared.Sections.{Sections}
-use Rattle.reading_laws.specs.Reading.{Sound}
+use Rattle.laws_reading.specs.Reading.{Sound}
 use Rattle.layout.specs.Layout.{yearsIn, potsIn, technologiesIn, applicationsIn, bidsIn}
 use Rattle.sheet.specs.Sheet.{absent, entered, spare}
 

@@ -6,7 +6,8 @@ use mathlib.Core.Bool.{Bool, true, false, not, _&&_}
 use mathlib.Core.List.{List, [], _∷_, _++_, map}
 use lib.Dec.{eqb, leb, ltb}
 use lib.ListN.{length}
-use Rattle.rules.specs.Names.{administrative, auctioned, tooWide, widestTie, noPrice, noReason, becauseWon, downAlone, downTied, unlookedWon, unlookedElse, becauseAdministrative, becauseTooWide}
+use Rattle.rules.specs.Names.{administrative, auctioned, tooWide, widestTie, noPrice, noReason, becauseWon, downAlone, downTied, unlookedWon}
+use Rattle.rules.specs.Names.{unlookedElse, becauseAdministrative, becauseTooWide}
 use Rattle.rules.specs.Value.{ceilDiv}
 use Rattle.rules.specs.Lists.{pick, memb, sift, sum}
 

@@ -4,7 +4,10 @@ use mathlib.Core.Path.{_≡_}
 use mathlib.Core.List.{List}
 use lib.ListN.{length}
 use native.Mathlib.Decide.{decLe, decLt, ℕ-discrete}
-use Rattle.rules.specs.Names.{endsEarly, countOutside, yearBroken, potBroken, techBroken, appBroken, bidBroken, priceTwice, bidsTooMany, bytesAfter, lowestUneven, mostYears, mostPots, mostTechs, mostApps, mostBids, countWidth, yearWidth, potWidth, techWidth, appWidth, bidWidth, valuationOnly, delivery, mostDeliveries, shortYear, longYear, whole, highestBudget, highestPrice, priceStep, largestCapacity, bidsEach, bidsAYear}
+use Rattle.rules.specs.Names.{endsEarly, countOutside, yearBroken, potBroken, techBroken, appBroken, bidBroken, priceTwice, bidsTooMany, bytesAfter}
+use Rattle.rules.specs.Names.{lowestUneven, mostYears, mostPots, mostTechs, mostApps, mostBids, countWidth, yearWidth, potWidth, techWidth, appWidth}
+use Rattle.rules.specs.Names.{bidWidth, valuationOnly, delivery, mostDeliveries, shortYear, longYear, whole, highestBudget, highestPrice, priceStep}
+use Rattle.rules.specs.Names.{largestCapacity, bidsEach, bidsAYear}
 use Rattle.rules.specs.Lists.{given, both, when, never, every, howMany}
 use Rattle.rules.specs.Bytes.{le}
 use Rattle.rules.specs.File.{Round, roundOf, sectionsOf, yearAt, deliveries, budgetAt, techAt, appAt, bidAt, potsAt, techsAt, appsAt, bidsAt, endAt}

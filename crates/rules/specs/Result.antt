@@ -20,7 +20,8 @@ use Rattle.rules.specs.declared.Answer.the-variants.{Cleared, Refused}
 -- ---- the records
 
 -- "Applications: won 2 (1 or 0), bid 2 (65,534 automatic, 65,535 none), automatic bid's reason 2 (0 where it had sealed bids), price paid 4 (0 if lost)":
--- `Told`. What is told of an application whose winners in outcome 1 are these, and whose automatic bid's reason is told as `auto`, where there are b sealed bids
+-- `Told`. What is told of an application whose winners in outcome 1 are these, and whose automatic bid's reason is told as `auto`, where there are b sealed
+-- bids
 unfoldable pub told : (b : ℕ) → Pot → (auto : ℕ) → List ℕ → Told
 told b P auto [] = record { won = 0; bid = noBid; reason = auto; paid = 0 }
 told b P auto (w ∷ ws) = record { won = 1; bid = pick (ltb w b) w automaticBid; reason = auto; paid = paid P w }
@@ -33,10 +34,6 @@ toldIn b silent P a =
     (record { won = 1; bid = noBid; reason = auto; paid = P .price (b + a) })
     (told b P auto (winnersOf P a))
     (record { won = 0; bid = noBid; reason = auto; paid = 0 })
-
--- what stands in a place of which nothing is told
-abbrev pub untold : Told
-untold = record { won = 0; bid = 0; reason = 0; paid = 0 }
 
 unfoldable pub appBytes : Told → List ℕ
 appBytes a = ((bytes 2 (a .won) ++ bytes 2 (a .bid)) ++ bytes 2 (a .reason)) ++ bytes 4 (a .paid)

@@ -120,7 +120,8 @@ tiedAt b = single b (app 0 5 200 ∷ app 0 3 100 ∷ app 0 4 100 ∷ []) (bid 0 
 -- one application, whose value in year 0 is the total of the first test
 abbrev valued : (capacity price reference load tlm rqm days : ℕ) → List ℕ
 valued capacity price reference load tlm rqm days =
-    file (yearWith days 1 tlm ∷ []) (budgets (1000000000000 ∷ []) ∷ []) (tech 0 rqm (figuresWith price reference load ∷ []) ∷ []) (appWith 0 0 days 0 capacity 0 ∷ []) []
+    file (yearWith days 1 tlm ∷ []) (budgets (1000000000000 ∷ []) ∷ []) (tech 0 rqm (figuresWith price reference load ∷ []) ∷ [])
+    (appWith 0 0 days 0 capacity 0 ∷ []) []
 
 -- it wins at its administrative price
 abbrev worth : (price value : ℕ) → List ℕ
@@ -136,7 +137,8 @@ Marked =
     × Gives (roundA 105120 148919) listed
     -- A3, A4
     × Gives (roundA 350400 525600)
-    (result (potTold 0 (noPrice ∷ noPrice ∷ []) (350400 ∷ 525600 ∷ []) ∷ []) (line 1 65535 20000 ∷ line 1 65535 20000 ∷ line 1 65535 20000 ∷ []) (6 ∷ 6 ∷ 6 ∷ []))
+    (result (potTold 0 (noPrice ∷ noPrice ∷ []) (350400 ∷ 525600 ∷ []) ∷ [])
+    (line 1 65535 20000 ∷ line 1 65535 20000 ∷ line 1 65535 20000 ∷ []) (6 ∷ 6 ∷ 6 ∷ []))
     × Gives (roundA 350400 525599) allWin
     -- T1, T2
     × Gives (tiedAt 105120) (result (potTold 1 (4000 ∷ []) (105120 ∷ []) ∷ []) (line 1 0 4000 ∷ line 1 1 4000 ∷ line 0 65535 0 ∷ []) (1 ∷ 1 ∷ 3 ∷ []))
@@ -299,10 +301,13 @@ Answers =
     × ((lengthOf (roundA 100000 100000) ≡ 68) × (lengthOf (2 ∷ []) ≡ 0))
 
 pub worked : Marked × (Own × (Refusals × Answers))
-unfolding times counted joined nums given both when never one-more every howMany sum le bytes each onto exactParts hoursOf deliveries sections roundOf sectionsOf
-    orElse orFault scan countFault recordFault section yearFault potFault techFault appFault sevenOf eightOf nineOf bidFault elevenOf judged reading winners downs
+unfolding times counted joined nums given both when never one-more every howMany sum le bytes each onto exactParts hoursOf deliveries sections roundOf
+    sectionsOf
+    orElse orFault scan countFault recordFault section yearFault potFault techFault appFault sevenOf
+    eightOf nineOf bidFault elevenOf judged reading winners downs
     seen closed hanging wideEnd mark best value priceFrom tally within live least lowest taken follows remaining rank combination chosen choose tied alone lost
-    look run auction adminTotal adminFits outcome priceIn totalIn paid unlookedReason auctionReason reason winnersOf energyOf costOf assemble automatic bidOf mine
+    look run auction adminTotal adminFits outcome priceIn totalIn paid unlookedReason auctionReason
+    reason winnersOf energyOf costOf assemble automatic bidOf mine
     silent enters rowFor potOf told toldIn appTold appBytes potBytes bidBytes potsPart appsPart bidsPart resultBytes needed answerTo answerOf after clearOf
     refusal place refusedAs refusedAt codeOf lengthTo lengthOf decLe decLt ℕ-discrete
 worked = (

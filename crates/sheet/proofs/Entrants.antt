@@ -1,13 +1,13 @@
 -- The bids that enter the auction, as a list of numbers. Assumes nothing.
 use Prim.Native.Nat.{ℕ, zero, suc, _≤_, _<_}
 use mathlib.Core.Path.{_≡_, refl, sym, ap, _∙_}
-use mathlib.Core.List.{List, _∷_}
+use mathlib.Core.List.{List}
 use native.Mathlib.Omega.{arith}
 use lib.ListN.{length}
 use lib.Dec.{eqb}
 use borrow.Author.Tests.{eqb-true, eqb-false}
 use Rattle.rules.specs.Lists.{below}
-use Rattle.pot_laws.specs.Lists.{case, In, here, there, in-none, sift-in, sift-le, below-in, length-below}
+use Rattle.laws_pot.specs.Lists.{case, In, here, there, in-none, sift-in, sift-le, below-in, length-below}
 use Rattle.sheet.specs.declared.Size.{Size}
 use Rattle.sheet.specs.Sheet.{entrantAt, entrants, inAuction, Ready}
 

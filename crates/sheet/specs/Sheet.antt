@@ -5,7 +5,7 @@ use mathlib.Core.Bool.{Bool, true, not, _&&_}
 use mathlib.Core.Path.{_≡_}
 use mathlib.Core.List.{List, [], _∷_}
 use lib.Dec.{eqb, ltb}
-use lib.ListN.{length, getD}
+use lib.ListN.{getD}
 use Rattle.rules.specs.Names.{mostNumbers, mostApps, mostYears, mostDeliveries, highestPrice, highestBudget}
 use Rattle.rules.specs.Lists.{pick, sift, below}
 use Rattle.rules.specs.Value.{pound, mostEnergy, mostShare}

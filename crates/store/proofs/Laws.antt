@@ -67,7 +67,8 @@ put-turn {s} {s₀} v i p q h =
     }
 
 -- one turn of a copy: the next byte of p
-pub copy-turn : {s s₀ : List ℕ} (p : List ℕ) (i : ℕ) → i < length p → length p ≤ length s₀ → Filled (take i p) s₀ s → Filled (take (i + 1) p) s₀ (set s i (getD p i 0))
+pub copy-turn : {s s₀ : List ℕ} (p : List ℕ) (i : ℕ) → i < length p → length p ≤ length s₀
+    → Filled (take i p) s₀ s → Filled (take (i + 1) p) s₀ (set s i (getD p i 0))
 copy-turn {s} {s₀} p i h g f =
     let l : length (take i p) ≡ i = length-take-le i p (omega arith) in
     let l′ : length (take (suc i) p) ≡ suc i = length-take-le (suc i) p h in
@@ -87,7 +88,8 @@ filled-part {e} {f} {s} {xs} {ys} a k la p q =
     let t : take a xs ≡ e = rw x (take-at e (drop (length e) s) a la) in
     let d : drop a xs ≡ drop (length e) s = rw x (drop-at e (drop (length e) s) a la) in
     let m : drop (length f) (take k (drop a xs)) ++ drop k (drop a xs) ≡ drop (length e + length f) s =
-    sym (drop-append-le (length f) (take k (drop a xs)) (drop k (drop a xs)) (q .fits)) ∙ ap (λ (l : List ℕ). drop (length f) l) (take-append-drop k (drop a xs) ∙ d) ∙ drop-drop (length f) (length e) s in
+    sym (drop-append-le (length f) (take k (drop a xs)) (drop k (drop a xs)) (q .fits))
+    ∙ ap (λ (l : List ℕ). drop (length f) l) (take-append-drop k (drop a xs) ∙ d) ∙ drop-drop (length f) (length e) s in
     let l : length f ≤ length s - length e = le-trans (q .fits) (simp (length-take, d, length-drop) (omega arith)) in
     let g : length e ≤ length s = p .fits in
     record {
@@ -96,11 +98,13 @@ filled-part {e} {f} {s} {xs} {ys} a k la p q =
     }
 
 -- the part from the a-th element to the b-th
-pub filled-span : {e f s xs ys : List ℕ} (a b : ℕ) → length e ≡ a → Filled e s xs → Filled f (take (b - a) (drop a xs)) ys → Filled (e ++ f) s (putMid a (b - a) xs ys)
+pub filled-span : {e f s xs ys : List ℕ} (a b : ℕ) → length e ≡ a → Filled e s xs
+    → Filled f (take (b - a) (drop a xs)) ys → Filled (e ++ f) s (putMid a (b - a) xs ys)
 filled-span a b la p q = filled-part a (b - a) la p q
 
 -- the part from the a-th element to the end
-pub filled-rest : {e f s xs ys : List ℕ} (a : ℕ) → length e ≡ a → Filled e s xs → Filled f (take (length xs - a) (drop a xs)) ys → Filled (e ++ f) s (putMid a (length xs - a) xs ys)
+pub filled-rest : {e f s xs ys : List ℕ} (a : ℕ) → length e ≡ a → Filled e s xs → Filled f (take (length xs - a) (drop a xs)) ys
+    → Filled (e ++ f) s (putMid a (length xs - a) xs ys)
 filled-rest {xs = xs} a la p q = filled-part a (length xs - a) la p q
 
 -- ---- one record more

@@ -10,7 +10,7 @@ use lib.Dec.{eqb, ltb}
 use lib.ListN.{length, getD, set, replicate, length-set}
 use borrow.Author.Tests.{eqb-true, eqb-false, eq-eqb, ne-eqb, lt-ltb, le-ltb}
 use Rattle.rules.specs.Lists.{pick}
-use Rattle.pot_laws.specs.Lists.{case}
+use Rattle.laws_pot.specs.Lists.{case}
 use Rattle.arrays.proofs.Arrays.{put-is}
 use Rattle.tell.specs.ToldTo.{merged}
 

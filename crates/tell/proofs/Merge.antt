@@ -1,10 +1,10 @@
 -- One pot more is told. Assumes nothing.
-use Prim.Native.Nat.{ℕ, _+_, _-_, _≤_, _<_}
+use Prim.Native.Nat.{ℕ, _+_, _-_, _<_}
 use mathlib.Core.Path.{_≡_, refl, sym, ap, ap₂, _∙_}
 use mathlib.Core.Bool.{Bool, true, false, not, _&&_}
 use mathlib.Core.List.{List}
 use native.Mathlib.Omega.{arith}
-use lib.ListN.{length, getD, set, replicate, length-set}
+use lib.ListN.{getD, set, replicate, length-set}
 use lib.Dec.{eqb, ltb}
 use borrow.Author.Tests.{eq-eqb, lt-ltb, le-ltb, ltb-true}
 use Rattle.rules.specs.Names.{mostPots, mostDeliveries, mostYears, mostApps, mostBids, noReason}
@@ -12,21 +12,21 @@ use Rattle.rules.specs.Lists.{pick, memb, sift, below}
 use Rattle.rules.specs.File.{Round, Bid}
 use Rattle.rules.specs.Pot.{Pot, outcome, priceIn, totalIn, reason}
 use Rattle.rules.specs.Round.{mine, enters, silent, assemble, potOf}
-use Rattle.rules.specs.Result.{untold, toldIn, appTold, potAt}
+use Rattle.rules.specs.Result.{appTold, potAt}
 use Rattle.rules.specs.declared.Told.{Told}
-use Rattle.pot_laws.specs.Lists.{case, in-memb, memb-in}
-use Rattle.reading_laws.specs.Reading.{Sound, tech-pot, app-tech, bid-app}
-use Rattle.round_laws.specs.Bids.{appPot, bidPot, mine-own, mine-auto, bid-own}
+use Rattle.laws_pot.specs.Lists.{case}
+use Rattle.laws_reading.specs.Reading.{Sound, tech-pot, app-tech, bid-app}
+use Rattle.laws_round.specs.Bids.{appPot, bidPot, mine-own, mine-auto, bid-own}
 use Rattle.sheet.specs.declared.Size.{Size}
 use Rattle.sheet.specs.Sheet.{rowStanding, absent, inAuction, inTest, potIn}
-use Rattle.arrays.proofs.Arrays.{put-is, memb-sift, at-start}
+use Rattle.arrays.proofs.Arrays.{put-is, memb-sift}
 use Rattle.fill.specs.Fill.{sizeOf}
 use Rattle.auction.specs.declared.Cleared.{Cleared}
 use Rattle.auction.specs.Cleared.{Numbered, ClearedAs}
 use Rattle.result.specs.declared.PotTold.{PotTold}
 use Rattle.result.specs.declared.Tellings.{Tellings}
-use Rattle.result.specs.Tells.{noPot, Tells}
-use Rattle.tell.specs.ToldTo.{Sizes, ToldTo, stands, merged, toldWith}
+use Rattle.result.specs.Tells.{untold, noPot, Tells}
+use Rattle.tell.specs.ToldTo.{ToldTo, stands, toldWith}
 use Rattle.tell.proofs.Laws.{merged-length, told-more, column-more, same-at}
 
 -- ---- the sheet of pot p tells which applications and bids are its own

@@ -10,13 +10,13 @@ use Rattle.rules.specs.Lists.{pick}
 use Rattle.rules.specs.File.{Round}
 use Rattle.rules.specs.Pot.{outcome, priceIn, totalIn, reason}
 use Rattle.rules.specs.Round.{potOf}
-use Rattle.rules.specs.Result.{appTold, untold, potAt}
-use Rattle.round_laws.specs.Bids.{appPot, bidPot}
+use Rattle.rules.specs.Result.{appTold, potAt}
+use Rattle.laws_round.specs.Bids.{appPot, bidPot}
 use Rattle.sheet.specs.declared.Size.{Size}
 use Rattle.sheet.specs.Sheet.{rowStanding, absent, inAuction}
 use Rattle.auction.specs.declared.Cleared.{Cleared}
 use Rattle.result.specs.declared.Tellings.{Tellings}
-use Rattle.result.specs.Tells.{noPot}
+use Rattle.result.specs.Tells.{untold, noPot}
 
 pub record Sizes (t : Tellings) : Type 0 where
   pub pots : length (t .pots) ≡ mostPots

@@ -4,12 +4,11 @@ ghost use Prim.Native.Nat.{_+_, _-_, _<_};
 ghost use lib.ListN.{length};
 ghost use Rattle.rules.specs.Names.{mostNumbers, mostPots, noReason};
 ghost use Rattle.rules.specs.File.{Round};
-ghost use Rattle.rules.specs.Result.{untold};
 ghost use Rattle.sheet.specs.Sheet.{inAuction, sheetLength};
 ghost use Rattle.rows.specs.Rows.{roundIn, Held};
 ghost use Rattle.fill.specs.Fill.{Blank};
 ghost use Rattle.auction.specs.Cleared.{Numbered};
-ghost use Rattle.result.specs.Tells.{Tells};
+ghost use Rattle.result.specs.Tells.{untold, Tells};
 ghost use Rattle.tell.specs.ToldTo.{stands, merged, ToldTo, toldWith};
 use auction::Cleared;
 use names::MOST_APPS;
@@ -88,7 +87,8 @@ fn with_reasons(
 
 // What is told of the round, with the clearing of pot p added, whose sheet this is.
 fn with_cleared(t: Tellings, c: Cleared, sheet: &Sheet, of: Size, p: usize) -> Tellings
-    requires { ⌜ (p < mostPots) × Numbered of ⌝ }
+    requires known { ⌜ p < mostPots ⌝ }
+    requires numbered { ⌜ Numbered of ⌝ }
     ensures { λ r. ⌜ r ≡ toldWith (now (sheet .entry)) of p c t ⌝ }
 {
     let prices = c.prices;
@@ -136,14 +136,16 @@ fn nothing() -> Tellings
 
 // A sheet to be filled.
 fn blank_sheet() -> Sheet
-    ensures { λ r. ⌜ (length r ≡ sheetLength) × Blank r ⌝ }
+    ensures sized { λ r. ⌜ length r ≡ sheetLength ⌝ }
+    ensures blank { λ r. ⌜ Blank r ⌝ }
 {
     [0; sheet::LENGTH]
 }
 
 // Pot p is cleared on its sheet, and told.
 fn with_pot(t: Tellings, file: &[u8], sections: Sections, p: usize) -> Tellings
-    requires { ⌜ Held (now file) sections × (p < sections .pots) ⌝ }
+    requires held { ⌜ Held (now file) sections ⌝ }
+    requires known { ⌜ p < sections .pots ⌝ }
     ensures { λ r. ⌜ (ToldTo (roundIn (now (file .entry)) sections) p t
         → ToldTo (roundIn (now (file .entry)) sections) (p + 1) r) ⌝ }
 {

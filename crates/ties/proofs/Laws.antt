@@ -4,16 +4,15 @@ use mathlib.Core.Path.{_≡_, refl, sym, ap, _∙_}
 use mathlib.Core.Bool.{Bool, true, false, _&&_}
 use mathlib.Core.List.{List}
 use native.Mathlib.Numerals.{add-one}
-use native.Mathlib.Nat.{le-antisymm, add-suc}
+use native.Mathlib.Nat.{le-antisymm}
 use native.Mathlib.Omega.{arith}
-use lib.Bits.{bitOr}
 use lib.ListN.{length, getD, set}
 use lib.Dec.{eqb, leb, ltb}
-use borrow.Author.Tests.{eqb-true, eqb-false, ne-eqb, ltb-true, ltb-false, lt-ltb, le-ltb, lt-leb, le-leb}
+use borrow.Author.Tests.{eqb-true, eqb-false, ltb-true, ltb-false, lt-ltb, le-ltb, lt-leb, le-leb}
 use Rattle.rules.specs.Lists.{pick}
 use Rattle.rules.specs.Pot.{has, best}
-use Rattle.pot_laws.specs.Lists.{case}
-use Rattle.pot_laws.specs.Bits.{add-lt}
+use Rattle.laws_pot.specs.Lists.{case}
+use Rattle.laws_pot.specs.Bits.{add-lt}
 use Rattle.rules.specs.Names.{mostDeliveries}
 use Rattle.arrays.specs.Sets.{fill, placed, members}
 use Rattle.arrays.proofs.Arrays.{fill-at, fill-rest, placed-fill, zeros}

@@ -10,9 +10,9 @@ use borrow.Author.Tests.{eqb-true, eqb-false, eq-eqb, ne-eqb, lt-ltb}
 use Rattle.rules.specs.Names.{noPrice}
 use Rattle.rules.specs.Lists.{pick, memb, sift, below, sum}
 use Rattle.rules.specs.Pot.{Pot, has, best, value, priceFrom, clearing, tally, total, within, fits, remaining, rank, combination, chosen, choose}
-use Rattle.pot_laws.specs.Lists.{case, In, memb-in, in-memb, in-one, in-map, sift-in, sift-same, sift-both, memb-join, below-in}
-use Rattle.pot_laws.specs.Bits.{has-none, add-adds, add-other}
-use Rattle.pot_laws.specs.Tie.{tally-same, best-same, combination-in}
+use Rattle.laws_pot.specs.Lists.{case, In, memb-in, in-memb, in-one, in-map, sift-in, sift-same, sift-both, memb-join, below-in}
+use Rattle.laws_pot.specs.Bits.{has-none, add-adds, add-other}
+use Rattle.laws_pot.specs.Tie.{tally-same, best-same, combination-in}
 use Rattle.arrays.specs.Sets.{none, built, members}
 use Rattle.arrays.proofs.Arrays.{put-is, at-start, fill-at, members-built}
 use Rattle.sheet.specs.declared.Size.{Size}

@@ -9,7 +9,7 @@ use lib.Dec.{eqb, ltb}
 use borrow.Author.Tests.{eqb-true, eqb-false, eq-eqb, ne-eqb, ltb-true}
 use Rattle.rules.specs.Value.{dearest}
 use Rattle.rules.specs.Lists.{sift, below}
-use Rattle.pot_laws.specs.Lists.{case, In, here, there, sift-in, sift-le, below-in}
+use Rattle.laws_pot.specs.Lists.{case, In, here, there, sift-in, sift-le, below-in}
 use Rattle.arrays.specs.Sets.{members}
 use Rattle.arrays.proofs.Arrays.{fill-at, fill-le, zeros, members-less, put-is}
 use Rattle.sheet.specs.declared.Size.{Size}

@@ -3,19 +3,19 @@
 use Prim.Native.Nat.{ℕ, zero, suc, _+_, _-_, _*_, _/_, _%_, _^_, _≤_, _<_, max}
 use mathlib.Core.Path.{_≡_, refl, sym, ap, ap₂, _∙_}
 use mathlib.Core.Bool.{Bool, true, false, _&&_, _||_}
-use mathlib.Core.List.{List, [], _∷_}
+use mathlib.Core.List.{List}
 use native.Mathlib.Nat.{pow-suc, mul-le-mul-right}
 use native.Mathlib.Omega.{arith}
 use lib.Bits.{bitOr, or-step, or-comm, or-lt}
 use lib.Pow.{pow-pos, pow-add, pow-mono}
-use lib.ListN.{length, getD, set, replicate}
+use lib.ListN.{length, getD}
 use lib.Dec.{eqb, leb}
 use borrow.Author.Tests.{eqb-true, eqb-false, ne-eqb}
 use Rattle.rules.specs.Names.{widestTie}
 use Rattle.rules.specs.Value.{dearest}
 use Rattle.rules.specs.Pot.{has, best}
-use Rattle.pot_laws.specs.Lists.{case, clash}
-use Rattle.pot_laws.specs.Bits.{has-suc, has-none, add-lt}
+use Rattle.laws_pot.specs.Lists.{case, clash}
+use Rattle.laws_pot.specs.Bits.{has-suc, has-none, add-lt}
 use Rattle.arrays.specs.Sets.{fill}
 use Rattle.arrays.proofs.Arrays.{zeros, fill-at, fill-le, fill-stays}
 use Rattle.totals.proofs.Laws.{fits-same}

@@ -9,7 +9,7 @@ use lib.Dec.{eqb}
 use borrow.Author.Tests.{eqb-true, eqb-false, eq-eqb, ne-eqb}
 use Rattle.rules.specs.Lists.{pick, memb, sift, sum}
 use Rattle.rules.specs.Pot.{Pot, priceFrom, clearing, tally}
-use Rattle.pot_laws.specs.Lists.{case, In, here, there, in-memb, in-none, in-tail, sift-in, sift-same, sift-both}
+use Rattle.laws_pot.specs.Lists.{case, In, here, there, in-memb, in-none, in-tail, sift-in, sift-same, sift-both}
 
 pub sum-same : (f g : ℕ → ℕ) (l : List ℕ) → ((k : ℕ) → In k l → f k ≡ g k) → sum f l ≡ sum g l
 unfolding sum

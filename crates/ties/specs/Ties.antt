@@ -77,7 +77,11 @@ aloneFits sheet of base price k = fitsTo (aloneTotal sheet base price k) sheet (
 unfoldable pub keepsOf : (sheet : List ℕ) (of : Size) (base : List ℕ) (price : ℕ) → List Bool → ℕ → Bool
 keepsOf sheet of base price l k = getD l k false && aloneFits sheet of base price k
 
--- what a trial of bid k alone reads
+-- what the totals of a tie are read off; and those of a trial of bid k alone
+pub record Based (sheet : List ℕ) (of : Size) (base : List ℕ) : Type 0 where
+  pub ready : Ready sheet of
+  pub winners : Bounded base mostBase
+
 pub record Trying (sheet : List ℕ) (of : Size) (base : List ℕ) (k : ℕ) : Type 0 where
   pub ready : Ready sheet of
   pub bid : k < of .bids
@@ -257,6 +261,18 @@ pub record Tabled (base costs : List ℕ) : Type 0 where
 
 abbrev pub Dated : (dates : List ℕ) → Type 0
 Dated dates = Bounded dates (yearSets - 1)
+
+-- what is read of the combination `mask`, which touches the years t; and of all those of so many bids
+pub record Joining (base costs : List ℕ) (mask t : ℕ) : Type 0 where
+  pub tables : Tabled base costs
+  pub number : mask < combinations
+  pub years : t < yearSets
+
+pub record Searching (sheet : List ℕ) (of : Size) (base costs dates : List ℕ) (count : ℕ) : Type 0 where
+  pub ready : Ready sheet of
+  pub tables : Tabled base costs
+  pub touched : Dated dates
+  pub few : count ≤ widestTie
 
 -- ---- the combination that is chosen among the bids of a set
 unfoldable pub choiceAt : (sheet : List ℕ) (of : Size) (base list : List ℕ) (price count : ℕ) → List Bool

@@ -2,9 +2,8 @@
 ghost use mathlib.Core.Path.{_≡_};
 ghost use mathlib.Core.Bool.{_&&_};
 ghost use Rattle.arrays.specs.Sets.{built};
-ghost use Rattle.sheet.specs.Sheet.{Ready};
 ghost use Rattle.totals.specs.Totals.{Asked};
-ghost use Rattle.ties.specs.Ties.{Bounded, mostBase, Trying, aloneTotal, aloneFits, keepsOf};
+ghost use Rattle.ties.specs.Ties.{Bounded, mostBase, Based, Trying, aloneTotal, aloneFits, keepsOf};
 use super::places::power;
 use super::winners::Base;
 use names::NUMBERS;
@@ -58,7 +57,7 @@ pub fn rest(
     set: [bool; NUMBERS],
     price: u64,
 ) -> [bool; NUMBERS]
-    requires { ⌜ Ready (now sheet) of × Bounded (now base) mostBase ⌝ }
+    requires { ⌜ Based (now sheet) of (now base) ⌝ }
     ensures { λ r. ⌜ r ≡ built (keepsOf (now (sheet .entry)) of (now (base .entry)) price set) (of .bids) ⌝ }
 {
     let mut out = [false; NUMBERS];

@@ -3,8 +3,7 @@
 // which a table has for each part of its number. specs/Ties.antt says what each function computes.
 ghost use mathlib.Core.Path.{_≡_};
 ghost use Rattle.rules.specs.Names.{mostNumbers};
-ghost use Rattle.sheet.specs.Sheet.{Ready};
-ghost use Rattle.ties.specs.Ties.{mostBase, Bounded, Few, Numbers, Placed, combinationOf, choiceOf};
+ghost use Rattle.ties.specs.Ties.{Based, Few, Numbers, Placed, combinationOf, choiceOf};
 
 pub mod alone;
 mod places;
@@ -46,7 +45,7 @@ pub fn choose(
     count: usize,
     price: u64,
 ) -> [bool; NUMBERS]
-    requires { ⌜ Ready (now sheet) of × Bounded (now base) mostBase × Few of set count ⌝ }
+    requires { ⌜ Based (now sheet) of (now base) × Few of set count ⌝ }
     ensures { λ r. ⌜ r ≡ choiceOf (now (sheet .entry)) of (now (base .entry)) set count price ⌝ }
 {
     let tied = tied::gathered(sheet, of, set, count);

@@ -1,10 +1,9 @@
 // The best combination, by looking at each: what it comes to is read off the tables of the parts of its number.
 ghost use mathlib.Core.Path.{_≡_};
 ghost use Prim.Native.Nat.{_≤_, _<_};
-ghost use Rattle.rules.specs.Names.{widestTie};
-ghost use Rattle.sheet.specs.Sheet.{columns, Ready};
+ghost use Rattle.sheet.specs.Sheet.{columns};
 ghost use Rattle.totals.specs.Totals.{fitsTo};
-ghost use Rattle.ties.specs.Ties.{yearSets, combinations, mostBase, Bounded, Owned, Tabled, Dated, jointOf, unionOf, betterOf, bestBy, bestMask};
+ghost use Rattle.ties.specs.Ties.{yearSets, combinations, Based, Owned, Dated, Joining, Searching, jointOf, unionOf, betterOf, bestBy, bestMask};
 use super::places::PART;
 use super::places::power;
 use super::tables::Costs;
@@ -34,7 +33,7 @@ fn union(dates: &Dates, mask: u32) -> u32
 
 // The total in year y where a combination, which touches the years t, is added to the winners.
 fn joint(base: &Base, costs: &Costs, mask: u32, t: u32, y: usize) -> u64
-    requires { ⌜ Tabled (now base) (now costs) × (mask < combinations) × (t < yearSets) × (y < columns) ⌝ }
+    requires { ⌜ Joining (now base) (now costs) mask t × (y < columns) ⌝ }
     ensures { λ r. ⌜ r ≡ jointOf (now (base .entry)) (now (costs .entry)) mask t y ⌝ }
 {
     let n = mask as usize;
@@ -45,7 +44,7 @@ fn joint(base: &Base, costs: &Costs, mask: u32, t: u32, y: usize) -> u64
 
 // Does the combination fit?
 fn joint_fits(sheet: &Sheet, of: Size, base: &Base, costs: &Costs, mask: u32, t: u32) -> bool
-    requires { ⌜ Tabled (now base) (now costs) × (mask < combinations) × (t < yearSets) × (of .years ≤ columns) ⌝ }
+    requires { ⌜ Joining (now base) (now costs) mask t × (of .years ≤ columns) ⌝ }
     ensures { λ r. ⌜ r ≡ fitsTo (jointOf (now (base .entry)) (now (costs .entry)) mask t) (now (sheet .entry)) (of .years) ⌝ }
 {
     let years = of.years;
@@ -71,7 +70,7 @@ fn better(b: Best, mask: u32, total: u64) -> Best
 
 // The best combination of so many bids: of equals the largest number.
 fn search(sheet: &Sheet, of: Size, base: &Base, costs: &Costs, dates: &Dates, count: usize) -> u32
-    requires { ⌜ Ready (now sheet) of × Tabled (now base) (now costs) × Dated (now dates) × (count ≤ widestTie) ⌝ }
+    requires { ⌜ Searching (now sheet) of (now base) (now costs) (now dates) count ⌝ }
     ensures { λ r. ⌜ r ≡ bestBy (now (sheet .entry)) of (now (base .entry)) (now (costs .entry)) (now (dates .entry)) count ⌝ }
 {
     let end = power(count as u32);
@@ -93,7 +92,7 @@ fn search(sheet: &Sheet, of: Size, base: &Base, costs: &Costs, dates: &Dates, co
 
 // The same, of what the bids themselves cost.
 pub fn best_mask(sheet: &Sheet, of: Size, base: &Base, own: &Owns, tied: Tied) -> u32
-    requires { ⌜ Ready (now sheet) of × Bounded (now base) mostBase × Owned (now own) tied ⌝ }
+    requires { ⌜ Based (now sheet) of (now base) × Owned (now own) tied ⌝ }
     ensures { λ r. ⌜ r ≡ bestMask (now (sheet .entry)) of (now (base .entry)) (now (own .entry)) (tied .ranks) (tied .starts) (tied .count) ⌝ }
 {
     let costs = super::tables::costs(own, tied);

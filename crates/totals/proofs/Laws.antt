@@ -12,8 +12,7 @@ use borrow.Author.Tests.{eq-eqb, ne-eqb, le-ltb, lt-ltb, lt-leb, le-leb, ltb-tru
 use Rattle.rules.specs.Names.{becauseWon}
 use Rattle.rules.specs.Lists.{pick, keep, sift, below, sum}
 use Rattle.rules.specs.Value.{ceilDiv, pound, dearest}
-use Rattle.pot_laws.specs.Lists.{case, In, here, there, below-in}
-use Rattle.arrays.specs.Sets.{fill}
+use Rattle.laws_pot.specs.Lists.{case, In, here, there, below-in}
 use Rattle.arrays.proofs.Laws.{done, fill-next}
 use Rattle.arrays.proofs.Arrays.{fill-at, fill-length, zeros, fill-rest}
 use Rattle.sheet.specs.declared.Size.{Size}

@@ -10,7 +10,7 @@ use borrow.Author.Tests.{lt-ltb}
 use Rattle.rules.specs.Names.{becauseWon}
 use Rattle.rules.specs.Lists.{pick, memb, sift, below, sum}
 use Rattle.rules.specs.Pot.{Pot, value, tally, within, adminTotal, adminFits}
-use Rattle.pot_laws.specs.Lists.{case, clash, In, memb-in, in-sift, sift-in, in-below, below-in}
+use Rattle.laws_pot.specs.Lists.{case, clash, In, memb-in, in-sift, sift-in, in-below, below-in}
 use Rattle.arrays.proofs.Arrays.{fill-at}
 use Rattle.sheet.specs.declared.Size.{Size}
 use Rattle.sheet.specs.Sheet.{potIn, Ready, inAuction, inTest, rowYear, rowPrice}

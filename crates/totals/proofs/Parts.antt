@@ -12,7 +12,7 @@ use borrow.Author.Tests.{eq-eqb, ne-eqb}
 use Rattle.rules.specs.Value.{dearest}
 use Rattle.rules.specs.Names.{becauseWon}
 use Rattle.rules.specs.Lists.{pick, sift, below}
-use Rattle.pot_laws.specs.Lists.{case, In, here, there, sift-in, sift-le, below-in, length-below}
+use Rattle.laws_pot.specs.Lists.{case, In, here, there, sift-in, sift-le, below-in, length-below}
 use Rattle.sheet.specs.declared.Size.{Size}
 use Rattle.sheet.specs.Sheet.{Ready, entrantAt, entrants, inAuction, rowYear}
 use Rattle.sheet.proofs.Entrants.{entrants-length, passed-small}

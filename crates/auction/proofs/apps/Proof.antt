@@ -1,9 +1,8 @@
 -- `auction::apps` meets its contract: the applications passed are told.
 use borrow.Author.Needs.{needs}
-use Prim.Native.Nat.{_+_, _-_, _≤_}
+use Prim.Native.Nat.{_-_, _≤_}
 use mathlib.Core.Path.{_≡_}
 use native.Mathlib.Omega.{arith}
-use lib.ListN.{getD}
 use Rattle.arrays.specs.Sets.{fill}
 use Rattle.arrays.proofs.Laws.{done, fill-next}
 use Rattle.auction.specs.Numbers.{appsOf, noApps}

@@ -1,5 +1,4 @@
 use borrow.Author.Needs.{needs}
-use mathlib.Core.Path.{refl}
 use Rattle.auction.specs.Numbers.{soldOf}
 use Rattle.auction.proofs.sold.Statement.{statement}
 use Rattle.auction.proofs.sold.Tie as tie

@@ -3,7 +3,7 @@ use borrow.Author.Needs.{needs}
 use native.Mathlib.Omega.{arith}
 use mathlib.Core.Path.{sym, _∙_}
 use Rattle.rules.specs.Refusals.{recordFault}
-use Rattle.reading_laws.specs.Walk.{given-yes, given-no}
+use Rattle.laws_reading.specs.Walk.{given-yes, given-no}
 use Rattle.bids.proofs.Laws.{in-order}
 use Rattle.bids.proofs.bid_fault.Statement.{statement}
 use Rattle.bids.proofs.bid_fault.Tie as tie

@@ -1,6 +1,6 @@
 -- `bids::first` meets its contract: the first fault is found, or passed over. Assumes nothing.
 use mathlib.Core.Path.{refl}
-use Rattle.reading_laws.specs.Walk.{found, passed}
+use Rattle.laws_reading.specs.Walk.{found, passed}
 use Rattle.bids.proofs.first.Statement.{statement}
 use Rattle.bids.proofs.first.Tie as tie
 

@@ -8,8 +8,8 @@ use lib.ListN.{length}
 use Rattle.rules.specs.Names.{bidWidth}
 use Rattle.rules.specs.Refusals.{recordFault, bidFault, scan}
 use Rattle.rules.specs.declared.Reading.the-variants.{Accepted}
-use Rattle.reading_laws.specs.Walk.{at-fault, goes-on, at-end}
-use Rattle.reading_laws.specs.Fault.{no-fault}
+use Rattle.laws_reading.specs.Walk.{at-fault, goes-on, at-end}
+use Rattle.laws_reading.specs.Fault.{no-fault}
 use Rattle.bids.specs.Bids.{tablesOf, bidsOf, Latest, Previous}
 use Rattle.bids.proofs.judged.Statement.{statement}
 use Rattle.bids.proofs.judged.Tie as tie

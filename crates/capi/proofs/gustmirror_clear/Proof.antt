@@ -5,7 +5,11 @@ use Rattle.capi.proofs.gustmirror_clear.Statement.{statement}
 use Rattle.capi.proofs.gustmirror_clear.Tie as tie
 
 returns : tie.Need-returns
-returns c = record { code = c .code .ensures ∙ ap codeOf (c .before .before .before .clear .ensures .0 .answer); bytes = c .before .before .before .clear .ensures .0 .bytes }
+returns c = record {
+  code = c .code .ensures ∙ ap codeOf (c .before .before .before .clear .ensures .0 .answer);
+  bytes =
+      c .before .before .before .clear .ensures .0 .bytes;
+}
 
 pub gustmirror-clear-spec : {M : Type 1} → statement M
 gustmirror-clear-spec =

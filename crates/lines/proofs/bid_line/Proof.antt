@@ -7,7 +7,9 @@ use Rattle.lines.proofs.bid_line.Tie as tie
 
 returns : tie.Need-returns
 unfolding bidLine
-returns c = printed-then (printed-then (c .before .before .before .before .before .before .before .before .before .before .before .before .field .ensures) (c .before .before .before .before .before .before .before .field2 .ensures)) (c .before .before .word .ensures)
+returns c = printed-then
+    (printed-then (c .before .before .before .before .before .before .before .before .before .before .before .before .field .ensures)
+    (c .before .before .before .before .before .before .before .field2 .ensures)) (c .before .before .word .ensures)
 
 pub bid-line-spec : {M : Type 1} → statement M
 bid-line-spec =

@@ -13,11 +13,15 @@ returns c = rw (eq-eqb _ _ (c .before .before .before .before .before .if1 .take
 
 returns-2 : tie.Need-returns-2
 unfolding outcomeWord
-returns-2 c = rw (ne-eqb _ _ (c .before .before .before .before .before .before .if1 .left), eq-eqb _ _ (c .before .before .before .before .before .if2 .taken)) (printed-within 15 (omega arith) (c .before .before .word2 .ensures))
+returns-2 c =
+    rw (ne-eqb _ _ (c .before .before .before .before .before .before .if1 .left), eq-eqb _ _ (c .before .before .before .before .before .if2 .taken))
+    (printed-within 15 (omega arith) (c .before .before .word2 .ensures))
 
 returns-3 : tie.Need-returns-3
 unfolding outcomeWord
-returns-3 c = rw (ne-eqb _ _ (c .before .before .before .before .before .before .if1 .left), ne-eqb _ _ (c .before .before .before .before .before .if2 .left)) (printed-within 15 (omega arith) (c .before .before .word3 .ensures))
+returns-3 c =
+    rw (ne-eqb _ _ (c .before .before .before .before .before .before .if1 .left), ne-eqb _ _ (c .before .before .before .before .before .if2 .left))
+    (printed-within 15 (omega arith) (c .before .before .word3 .ensures))
 
 pub outcome-spec : {M : Type 1} → statement M
 outcome-spec =

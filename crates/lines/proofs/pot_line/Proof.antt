@@ -7,7 +7,9 @@ use Rattle.lines.proofs.pot_line.Tie as tie
 
 returns : tie.Need-returns
 unfolding potLine
-returns c = printed-then (printed-then (c .before .before .before .before .before .before .before .before .before .before .before .field .ensures) (c .before .before .before .before .before .before .before .outcome .ensures)) (c .before .before .word .ensures)
+returns c = printed-then
+    (printed-then (c .before .before .before .before .before .before .before .before .before .before .before .field .ensures)
+    (c .before .before .before .before .before .before .before .outcome .ensures)) (c .before .before .word .ensures)
 
 pub pot-line-spec : {M : Type 1} → statement M
 pot-line-spec =

@@ -7,7 +7,9 @@ use Rattle.lines.proofs.refusal_line.Tie as tie
 
 returns : tie.Need-returns
 unfolding refusalLine
-returns c = printed-then (printed-then (c .before .before .before .before .before .before .before .before .before .before .before .before .field .ensures) (c .before .before .before .before .before .before .before .field2 .ensures)) (c .before .before .word .ensures)
+returns c = printed-then
+    (printed-then (c .before .before .before .before .before .before .before .before .before .before .before .before .field .ensures)
+    (c .before .before .before .before .before .before .before .field2 .ensures)) (c .before .before .word .ensures)
 
 pub refusal-line-spec : {M : Type 1} → statement M
 refusal-line-spec =

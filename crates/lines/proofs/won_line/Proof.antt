@@ -7,7 +7,12 @@ use Rattle.lines.proofs.won_line.Tie as tie
 
 returns : tie.Need-returns
 unfolding wonLine
-returns c = printed-then (printed-then (printed-then (c .before .before .before .before .before .before .before .before .before .before .before .before .before .before .before .before .field .ensures) (c .before .before .before .before .before .before .before .before .before .before .before .field2 .ensures)) (c .before .before .before .before .before .before .before .bid .ensures)) (c .before .before .word .ensures)
+returns c = printed-then
+    (printed-then
+    (printed-then
+    (c .before .before .before .before .before .before .before .before .before .before .before .before .before .before .before .before .field .ensures)
+    (c .before .before .before .before .before .before .before .before .before .before .before .field2 .ensures))
+    (c .before .before .before .before .before .before .before .bid .ensures)) (c .before .before .word .ensures)
 
 pub won-line-spec : {M : Type 1} → statement M
 won-line-spec =

@@ -7,7 +7,12 @@ use Rattle.lines.proofs.year_line.Tie as tie
 
 returns : tie.Need-returns
 unfolding yearLine
-returns c = printed-then (printed-then (printed-then (c .before .before .before .before .before .before .before .before .before .before .before .before .before .before .before .before .field .ensures) (c .before .before .before .before .before .before .before .before .before .before .before .before .price .ensures)) (c .before .before .before .before .before .before .before .field2 .ensures)) (c .before .before .word .ensures)
+returns c = printed-then
+    (printed-then
+    (printed-then
+    (c .before .before .before .before .before .before .before .before .before .before .before .before .before .before .before .before .field .ensures)
+    (c .before .before .before .before .before .before .before .before .before .before .before .before .price .ensures))
+    (c .before .before .before .before .before .before .before .field2 .ensures)) (c .before .before .word .ensures)
 
 pub year-line-spec : {M : Type 1} → statement M
 year-line-spec =

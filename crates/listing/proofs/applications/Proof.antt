@@ -5,7 +5,7 @@ use Prim.Native.Nat.{ℕ, _≤_, _-_, _*_}
 use mathlib.Core.Path.{_≡_, refl}
 use lib.ListN.{length, getD, length-take, length-drop}
 use Rattle.rules.specs.Bytes.{each}
-use Rattle.rules.specs.Result.{untold}
+use Rattle.result.specs.Tells.{untold}
 use Rattle.rules.specs.Listing.{appLine}
 use Rattle.store.proofs.Laws.{filled-length}
 use Rattle.lines.specs.Printed.{Printed}

@@ -24,11 +24,9 @@ unfolding each
 loop-holds c = (omega arith, refl, printed-none _)
 
 year-line-requires : tie.Need-year-line-requires Inv-loop μ-loop
-year-line-requires c κs = (
-  (c .before .before .before .before .pre .0, omega (arith, c .before .before .before .before .pre .0 .years)),
-  simp (length-take, length-drop)
-      (omega arith),
-)
+year-line-requires c κs =
+    let a = c .before .before .before .before in
+    (a .pre .0, (omega (arith, a .pre .0 .years), simp (length-take, length-drop) (omega arith)))
 
 loop-again : tie.Need-loop-again Inv-loop μ-loop
 loop-again c =

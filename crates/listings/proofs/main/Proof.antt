@@ -2,6 +2,7 @@
 use mathlib.Core.Path.{_≡_, subst}
 use native.Mathlib.Omega.{arith}
 use lib.ListN.{length, length-take}
+use borrow.Author.Needs.{needs}
 use Rattle.cases.specs.Cases.{room, Within}
 use Rattle.listings.proofs.main.Statement.{statement}
 use Rattle.listings.proofs.main.Tie as tie
@@ -17,7 +18,7 @@ returns c = tt
 
 array-share-prefix-file : tie.Need-array-share-prefix-file Inv-loop μ-loop
 unfolding Within
-array-share-prefix-file c = omega (arith, subst Within (c .got .given .1) (c .next .ensures))
+array-share-prefix-file c = omega (arith, subst Within (c .before .got .given .1) (c .before .before .before .before .next .ensures))
 
 slice-aggregate-print : tie.Need-slice-aggregate-print Inv-loop μ-loop
 slice-aggregate-print c = simp length-take (omega (arith, array-share-prefix-file (c .before)))
@@ -27,4 +28,6 @@ returns-2 c = tt
 
 pub main-spec : {M : Type 1} → statement M
 main-spec =
-    tie.close (tie.spec Inv-loop μ-loop)
+    tie.close (tie.spec Inv-loop μ-loop (λ c κs. search needs) (λ c. search needs) (λ c. search needs) (λ c κs. search needs) (λ c. search needs)
+    (λ c. search needs) returns array-share-prefix-file slice-aggregate-print (λ c κs. search needs) (λ c. search needs)
+    (λ c. search needs) (λ c. search needs) returns-2)

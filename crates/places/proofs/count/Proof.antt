@@ -1,7 +1,7 @@
 -- `places::count` meets its contract: the count, or that the file ends before. Assumes nothing.
 use native.Mathlib.Omega.{arith}
 use mathlib.Core.Path.{sym, _∙_}
-use Rattle.reading_laws.specs.Walk.{given-yes, given-no}
+use Rattle.laws_reading.specs.Walk.{given-yes, given-no}
 use Rattle.places.specs.Places.{held}
 use borrow.Author.Needs.{needs}
 use Rattle.places.proofs.count.Statement.{statement}

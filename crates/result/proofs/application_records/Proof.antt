@@ -6,7 +6,8 @@ use mathlib.Core.Path.{_≡_, refl}
 use lib.ListN.{length, getD, length-take, length-drop}
 use denote.Ref.{now}
 use Rattle.rules.specs.Bytes.{each}
-use Rattle.rules.specs.Result.{appBytes, untold}
+use Rattle.rules.specs.Result.{appBytes}
+use Rattle.result.specs.Tells.{untold}
 use Rattle.store.specs.Filled.{Filled}
 use Rattle.store.proofs.Laws.{filled-none, filled-length, each-turn}
 use Rattle.result.specs.ToldBytes.{appSize, appRecord}

@@ -6,7 +6,7 @@ use Rattle.result.proofs.needed.Statement.{statement}
 use Rattle.result.proofs.needed.Tie as tie
 
 returns : tie.Need-returns
-returns c = ((omega arith, omega arith), λ R C. omega (arith, needed-is C))
+returns c = (omega arith, (omega arith, λ R C. omega (arith, needed-is C)))
 
 pub needed-spec : {M : Type 1} → statement M
 needed-spec =

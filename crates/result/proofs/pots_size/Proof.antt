@@ -2,7 +2,6 @@
 use borrow.Author.Needs.{needs}
 use native.Mathlib.Omega.{arith}
 use mathlib.Core.Path.{refl}
-use Prim.Native.Nat.{_*_}
 use Rattle.result.proofs.Laws.{pots-few}
 use Rattle.result.proofs.pots_size.Statement.{statement}
 use Rattle.result.proofs.pots_size.Tie as tie

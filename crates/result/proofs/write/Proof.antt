@@ -13,8 +13,8 @@ use Rattle.result.proofs.write.Tie as tie
 returns : tie.Need-returns
 returns c =
     let a = c .before .before .before .before .before .before .before .before .before .before .before .before .before .before .before .before in
-    let e =
-    ap (λ (w : ℕ). countWidth + w) (c .before .before .before .before .before .before .before .before .before .before .before .before .before .before .pots-size .ensures .0) in
+    let b = c .before .before .before .before .before .before .before .before .before .before .before .before .before .before in
+    let e = ap (λ (w : ℕ). countWidth + w) (b .pots-size .ensures .0) in
     let f = round-filled (a .args .t) (a .args .sections) _ _ _ e refl
     (c .before .before .before .before .before .before .before .before .before .before .pots .ensures)
     (c .before .before .before .before .before .before .applications .ensures) (c .before .before .bids .ensures) in

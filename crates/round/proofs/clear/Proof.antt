@@ -13,4 +13,5 @@ returns-2 c = turned-away _ _ (sym (c .before .before .before .read .ensures) �
 
 pub clear-spec : {M : Type 1} → statement M
 clear-spec =
-    tie.close (tie.spec (λ c κs. search needs) (λ c. search needs) cleared-requires (λ c. search needs) (λ c. search needs) (λ c. search needs) returns-2)
+    tie.close (tie.spec (λ c κs. search needs) (λ c. search needs) cleared-requires (λ c. search needs) (λ c. search needs) (λ c. search needs)
+    returns-2)

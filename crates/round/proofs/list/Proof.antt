@@ -9,12 +9,16 @@ returns : tie.Need-returns
 returns c = text-short _ _ (c .if1 .taken)
 
 lines-requires : tie.Need-lines-requires
-lines-requires c κs = (sym (c .before .before .before .before .read .ensures) ∙ c .before .before .got .given .1, c .before .before .before .before .before .if1 .left)
+lines-requires c κs =
+    (sym (c .before .before .before .before .read .ensures) ∙ c .before .before .got .given .1, c .before .before .before .before .before .if1 .left)
 
 returns-3 : tie.Need-returns-3
-returns-3 c = refusal-listed _ _ (sym (c .before .before .before .before .before .before .before .read .ensures) ∙ c .before .before .before .before .before .got2 .given .1) (c .before .before .before .before .before .before .before .before .if1 .left) (c .before .before .refused .ensures)
+returns-3 c =
+    refusal-listed _ _ (sym (c .before .before .before .before .before .before .before .read .ensures)
+    ∙ c .before .before .before .before .before .got2 .given .1) (c .before .before .before .before .before .before .before .before .if1 .left)
+    (c .before .before .refused .ensures)
 
 pub list-spec : {M : Type 1} → statement M
 list-spec =
-    tie.close (tie.spec returns (λ c κs. search needs) (λ c. search needs) lines-requires (λ c. search needs) (λ c κs. search needs) (λ c. search needs)
-    (λ c. search needs) (λ c. search needs) returns-3)
+    tie.close (tie.spec returns (λ c κs. search needs) (λ c. search needs) lines-requires (λ c. search needs) (λ c κs. search needs)
+    (λ c. search needs) (λ c. search needs) (λ c. search needs) returns-3)

@@ -6,7 +6,7 @@ use mathlib.Core.Path.{sym, ap, _∙_}
 use mathlib.Core.List.{List}
 use lib.ListN.{length}
 use Rattle.rules.specs.File.{bidAt}
-use Rattle.round_laws.specs.Bids.{bid-own, bid-auto}
+use Rattle.laws_round.specs.Bids.{bid-own, bid-auto}
 use Rattle.rows.proofs.bid_of.Statement.{statement}
 use Rattle.rows.proofs.bid_of.Tie as tie
 

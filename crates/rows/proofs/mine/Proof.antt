@@ -1,7 +1,7 @@
 -- `rows::mine` meets its contract: the bid is one of the round's, and its technology stands in the pot.
 use borrow.Author.Needs.{needs}
 use mathlib.Core.Path.{sym}
-use Rattle.round_laws.specs.Bids.{mine-out}
+use Rattle.laws_round.specs.Bids.{mine-out}
 use Rattle.rows.proofs.Laws.{good, its-tech, mine-is}
 use Rattle.rows.proofs.mine.Statement.{statement}
 use Rattle.rows.proofs.mine.Tie as tie

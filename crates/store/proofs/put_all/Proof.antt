@@ -45,7 +45,8 @@ loop-again c =
     let l = c .before .before .before .before .before .before .loop in
     let a = c .before .before .before .before .before .before .before .before .before .args in
     let f : Filled (each (λ k. bytes (a .w) (getD (now (a .xs)) (a .from + k) 0)) (l .i + 1)) (now (a .s)) _ =
-    each-turn (λ k. bytes (a .w) (getD (now (a .xs)) (a .from + k) 0)) (a .w) (l .i) (l .at) (λ j. length-bytes _ _) (l .inv .1) (l .inv .3) (c .before .before .put .ensures) in
+    each-turn (λ k. bytes (a .w) (getD (now (a .xs)) (a .from + k) 0)) (a .w) (l .i) (l .at) (λ j. length-bytes _ _)
+    (l .inv .1) (l .inv .3) (c .before .before .put .ensures) in
     (omega arith, mul-more (l .i) (a .w) (l .inv .1), filled-length f, f)
 
 returns : tie.Need-returns Inv-loop μ-loop

@@ -4,7 +4,7 @@ use Prim.Native.Nat.{_+_, _-_, _≤_}
 use mathlib.Core.Logic.{⊎-elim}
 use mathlib.Core.Path.{_≡_, _∙_}
 use native.Mathlib.Omega.{arith}
-use Rattle.rules.specs.Result.{untold}
+use Rattle.result.specs.Tells.{untold}
 use Rattle.arrays.proofs.Laws.{done}
 use Rattle.tell.specs.ToldTo.{stands, merged}
 use Rattle.tell.proofs.Laws.{merged-hit, merged-miss}

@@ -1,5 +1,4 @@
 -- `ties::choose` meets its contract.
-
 use Rattle.rules.specs.Names.{mostNumbers}
 use Rattle.ties.proofs.Laws.{choice-is}
 use Rattle.ties.proofs.Lists.{numbers-more, tied-numbers, tied-placed, tied-owned}
@@ -7,20 +6,20 @@ use Rattle.ties.proofs.choose.Statement.{statement}
 use Rattle.ties.proofs.choose.Tie as tie
 
 gathered-requires : tie.Need-gathered-requires
-gathered-requires c κs = (c .pre .0, c .pre .2)
+gathered-requires c κs = (c .pre .0 .ready, c .pre .1)
 
 owns-requires : tie.Need-owns-requires
-owns-requires c κs = let g = c .before .pre in (g .0, tied-numbers _ _ _ _ (g .0) (g .2) (c .gathered .ensures))
+owns-requires c κs = let g = c .before .pre in (g .0 .ready, tied-numbers _ _ _ _ (g .0 .ready) (g .1) (c .gathered .ensures))
 
 best-mask-requires : tie.Need-best-mask-requires
 best-mask-requires c κs =
     let g = c .before .before .before .pre in
-    (g .0, g .1, tied-owned _ _ _ _ (g .0) (g .2) (c .before .before .gathered .ensures) _ (c .before .owns .ensures))
+    (g .0, tied-owned _ _ _ _ (g .0 .ready) (g .1) (c .before .before .gathered .ensures) _ (c .before .owns .ensures))
 
 combination-requires : tie.Need-combination-requires
 combination-requires c κs = let g = c .before .before .before .before .pre in (
-  numbers-more mostNumbers (g .0 .few) (tied-numbers _ _ _ _ (g .0) (g .2) (c .before .before .before .gathered .ensures)),
-  tied-placed _ _ _ _ (g .0) (g .2) (c .before .before .before .gathered .ensures),
+  numbers-more mostNumbers (g .0 .ready .few) (tied-numbers _ _ _ _ (g .0 .ready) (g .1) (c .before .before .before .gathered .ensures)),
+  tied-placed _ _ _ _ (g .0 .ready) (g .1) (c .before .before .before .gathered .ensures),
 )
 
 returns : tie.Need-returns

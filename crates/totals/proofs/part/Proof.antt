@@ -1,5 +1,4 @@
 -- The invariant: the row holds the totals of the bids passed.
-use borrow.Author.Needs.{needs}
 use native.Mathlib.Omega.{arith}
 use Prim.Native.Nat.{_≤_, _-_}
 use mathlib.Core.Path.{_≡_, _∙_}

@@ -8,7 +8,8 @@ use Rattle.value.proofs.pounds.Statement.{statement}
 use Rattle.value.proofs.pounds.Tie as tie
 
 -- the two columns' products
-columns : (c : tie.Start) → (c .args .parts / 1000000000 * c .args .share ≤ 18446744073 * 100000000) × (c .args .parts % 1000000000 * c .args .share ≤ 999999999 * 100000000)
+columns : (c : tie.Start) → (c .args .parts / 1000000000 * c .args .share ≤ 18446744073 * 100000000)
+    × (c .args .parts % 1000000000 * c .args .share ≤ 999999999 * 100000000)
 columns c = (mul-le-mul {n₂ = 18446744073} (omega arith) (c .pre), mul-le-mul {n₂ = 999999999} (omega arith) (c .pre))
 
 mul-high : tie.Need-mul-high

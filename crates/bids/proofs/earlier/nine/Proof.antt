@@ -1,7 +1,7 @@
 -- `bids::earlier::nine` meets its contract: one law for each way out. Assumes nothing.
 use native.Mathlib.Omega.{arith}
 use mathlib.Core.Path.{sym}
-use Rattle.reading_laws.specs.Walk.{given-yes, given-no}
+use Rattle.laws_reading.specs.Walk.{given-yes, given-no}
 use Rattle.bids.proofs.earlier.nine.Statement.{statement}
 use Rattle.bids.proofs.earlier.nine.Tie as tie
 

@@ -7,7 +7,7 @@ use native.Mathlib.Nat.{not-suc-le-zero}
 use borrow.Author.Count.{below-more}
 use Rattle.rules.specs.File.{bidAt}
 use Rattle.rules.specs.Refusals.{elevenOf}
-use Rattle.reading_laws.specs.Walk.{given-yes, given-no, is-one, not-one}
+use Rattle.laws_reading.specs.Walk.{given-yes, given-no, is-one, not-one}
 use borrow.Author.Needs.{needs}
 use Rattle.bids.proofs.lowest.eleven.Statement.{statement}
 use Rattle.bids.proofs.lowest.eleven.Tie as tie

@@ -2,7 +2,7 @@
 use native.Mathlib.Omega.{arith}
 use mathlib.Core.Path.{sym}
 use Rattle.bids.specs.Bids.{judgeOf}
-use Rattle.reading_laws.specs.Walk.{given-yes, given-no}
+use Rattle.laws_reading.specs.Walk.{given-yes, given-no}
 use Rattle.bids.proofs.seven.judge.Statement.{statement}
 use Rattle.bids.proofs.seven.judge.Tie as tie
 

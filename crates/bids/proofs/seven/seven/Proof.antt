@@ -3,7 +3,7 @@ use native.Mathlib.Omega.{arith}
 use mathlib.Core.Path.{sym, ap}
 use Rattle.rules.specs.File.{Bid}
 use Rattle.rules.specs.Refusals.{sevenOf}
-use Rattle.reading_laws.specs.Walk.{given-no}
+use Rattle.laws_reading.specs.Walk.{given-no}
 use Rattle.bids.proofs.Laws.{rest-asked}
 use borrow.Author.Needs.{needs}
 use Rattle.bids.proofs.seven.seven.Statement.{statement}

@@ -2,7 +2,7 @@
 use native.Mathlib.Omega.{arith}
 use mathlib.Core.Path.{sym, _∙_}
 use Rattle.rules.specs.Refusals.{countFault}
-use Rattle.reading_laws.specs.Walk.{given-yes, given-no}
+use Rattle.laws_reading.specs.Walk.{given-yes, given-no}
 use borrow.Author.Needs.{needs}
 use Rattle.file.proofs.count.count_fault.Statement.{statement}
 use Rattle.file.proofs.count.count_fault.Tie as tie

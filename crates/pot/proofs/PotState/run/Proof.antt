@@ -1,6 +1,5 @@
 -- The invariant: the state stands for a trace from which the auction runs on, no tie was too wide, `l` has seen the state, and its sums are right.
 use native.Mathlib.Omega.{arith}
-use Prim.Native.Nat.{ℕ, _≤_}
 use mathlib.Core.Bool.{false}
 use mathlib.Core.Path.{_≡_}
 use Rattle.sheet.specs.Sheet.{potIn}
@@ -33,7 +32,8 @@ returns c =
     let pre = c .before .before .before .before .before .before .pre in
     let inv = c .before .before .before .before .loop .inv in
     let step = c .before .step .ensures in (
-      run-wide _ _ (pre .0) _ (run-again _ _ (pre .0) _ (inv .0) (inv .1) (inv .2 .price) (c .before .before .if1 .taken) (step .stepped)) (c .if2 .taken),
+      run-wide _ _ (pre .0) _ (run-again _ _ (pre .0) _ (inv .0) (inv .1) (inv .2 .price) (omega (arith, c .before .before .if1 .taken)) (step .stepped))
+          (c .if2 .taken),
       step .summed,
     )
 
@@ -41,20 +41,20 @@ look-requires-2 : tie.Need-look-requires-2 Inv-loop μ-loop
 look-requires-2 c κs =
     let pre = c .before .before .before .before .before .before .pre in
     let inv = c .before .before .before .before .loop .inv in
-    let next = run-again _ _ (pre .0) _ (inv .0) (inv .1) (inv .2 .price) (c .before .before .if1 .taken) (c .before .step .ensures .stepped) in
+    let next = run-again _ _ (pre .0) _ (inv .0) (inv .1) (inv .2 .price) (omega (arith, c .before .before .if1 .taken)) (c .before .step .ensures .stepped) in
     record { ready = pre .0; others = run-others _ _ (pre .0) _ next (c .if2 .left) }
 
 loop-less : tie.Need-loop-less Inv-loop μ-loop
 loop-less c =
     let inv = c .before .before .before .before .before .loop .inv in
     run-less _ _ (c .before .before .before .before .before .before .before .pre .0) _ (inv .0) (inv .1) (inv .2 .price)
-    (c .before .before .before .if1 .taken) (c .before .before .step .ensures .stepped) (c .before .if2 .left)
+    (omega (arith, c .before .before .before .if1 .taken)) (c .before .before .step .ensures .stepped) (c .before .if2 .left)
 
 loop-again : tie.Need-loop-again Inv-loop μ-loop
 loop-again c =
     let inv = c .before .before .before .before .before .loop .inv in (
       run-again _ _ (c .before .before .before .before .before .before .before .pre .0) _ (inv .0) (inv .1) (inv .2 .price)
-          (c .before .before .before .if1 .taken) (c .before .before .step .ensures .stepped),
+          (omega (arith, c .before .before .before .if1 .taken)) (c .before .before .step .ensures .stepped),
       c .before .if2 .left,
       c .look2 .ensures,
       c .before .before .step .ensures .summed,

@@ -2,7 +2,6 @@
 use borrow.Author.Needs.{needs}
 use mathlib.Core.Path.{_∙_}
 use Rattle.totals.proofs.Link as link
-use Rattle.pot.specs.Marks.{yearSum}
 use Rattle.pot.proofs.Sums.{summed-settled, summed-trial, summed-tie}
 use Rattle.pot.proofs.Steps.{taken-is, many-tried, step-fits, step-tie}
 use Rattle.pot.proofs.PotState.several.Statement.{statement}

@@ -1,9 +1,6 @@
 -- `pot::PotState::sole` meets its contract.
 use borrow.Author.Needs.{needs}
-use native.Mathlib.Omega.{arith}
 use Rattle.totals.proofs.Link as link
-use Rattle.pot.proofs.Laws.{year-ok}
-use Rattle.pot.specs.Marks.{yearSum}
 use Rattle.pot.proofs.Seen.{sole-small, sole-fresh}
 use Rattle.pot.proofs.Sums.{summed-settled, summed-one, summed-alone}
 use Rattle.pot.proofs.Steps.{one-taken, one-tried, step-fits, step-alone}

@@ -7,7 +7,8 @@ use Rattle.pot.proofs.PotState.tie.Statement.{statement}
 use Rattle.pot.proofs.PotState.tie.Tie as tie
 
 rest-requires : tie.Need-rest-requires
-rest-requires c κs = let pre = c .before .before .before .before .pre in (pre .ready, base-ok _ _ _ _ _ (pre .ready) (c .before .bases .ensures))
+rest-requires c κs = let pre =
+    c .before .before .before .before .pre in record { ready = pre .ready; winners = base-ok _ _ _ _ _ (pre .ready) (c .before .bases .ensures) }
 
 returns : tie.Need-returns
 returns c =
@@ -16,8 +17,7 @@ returns c =
 
 choose-requires : tie.Need-choose-requires
 choose-requires c κs = let pre = c .before .before .before .before .before .before .before .before .pre in (
-  pre .ready,
-  base-ok _ _ _ _ _ (pre .ready) (c .before .before .before .before .before .bases .ensures),
+  record { ready = pre .ready; winners = base-ok _ _ _ _ _ (pre .ready) (c .before .before .before .before .before .bases .ensures) },
   record { counted = c .before .before .count .ensures; few = c .before .if1 .left },
 )
 

@@ -2,7 +2,7 @@
 use native.Mathlib.Omega.{arith}
 use mathlib.Core.Path.{sym, _∙_}
 use Rattle.rules.specs.Refusals.{recordFault}
-use Rattle.reading_laws.specs.Walk.{given-yes, given-no}
+use Rattle.laws_reading.specs.Walk.{given-yes, given-no}
 use Rattle.records.proofs.Laws.{numbers-wrong, draw-asked}
 use borrow.Author.Needs.{needs}
 use Rattle.records.proofs.applications.app_fault.Statement.{statement}

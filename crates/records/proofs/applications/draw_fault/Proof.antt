@@ -5,7 +5,7 @@ use Prim.Native.Nat.{ℕ, _≤_, _<_, _-_}
 use native.Mathlib.Nat.{not-suc-le-zero}
 use borrow.Author.Count.{below-more}
 use Rattle.rules.specs.File.{appAt}
-use Rattle.reading_laws.specs.Walk.{given-yes, given-no}
+use Rattle.laws_reading.specs.Walk.{given-yes, given-no}
 use Rattle.records.specs.Numbers.{drawOf}
 use borrow.Author.Needs.{needs}
 use Rattle.records.proofs.applications.draw_fault.Statement.{statement}

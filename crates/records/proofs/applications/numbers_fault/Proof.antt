@@ -2,7 +2,7 @@
 use native.Mathlib.Omega.{arith}
 use mathlib.Core.Path.{sym}
 use Rattle.records.specs.Numbers.{numbersOf}
-use Rattle.reading_laws.specs.Walk.{given-yes, given-no}
+use Rattle.laws_reading.specs.Walk.{given-yes, given-no}
 use borrow.Author.Needs.{needs}
 use Rattle.records.proofs.applications.numbers_fault.Statement.{statement}
 use Rattle.records.proofs.applications.numbers_fault.Tie as tie

@@ -8,7 +8,7 @@ use Prim.Native.Nat.{ℕ, _-_, _≤_, _<_}
 use Rattle.rules.specs.Names.{highestBudget}
 use Rattle.rules.specs.File.{budgetAt}
 use Rattle.rules.specs.Refusals.{recordFault, potFault}
-use Rattle.reading_laws.specs.Walk.{given-yes, given-no}
+use Rattle.laws_reading.specs.Walk.{given-yes, given-no}
 use Rattle.records.proofs.pots.pot_fault.Statement.{statement}
 use Rattle.records.proofs.pots.pot_fault.Tie as tie
 

@@ -2,7 +2,7 @@
 use native.Mathlib.Omega.{arith}
 use mathlib.Core.Path.{sym}
 use Rattle.records.specs.Numbers.{pricesOf}
-use Rattle.reading_laws.specs.Walk.{given-yes, given-no}
+use Rattle.laws_reading.specs.Walk.{given-yes, given-no}
 use Rattle.records.proofs.technologies.prices_fault.Statement.{statement}
 use Rattle.records.proofs.technologies.prices_fault.Tie as tie
 

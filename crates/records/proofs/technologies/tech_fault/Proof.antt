@@ -6,7 +6,7 @@ use native.Mathlib.Nat.{not-suc-le-zero}
 use borrow.Author.Count.{below-more}
 use Rattle.rules.specs.File.{techAt}
 use Rattle.rules.specs.Refusals.{recordFault, techFault}
-use Rattle.reading_laws.specs.Walk.{given-yes, given-no}
+use Rattle.laws_reading.specs.Walk.{given-yes, given-no}
 use Rattle.records.proofs.Laws.{Priced, prices-kept, prices-right}
 use borrow.Author.Needs.{needs}
 use Rattle.records.proofs.technologies.tech_fault.Statement.{statement}

@@ -10,9 +10,9 @@ use Rattle.rules.specs.Names.{yearWidth}
 use Rattle.rules.specs.File.{deliveries}
 use Rattle.rules.specs.Refusals.{recordFault, yearFault, scan}
 use Rattle.rules.specs.declared.Reading.the-variants.{Accepted}
-use Rattle.reading_laws.specs.Walk.{at-fault, goes-on, at-end}
-use Rattle.reading_laws.specs.Reading.{YearRight, year-right, one-more-year}
-use Rattle.reading_laws.specs.Fault.{no-fault}
+use Rattle.laws_reading.specs.Walk.{at-fault, goes-on, at-end}
+use Rattle.laws_reading.specs.Reading.{YearRight, year-right, one-more-year}
+use Rattle.laws_reading.specs.Fault.{no-fault}
 use Rattle.records.specs.Records.{withYears, yearsOf}
 use Rattle.records.proofs.years.years.Statement.{statement}
 use Rattle.records.proofs.years.years.Tie as tie

@@ -21,7 +21,7 @@ unfolding fill none
 loop-holds c = search needs
 
 keeps-requires : tie.Need-keeps-requires Inv-loop μ-loop
-keeps-requires c κs = let g = c .before .before .pre in record { ready = g .0; bid = c .loop-test .taken; winners = g .1 }
+keeps-requires c κs = let g = c .before .before .pre in record { ready = g .ready; bid = c .loop-test .taken; winners = g .winners }
 
 loop-again : tie.Need-loop-again Inv-loop μ-loop
 loop-again c = (omega arith, fill-next _ _ _ (c .before .before .loop .inv .1) (keeps-is _ _ _ _ _ _ (c .keeps .ensures)))

@@ -1,5 +1,4 @@
 -- `ties::search::better` meets its contract.
-
 use Rattle.ties.proofs.Laws.{better-less, better-more}
 use Rattle.ties.proofs.search.better.Statement.{statement}
 use Rattle.ties.proofs.search.better.Tie as tie

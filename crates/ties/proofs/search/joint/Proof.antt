@@ -9,12 +9,14 @@ use Rattle.ties.proofs.search.joint.Tie as tie
 
 add-result-2 : tie.Need-add-result-2
 add-result-2 c =
-    let T = c .before .before .before .pre .0 in let a = c .before .before .before .args in
+    let T = c .before .before .before .pre .0 .tables in
+    let a = c .before .before .before .args in
     omega (arith, T .winners .small (a .t * 8 + a .y), T .bids .small (a .mask % 32 * 8 + a .y))
 
 add-result-3 : tie.Need-add-result-3
 add-result-3 c =
-    let T = c .before .before .before .pre .0 in let a = c .before .before .before .args in
+    let T = c .before .before .before .pre .0 .tables in
+    let a = c .before .before .before .args in
     omega (arith, T .winners .small (a .t * 8 + a .y), T .bids .small (a .mask % 32 * 8 + a .y), T .bids .small (256 + a .mask / 32 * 8 + a .y))
 
 returns : tie.Need-returns

@@ -23,10 +23,10 @@ unfolding fitsTo
 loop-holds c = search needs
 
 joint-requires : tie.Need-joint-requires Inv-loop μ-loop
-joint-requires c κs = let g = c .before .before .pre in (g .0, g .1, g .2, omega (arith, g .3, c .loop-test .taken))
+joint-requires c κs = let g = c .before .before .pre in (g .0, omega (arith, g .1, c .loop-test .taken))
 
 limit-requires : tie.Need-limit-requires Inv-loop μ-loop
-limit-requires c κs = omega (arith, c .before .loop-test .taken, c .before .before .before .pre .3)
+limit-requires c κs = omega (arith, c .before .loop-test .taken, c .before .before .before .pre .1)
 
 returns : tie.Need-returns Inv-loop μ-loop
 returns c = fits-stops _ _ _ _ (c .before .before .joint .ensures) (c .before .limit .ensures) (c .if1 .taken) (c .before .before .before .loop-test .taken)

@@ -18,48 +18,42 @@ abbrev μ-loop : tie.MeasureT-loop
 μ-loop sheet of base costs dates count end last b₀ mask₀ b mask = end - mask
 
 cast-power : tie.Need-cast-power Inv-loop μ-loop
-cast-power c = omega (arith, c .pre .3)
+cast-power c = omega (arith, c .pre .few)
 
 power-requires : tie.Need-power-requires Inv-loop μ-loop
-power-requires c κs = omega (arith, c .pre .3)
+power-requires c κs = omega (arith, c .pre .few)
 
 sub-last : tie.Need-sub-last Inv-loop μ-loop
-sub-last c = omega (arith, c .before .before .pre .0 .some)
+sub-last c = omega (arith, c .before .before .pre .ready .some)
 
 union-requires : tie.Need-union-requires Inv-loop μ-loop
-union-requires c κs = (c .before .before .pre .2, omega arith)
+union-requires c κs = (c .before .before .pre .touched, omega arith)
 
 joint-requires : tie.Need-joint-requires Inv-loop μ-loop
-joint-requires c κs = let g = c .before .before .before .pre in (g .1, omega arith, c .union .ensures .1, omega (arith, g .0 .some, g .0 .years))
+joint-requires c κs = let g = c .before .before .before .pre in
+    (record { tables = g .tables; number = omega arith; years = c .union .ensures .1 }, omega (arith, g .ready .some, g .ready .years))
 
 loop-holds : tie.Need-loop-holds Inv-loop μ-loop
 loop-holds c = (omega arith, best-none _ _ (last-is _ _ _ _ _ (c .before .union .ensures .0) refl (c .joint .ensures)))
 
 union-requires-2 : tie.Need-union-requires-2 Inv-loop μ-loop
 union-requires-2 c κs = (
-  c .before .before .before .before .before .before .pre .2,
-  mask-low (c .before .before .before .before .before .before .pre .3) (c .before .before .before .before .before .power .ensures) (c .loop-test .taken),
+  c .before .before .before .before .before .before .pre .touched,
+  mask-low (c .before .before .before .before .before .before .pre .few) (c .before .before .before .before .before .power .ensures) (c .loop-test .taken),
 )
 
 joint-fits-requires : tie.Need-joint-fits-requires Inv-loop μ-loop
 joint-fits-requires c κs =
-    let g = c .before .before .before .before .before .before .before .pre in (
-      g .1,
-      mask-low (c .before .before .before .before .before .before .before .pre .3) (c .before .before .before .before .before .before .power .ensures)
-          (c .before .loop-test .taken),
-      c .union2 .ensures .1,
-      g .0 .years,
-    )
+    let g = c .before .before .before .before .before .before .before .pre in
+    let number = mask-low (g .few) (c .before .before .before .before .before .before .power .ensures) (c .before .loop-test .taken) in
+    (record { tables = g .tables; number = number; years = c .union2 .ensures .1 }, g .ready .years)
 
 joint-requires-2 : tie.Need-joint-requires-2 Inv-loop μ-loop
 joint-requires-2 c κs =
-    let g = c .before .before .before .before .before .before .before .before .before .pre in (
-      g .1,
-      mask-low (c .before .before .before .before .before .before .before .before .before .pre .3)
-          (c .before .before .before .before .before .before .before .before .power .ensures) (c .before .before .before .loop-test .taken),
-      c .before .before .union2 .ensures .1,
-      omega (arith, g .0 .some, g .0 .years),
-    )
+    let g = c .before .before .before .before .before .before .before .before .before .pre in
+    let number =
+    mask-low (g .few) (c .before .before .before .before .before .before .before .before .power .ensures) (c .before .before .before .loop-test .taken) in
+    (record { tables = g .tables; number = number; years = c .before .before .union2 .ensures .1 }, omega (arith, g .ready .some, g .ready .years))
 
 better-requires : tie.Need-better-requires Inv-loop μ-loop
 better-requires c κs = search needs

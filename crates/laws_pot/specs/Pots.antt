@@ -1,0 +1,86 @@
+-- The sentences of demand 3 as tests that compute, and small pots on which they come out true. A rule that is changed so that a sentence fails on one of
+-- them is refused here, by computation alone. Assumes nothing.
+use Prim.Native.Nat.{ℕ, _+_, _*_}
+use mathlib.Core.Path.{_≡_, refl}
+use mathlib.Core.Bool.{Bool, true, false, _&&_, _||_}
+use mathlib.Core.List.{List, [], _∷_, _++_, map}
+use lib.Dec.{eqb, leb, ltb}
+use Rattle.rules.specs.Lists.{pick, memb, below}
+use Rattle.rules.specs.Pot.{Pot, Trace, winners, downs, seen, closed, hanging, wideEnd, best, value, priceFrom, tally, within, total, exact, counted, live}
+use Rattle.rules.specs.Pot.{least, lowest, taken, follows, remaining, rank, combination, chosen, choose, tied, alone, lost, look, run, auction}
+
+unfoldable pub all : {A : Type 0} → (A → Bool) → List A → Bool
+all f [] = true
+all f (x ∷ l) = f x && all f l
+
+unfoldable pub any : {A : Type 0} → (A → Bool) → List A → Bool
+any f [] = false
+any f (x ∷ l) = f x || any f l
+
+module _ (P : Pot) where
+  -- 1: "winners at the prices paid cost no more than the budget in any year"
+  abbrev affordable : Trace → Bool
+  affordable s = all (λ y. leb (exact P (winners s) y) (P .budget y * P .scale)) (below (P .years))
+
+  -- 2 and 3: "the reported total is never below that cost and above it by at most one pound a winner"
+  abbrev near : Trace → Bool
+  near s =
+      all (λ y. leb (exact P (winners s) y) (total P (winners s) y * P .scale)
+      && leb (total P (winners s) y * P .scale) (exact P (winners s) y + counted P (winners s) * P .scale)) (below (P .years))
+
+  -- 4: "every bid looked at and turned down would, added at its own price to all that had won by the end of its step, revalued, have cost in some year more
+  -- than the budget less one pound for each bid counted"
+  unfoldable pub dear : Trace → Bool
+  dear [] = true
+  dear (e ∷ s) =
+      all (λ c. let ws = c ∷ (e .wins ++ winners s) in any (λ y. ltb (P .budget y * P .scale) (exact P ws y + counted P ws * P .scale)) (below (P .years)))
+      (e .downs)
+      && dear s
+
+  -- 5: "every bid never looked at belongs to an application that won, or to a delivery year in which a cheaper bid had been turned down"
+  abbrev unlooked : Trace → Bool
+  unlooked s =
+      all (λ k. memb k (seen s)
+      || (memb (P .app k) (map (P .app) (winners s)) || any (λ c. eqb (P .yr c) (P .yr k) && ltb (P .price c) (P .price k)) (downs s))) (P .bids)
+
+  -- "All others taken are turned down and their years close", and of one alone "otherwise the year closes": at the end each has closed
+  abbrev shut : Trace → Bool
+  shut s = all (λ c. memb (P .yr c) (closed s)) (downs s)
+
+-- a pot of one year, ten parts to the pound, whose bid k is of application k and costs `parts k` at a price of 1
+abbrev pot : (bids : List ℕ) (price parts : ℕ → ℕ) (budget : ℕ) → Pot
+pot bids price parts budget = record {
+  bids = bids;
+  autos = [];
+  years = 1;
+  scale = 10;
+  app = λ k. k;
+  yr = λ k. 0;
+  price = price;
+  cost = λ k p y. parts k * p;
+  budget = λ y. budget;
+  draw = λ k. k;
+  admin = λ k. 100;
+}
+
+-- two bids at 10 and 20, of 3 parts each: the second fits alone, but not beside the first at its price
+abbrev dearer : Pot
+dearer = pot (1 ∷ 0 ∷ []) (λ k. 10 + 10 * k) (λ k. 3) 6
+
+-- one bid of 31 parts, which is 3 pounds and a tenth
+abbrev tenth : Pot
+tenth = pot (0 ∷ []) (λ k. 1) (λ k. 31) 9
+
+-- bids at 20, 10 and 30 in the order of the file, of which the first does not fit
+abbrev unordered : Pot
+unordered = pot (0 ∷ 1 ∷ 2 ∷ []) (λ k. pick (eqb k 0) 20 (pick (eqb k 1) 10 30)) (λ k. pick (eqb k 0) 9 1) 12
+
+pub small-pots :
+    (affordable dearer (auction dearer) ≡ true)
+    × (near tenth (auction tenth) ≡ true)
+    × (dear dearer (auction dearer) ≡ true)
+    × (unlooked unordered (auction unordered) ≡ true)
+    × (shut dearer (auction dearer) ≡ true)
+unfolding all any dear winners downs seen closed hanging wideEnd best value priceFrom tally within live least lowest taken follows remaining rank
+    combination chosen choose tied alone lost look run auction
+small-pots = (refl, refl, refl, refl, refl)

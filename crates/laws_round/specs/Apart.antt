@@ -1,0 +1,252 @@
+-- "Two accepted files with equal counts that differ only in declared costs, and in budgets, technologies, applications and bids of other pots, each pot's
+-- records at the same places, give one pot the same outcome, prices, totals and reasons." Assumes nothing.
+use Prim.Native.Nat.{ℕ, _+_, _-_, _*_, _≤_, _<_}
+use mathlib.Core.Path.{_≡_, refl, sym, ap, ap₂, _∙_}
+use mathlib.Core.Bool.{Bool, true, not, _&&_, _||_}
+use mathlib.Core.Logic.{_↔_}
+use mathlib.Core.List.{List, [], _∷_, map}
+use native.Mathlib.Omega.{arith}
+use lib.Dec.{eqb, ltb}
+use borrow.Author.Tests.{eqb-true, eqb-false, eq-eqb, ne-eqb, ltb-true, lt-ltb}
+use Rattle.rules.specs.Names.{potWidth, techWidth, appWidth, bidWidth}
+use Rattle.rules.specs.Lists.{pick, memb, sift, below}
+use Rattle.rules.specs.Bytes.{le}
+use Rattle.rules.specs.File.{Round, App, Bid, budgetAt, techAt, appAt, bidAt}
+use Rattle.rules.specs.Pot.{Pot, outcome, priceIn, totalIn, reason}
+use Rattle.rules.specs.Round.{blank, techOf, automatic, bidOf, mine, silent, enters, rowFor, assemble, potOf}
+use Rattle.rules.specs.Result.{potFor, potAt, toldIn, appTold}
+use Rattle.laws_pot.specs.Lists.{case, clash, In, here, there, below-in, sift-same}
+use Rattle.laws_reading.specs.Alike.{Same, le-same}
+use Rattle.laws_reading.specs.Reading.{Sound, app-tech, app-year}
+use Rattle.laws_round.specs.Bids.{appPot, bidPot, bid-own, bid-auto, mine-own, mine-auto, mine-out, Kind, own, auto, out, kind, Mine, mine-is}
+
+-- the bytes of an application before its declared cost
+abbrev pub undeclared : ℕ
+undeclared = 12
+
+-- the two files differ elsewhere than in pot p
+pub record DifferElsewhere (p : ℕ) (f g : Round) : Type 0 where
+  -- "equal counts"
+  pub count-y : f .y ≡ g .y
+  pub count-p : f .p ≡ g .p
+  pub count-t : f .t ≡ g .t
+  pub count-n : f .n ≡ g .n
+  pub count-b : f .b ≡ g .b
+  -- what the files may not differ in: the years; this pot's budgets; its technologies; its applications, but for their declared cost, the last 8 of
+  -- an application's bytes; and its bids
+  pub years : f .years ≡ g .years
+  pub budgets : Same (f .pots) (g .pots) (p * potWidth (f .y)) (potWidth (f .y))
+  pub techs : (i : ℕ) → i < f .t → techAt (f .y) (f .techs) i .pot ≡ p → Same (f .techs) (g .techs) (i * techWidth (f .y)) (techWidth (f .y))
+  pub apps : (i : ℕ) → i < f .n → appPot f i ≡ p → Same (f .apps) (g .apps) (i * appWidth) undeclared
+  pub bids : (i : ℕ) → i < f .b → bidPot f i ≡ p → Same (f .bids) (g .bids) (i * bidWidth) bidWidth
+  -- "each pot's records at the same places"
+  pub app-places : (i : ℕ) → i < f .n → (appPot f i ≡ p) ↔ (appPot g i ≡ p)
+  pub bid-places : (i : ℕ) → i < f .b → (bidPot f i ≡ p) ↔ (bidPot g i ≡ p)
+
+eqb-same : (a b p : ℕ) → (a ≡ p) ↔ (b ≡ p) → eqb a p ≡ eqb b p
+eqb-same a b p h =
+    case (eqb a p) (λ t. t ∙ sym (eq-eqb b p (h .0 (eqb-true a p t)))) (λ t. t ∙ sym (ne-eqb b p (λ e. eqb-false a p t (h .1 e))))
+
+memb-same : (a : ℕ) (u v : ℕ → ℕ) (l : List ℕ) → ((k : ℕ) → In k l → eqb a (u k) ≡ eqb a (v k)) → memb a (map u l) ≡ memb a (map v l)
+memb-same a u v [] h = refl
+memb-same a u v (x ∷ l) h = rw (h x (here refl), memb-same a u v l (λ k i. h k (there i)))
+
+module _ (p : ℕ) (f g : Round) (F : Sound f) (A : DifferElsewhere p f g) where
+  -- ---- one application of the pot
+  module _ (a : ℕ) (h : a < f .n) (m : appPot f a ≡ p) where
+    app-le : (k x : ℕ) → x + k ≤ undeclared → le k (f .apps) (a * appWidth + x) ≡ le k (g .apps) (a * appWidth + x)
+    app-le k x l = le-same k (f .apps) (g .apps) (a * appWidth) undeclared (a * appWidth + x) (A .apps a h m) (omega arith) (omega arith)
+
+    app-same : appAt (f .apps) a ≡ appAt (g .apps) a
+    app-same = λ i.
+        record {
+          tech = first i;
+          year = app-le 2 2 (omega arith) i;
+          days = app-le 2 4 (omega arith) i;
+          draw =
+              app-le 2 6 (omega arith) i;
+          capacity = app-le 4 8 (omega arith) i;
+        }
+      where
+        first : le 2 (f .apps) (a * appWidth) ≡ le 2 (g .apps) (a * appWidth)
+        first = le-same 2 (f .apps) (g .apps) (a * appWidth) undeclared (a * appWidth) (A .apps a h m) (omega arith) (omega arith)
+
+    abbrev t : ℕ
+    t = appAt (f .apps) a .tech
+
+    -- a number of its technology's record, x bytes from the start
+    tech-le : (k x : ℕ) → x + k ≤ techWidth (f .y)
+        → le k (f .techs) (t * techWidth (f .y) + x) ≡ le k (g .techs) (appAt (g .apps) a .tech * techWidth (g .y) + x)
+    tech-le k x l =
+        le-same k (f .techs) (g .techs) (t * techWidth (f .y)) (techWidth (f .y)) (t * techWidth (f .y) + x)
+        (A .techs t (app-tech f F a h) m) (omega arith) (omega arith)
+        ∙ ap₂ (λ (u : App) (y : ℕ). le k (g .techs) (u .tech * techWidth y + x)) app-same (A .count-y)
+
+    -- and one of a year's figures, where the file has the year
+    figure : (k x y : ℕ) → x + 10 * y + k ≤ 14 + 10 * y
+        → pick (ltb y (f .y)) (le k (f .techs) (t * techWidth (f .y) + (x + 10 * y))) 0
+        ≡ pick (ltb y (g .y)) (le k (g .techs) (appAt (g .apps) a .tech * techWidth (g .y) + (x + 10 * y))) 0
+    figure k x y l =
+        let e : ltb y (g .y) ≡ ltb y (f .y) = ap (λ (z : ℕ). ltb y z) (sym (A .count-y)) in
+        case (ltb y (f .y)) (λ u. rw (e, u) (tech-le k (x + 10 * y) (omega (arith, ltb-true y (f .y) u)))) (λ u. rw (e, u))
+
+    admin-same : (y : ℕ) → y < f .y → techOf f (appAt (f .apps) a) .admin y ≡ techOf g (appAt (g .apps) a) .admin y
+    admin-same y l = tech-le 4 (4 + 10 * y) (omega arith)
+
+    auto-same : automatic f a ≡ automatic g a
+    unfolding automatic
+    auto-same =
+        let e = app-same in
+        let q = admin-same (appAt (f .apps) a .year) (omega (arith, app-year f F a h, F .few))
+        ∙ ap (λ (x : App). techOf g (appAt (g .apps) a) .admin (x .year)) e in
+        λ i. record { app = a; year = e i .year; days = e i .days; capacity = e i .capacity; price = q i }
+
+  -- the row of a bid of the pot
+  row-same : (x : Bid) → Mine f p x → rowFor f x ≡ rowFor g x
+  unfolding rowFor
+  row-same x M =
+      let h = M .app in
+      let m = M .pot in
+      let e = app-same (x .app) h m in
+      let c = admin-same (x .app) h m (x .year) (omega (arith, M .year, F .few)) in
+      let r = tech-le (x .app) h m 2 2 (omega arith) in
+      λ i. record {
+        bid = x;
+        draw = e i .draw;
+        admin = c i;
+        rqm = r i;
+        reference = λ y. figure (x .app) h m 4 8 y (omega arith) i;
+        load = λ y. figure (x .app) h m 2 12 y (omega arith) i;
+      }
+
+  -- ---- the bids
+  sealed-same : (k : ℕ) → k < f .b → bidPot f k ≡ p → bidAt (f .bids) k ≡ bidAt (g .bids) k
+  sealed-same k h m =
+      λ i. record {
+        app = first i;
+        year = bid-le 2 2 (omega arith) i;
+        days = bid-le 2 4 (omega arith) i;
+        capacity =
+            bid-le 4 6 (omega arith) i;
+        price = bid-le 4 10 (omega arith) i;
+      }
+    where
+      bid-le : (w x : ℕ) → x + w ≤ bidWidth → le w (f .bids) (k * bidWidth + x) ≡ le w (g .bids) (k * bidWidth + x)
+      bid-le w x l = le-same w (f .bids) (g .bids) (k * bidWidth) bidWidth (k * bidWidth + x) (A .bids k h m) (omega arith) (omega arith)
+
+      first : le 2 (f .bids) (k * bidWidth) ≡ le 2 (g .bids) (k * bidWidth)
+      first = le-same 2 (f .bids) (g .bids) (k * bidWidth) bidWidth (k * bidWidth) (A .bids k h m) (omega arith) (omega arith)
+
+  mine-same : (k : ℕ) → mine f p k ≡ mine g p k
+  mine-same k = go (kind f k)
+    where
+      go : Kind f k → mine f p k ≡ mine g p k
+      go (own h) = mine-own f k p h ∙ eqb-same _ _ p (A .bid-places k h) ∙ sym (mine-own g k p (omega (arith, A .count-b)))
+      go (auto h l) =
+          mine-auto f k p h l
+          ∙ eqb-same _ _ p (A .app-places (k - f .b) (omega arith))
+          ∙ ap (λ (b : ℕ). eqb (appPot g (k - b)) p) (A .count-b)
+          ∙ sym (mine-auto g k p (omega (arith, A .count-b)) (omega (arith, A .count-b, A .count-n)))
+      go (out h) = mine-out f k p h ∙ sym (mine-out g k p (omega (arith, A .count-b, A .count-n)))
+
+  bid-same : (k : ℕ) → mine f p k ≡ true → bidOf f k ≡ bidOf g k
+  bid-same k t = go (kind f k)
+    where
+      go : Kind f k → bidOf f k ≡ bidOf g k
+      go (own h) = bid-own f k h ∙ sealed-same k h (eqb-true _ p (sym (mine-own f k p h) ∙ t)) ∙ sym (bid-own g k (omega (arith, A .count-b)))
+      go (auto h l) =
+          bid-auto f k h
+          ∙ auto-same (k - f .b) (omega arith) (eqb-true _ p (sym (mine-auto f k p h l) ∙ t))
+          ∙ ap (λ (b : ℕ). automatic g (k - b)) (A .count-b)
+          ∙ sym (bid-auto g k (omega (arith, A .count-b)))
+      go (out h) = clash t (mine-out f k p h)
+
+  silent-same : (a : ℕ) → a < f .n → appPot f a ≡ p → silent f a ≡ silent g a
+  unfolding silent
+  silent-same a h m =
+      ap not (memb-same a (λ k. bidAt (f .bids) k .app) (λ k. bidAt (g .bids) k .app) (below (f .b)) (λ k i. one k (below-in k (f .b) i))
+      ∙ ap (λ (n : ℕ). memb a (map (λ k. bidAt (g .bids) k .app) (below n))) (A .count-b))
+    where
+      same : (k : ℕ) → k < f .b → bidPot f k ≡ p → bidAt (f .bids) k .app ≡ bidAt (g .bids) k .app
+      same k l q = ap (λ (x : Bid). x .app) (sealed-same k l q)
+
+      one : (k : ℕ) → k < f .b → eqb a (bidAt (f .bids) k .app) ≡ eqb a (bidAt (g .bids) k .app)
+      one k l =
+          case (eqb a (bidAt (f .bids) k .app))
+          (λ t. let e = eqb-true a _ t in t ∙ sym (eq-eqb a _ (e ∙ same k l (ap (appPot f) (sym e) ∙ m))))
+          (λ t. t ∙ sym (ne-eqb a _ (λ e. eqb-false a _ t (e ∙ sym (same k l (A .bid-places k l .1 (ap (appPot g) (sym e) ∙ A .app-places a h .0 m)))))))
+
+  enters-same : (k : ℕ) → mine f p k ≡ true → enters f k ≡ enters g k
+  unfolding enters
+  enters-same k t = go (kind f k)
+    where
+      go : Kind f k → (ltb k (f .b) || silent f (k - f .b)) ≡ (ltb k (g .b) || silent g (k - g .b))
+      go (own h) = rw (lt-ltb k (f .b) h, lt-ltb k (g .b) (omega (arith, A .count-b)))
+      go (auto h l) =
+          ap₂ _||_ (ap (λ (b : ℕ). ltb k b) (A .count-b))
+          (silent-same (k - f .b) (omega arith) (eqb-true _ p (sym (mine-auto f k p h l) ∙ t)) ∙ ap (λ (b : ℕ). silent g (k - b)) (A .count-b))
+      go (out h) = clash t (mine-out f k p h)
+
+  -- ---- the pot
+  pub pot-same : potOf f p ≡ potOf g p
+  unfolding potOf
+  pot-same = λ i. assemble (A .years i) (A .count-y i) (bids i) (autos i) (λ k. rows k i) (λ y. budget y i)
+    where
+      all : f .b + f .n ≡ g .b + g .n
+      all = ap₂ _+_ (A .count-b) (A .count-n)
+
+      both : (u v : ℕ → Bool) → ((k : ℕ) → mine f p k ≡ true → u k ≡ v k)
+          → sift (λ k. mine f p k && u k) (below (f .b + f .n)) ≡ sift (λ k. mine g p k && v k) (below (g .b + g .n))
+      both u v h =
+          sift-same (λ k. mine f p k && u k) (λ k. mine g p k && v k) (below (f .b + f .n))
+          (λ k i. case (mine f p k) (λ t. rw (sym (mine-same k) ∙ t, t) (h k t)) (λ t. rw (sym (mine-same k) ∙ t, t)))
+          ∙ ap (λ (n : ℕ). sift (λ k. mine g p k && v k) (below n)) all
+
+      bids : sift (λ k. mine f p k && enters f k) (below (f .b + f .n)) ≡ sift (λ k. mine g p k && enters g k) (below (g .b + g .n))
+      bids = both (enters f) (enters g) enters-same
+
+      autos : sift (λ k. mine f p k && not (ltb k (f .b))) (below (f .b + f .n)) ≡ sift (λ k. mine g p k && not (ltb k (g .b))) (below (g .b + g .n))
+      autos = both (λ k. not (ltb k (f .b))) (λ k. not (ltb k (g .b))) (λ k t. ap (λ (b : ℕ). not (ltb k b)) (A .count-b))
+
+      rows : (k : ℕ) → pick (mine f p k) (rowFor f (bidOf f k)) blank ≡ pick (mine g p k) (rowFor g (bidOf g k)) blank
+      rows k =
+          case (mine f p k)
+          (λ t. rw (sym (mine-same k) ∙ t, t) (row-same (bidOf f k) (mine-is f F p k t) ∙ ap (rowFor g) (bid-same k t)))
+          (λ t. rw (sym (mine-same k) ∙ t, t))
+
+      budget : (y : ℕ) → pick (ltb y (f .y)) (budgetAt (f .y) (f .pots) p y) 0 ≡ pick (ltb y (g .y)) (budgetAt (g .y) (g .pots) p y) 0
+      budget y =
+          let e : ltb y (g .y) ≡ ltb y (f .y) = ap (λ (z : ℕ). ltb y z) (sym (A .count-y)) in
+          case (ltb y (f .y))
+          (λ u. rw (e, u)
+          (le-same 8 (f .pots) (g .pots) (p * potWidth (f .y)) (potWidth (f .y)) (p * potWidth (f .y) + 8 * y)
+          (A .budgets) (omega arith) (omega (arith, ltb-true y (f .y) u))
+          ∙ ap (λ (z : ℕ). le 8 (g .pots) (p * potWidth z + 8 * y)) (A .count-y)))
+          (λ u. rw (e, u))
+
+-- What the result tells of pot p is the same
+pub record SameTold (p : ℕ) (f g : Round) : Type 0 where
+  pub outcome : outcome (potOf f p) ≡ outcome (potOf g p)
+  pub prices : (d : ℕ) → priceIn (potOf f p) d ≡ priceIn (potOf g p) d
+  pub totals : (y : ℕ) → totalIn (potOf f p) y ≡ totalIn (potOf g p) y
+  pub apps : (a : ℕ) → a < f .n → appPot f a ≡ p → appTold f a ≡ appTold g a
+  pub bids : (k : ℕ) → k < f .b → bidPot f k ≡ p → reason (potAt f k) k ≡ reason (potAt g k) k
+
+pub apart : (p : ℕ) (f g : Round) → Sound f → DifferElsewhere p f g → SameTold p f g
+unfolding appTold
+apart p f g F A =
+    let P = pot-same p f g F A in
+    record {
+      outcome = ap outcome P;
+      prices = λ d. ap (λ (x : Pot). priceIn x d) P;
+      totals = λ y. ap (λ (x : Pot). totalIn x y) P;
+      apps = λ a h m.
+          let n = A .app-places a h .0 m in
+          let Q : potFor f a ≡ potFor g a = ap (potOf f) m ∙ P ∙ ap (potOf g) (sym n) in
+          λ i. toldIn (A .count-b i) (silent-same p f g F A a h m i) (Q i) a;
+      bids = λ k h m.
+          let n = A .bid-places k h .0 m in
+          let x : potAt f k ≡ potOf f p = ap (λ (b : Bid). potFor f (b .app)) (bid-own f k h) ∙ ap (potOf f) m in
+          let y : potAt g k ≡ potOf g p = ap (λ (b : Bid). potFor g (b .app)) (bid-own g k (omega (arith, A .count-b))) ∙ ap (potOf g) n in
+          ap (λ (q : Pot). reason q k) (x ∙ P ∙ sym y);
+    }

@@ -1,0 +1,79 @@
+-- The theorems, each under the sentence of document 01 that it answers. `clearOf file lent` is the answer to a file, and what then stands in the lent
+-- bytes; a file is
+-- cleared where that answer is no refusal. Assumes nothing.
+use Prim.Native.Nat.{ℕ, _+_, _≤_, _<_}
+use mathlib.Core.Path.{_≡_}
+use mathlib.Core.Bool.{false}
+use mathlib.Core.List.{List, map}
+use lib.ListN.{length, take, drop}
+use Rattle.rules.specs.Names.{auctioned}
+use Rattle.rules.specs.File.{Round, roundOf}
+use Rattle.rules.specs.Pot.{Pot, winners, live, auction, wideEnd}
+use Rattle.rules.specs.Round.{potOf}
+use Rattle.rules.specs.Result.{needed, refusedAs, clearOf}
+use Rattle.laws_pot.specs.Lists.{In}
+use Rattle.laws_reading.specs.Reading.{Sound}
+use Rattle.laws_reading.specs.Small.{largest}
+use Rattle.laws_round.specs.Undeclared.{SaveCosts, same-clearing}
+use Rattle.laws_pot.specs.Mono.{Lawful}
+use Rattle.laws_pot.specs.Runs as runs
+use Rattle.laws_pot.specs.Once as once
+use Rattle.laws_round.specs.Bids.{bids-once, differ, lawful}
+use Rattle.laws_round.specs.Apart.{DifferElsewhere}
+use Rattle.laws_round.specs.Third.{Third}
+use Rattle.laws_round.specs.Read.{outcomeAt, totalAt, toldAt}
+use Rattle.laws_pot.specs.Lowered.{priced, Lowered}
+use Rattle.laws_pot.specs.Lower.{still-wins}
+use Rattle.laws_round.specs.Answers as answers
+use Rattle.laws_round.specs.Demanded as demanded
+use Rattle.laws_round.specs.Demanded.{whyAt, SameRecords}
+
+abbrev pub IsCleared : (file lent : List ℕ) → Type 0
+IsCleared file lent = refusedAs (clearOf file lent .answer) ≡ 0
+
+-- Demand 3, of each pot that an auction cleared (outcome 1), as the result's own bytes tell it: the five sentences are the fields of `Third`
+pub third-demand : (file lent : List ℕ) → IsCleared file lent
+    → let R = roundOf file in
+    let s = clearOf file lent .exit in
+    (p : ℕ) → p < R .p → outcomeAt R s p ≡ auctioned → Third R p (toldAt R s) (totalAt R s p) (whyAt R s)
+third-demand = demanded.demand-3
+
+-- "Two accepted files with equal counts that differ only in declared costs, and in budgets, technologies, applications and bids of other pots, each pot's
+-- records at the same places, give one pot the same outcome, prices, totals and reasons."
+pub pots-apart : (file other lent lent′ : List ℕ) → IsCleared file lent → IsCleared other lent′ → (p : ℕ) → p < roundOf file .p
+    → DifferElsewhere p (roundOf file) (roundOf other) → SameRecords p (roundOf file) (roundOf other) (clearOf file lent .exit) (clearOf other lent′ .exit)
+pots-apart = demanded.cleared-apart
+
+-- "No declared cost enters any of them": two files of the same bytes but for declared costs get the same answer and the same bytes, refused or cleared
+pub no-declared-cost : (file other lent : List ℕ) → SaveCosts file other → clearOf file lent ≡ clearOf other lent
+no-declared-cost file other lent D = same-clearing file other D lent
+
+-- of a file longer than the longest round only its first bytes matter, up to one after where that round ends
+pub longer-file : (file lent : List ℕ) → largest < length file → clearOf file lent ≡ clearOf (take (largest + 1) file) lent
+longer-file = answers.longer
+
+-- "A refusal writes nothing."
+pub refusal-writes-nothing : (file lent : List ℕ) → (IsCleared file lent → ⊥) → clearOf file lent .exit ≡ lent
+refusal-writes-nothing = answers.refusal-keeps
+
+-- "bytes after it stay"
+pub bytes-after-stay : (file lent : List ℕ) → IsCleared file lent → drop (needed (roundOf file)) (clearOf file lent .exit) ≡ drop (needed (roundOf file)) lent
+bytes-after-stay = answers.rest-stays
+
+-- "The pot ends when no bid is live": of each pot of an accepted file that no tie too wide ended
+pub pot-ends : (R : Round) → Sound R → (p : ℕ) → wideEnd (auction (potOf R p)) ≡ false → (c : ℕ)
+    → In c (potOf R p .bids) → live (potOf R p) (auction (potOf R p)) c ≡ false
+pot-ends R S p = runs.none-live (potOf R p) (lawful R p S)
+
+-- "after no more steps than it has bids"
+pub few-steps : (P : Pot) → length (auction P) ≤ length (P .bids)
+few-steps = runs.steps-most
+
+-- no bid wins twice, and no application
+pub wins-once : (R : Round) → Sound R → (p : ℕ) → once.NoneTwice (winners (auction (potOf R p)))
+    × once.NoneTwice (map (potOf R p .app) (winners (auction (potOf R p))))
+wins-once R S p = (once.winners-once (potOf R p) (bids-once R p), once.apps-once (potOf R p) (lawful R p S) (differ R p S) (bids-once R p))
+
+-- Change request 3, of a pot: an application's single bid that won still wins where its price alone is lowered, to one that no other bid of the pot carries
+pub lower-still-wins : (P : Pot) (b : ℕ) (price : ℕ → ℕ) → Lawful P → Lowered P b price → In b (winners (auction P)) → In b (winners (auction (priced P price)))
+lower-still-wins P b price L W = still-wins P b price W L

@@ -1,0 +1,65 @@
+-- The third demand, as a statement about the records of a result. Assumes nothing.
+use Prim.Native.Nat.{ℕ, _+_, _*_, _≤_, _<_}
+use mathlib.Core.Path.{_≡_}
+use mathlib.Core.Bool.{_&&_}
+use mathlib.Core.Logic.{_⊎_}
+use mathlib.Core.List.{List}
+use lib.ListN.{length}
+use lib.Dec.{eqb, ltb}
+use Rattle.rules.specs.Lists.{pick, sift, below, sum}
+use Rattle.rules.specs.Value.{pound}
+use Rattle.rules.specs.File.{Round, budgetAt}
+use Rattle.rules.specs.Names.{becauseWon}
+use Rattle.rules.specs.Pot.{downs, auction}
+use Rattle.rules.specs.Round.{bidOf, rowFor, costOf, potOf}
+use Rattle.rules.specs.declared.Told.{Told}
+use Rattle.laws_pot.specs.Lists.{In}
+use Rattle.laws_round.specs.Bids.{appPot}
+use Rattle.laws_pot.specs.Once.{NoneTwice}
+use Rattle.laws_pot.specs.Reasons.{TurnedDown, Unlooked, Fate}
+use Rattle.laws_pot.specs.Demand.{Dear}
+
+module _ (R : Round) (p : ℕ) (T : ℕ → Told) where
+  -- the applications of pot p that are told as won, each once
+  unfoldable pub wonApps : List ℕ
+  wonApps = sift (λ a. eqb (appPot R a) p && eqb (T a .won) 1) (below (R .n))
+
+  -- the bid that is told with it: a sealed bid's number, or else that of the application's automatic bid
+  unfoldable pub bidTold : ℕ → ℕ
+  bidTold a = pick (ltb (T a .bid) (R .b)) (T a .bid) (R .b + a)
+
+  -- the exact cost in parts, in year y, of an application told as won, at the price told as paid
+  unfoldable pub costTold : (y a : ℕ) → ℕ
+  costTold y a = costOf (R .years) (rowFor R (bidOf R (bidTold a))) (T a .paid) y
+
+  -- and of all of them
+  abbrev pub exactTold : (y : ℕ) → ℕ
+  exactTold y = sum (costTold y) wonApps
+
+-- Of pot p, which an auction cleared, where a result tells T of the applications, `total` of the years and `why` of the pot's bids. Costs are exact: parts,
+-- `pound`
+-- to the pound
+pub record Third (R : Round) (p : ℕ) (T : ℕ → Told) (total why : ℕ → ℕ) : Type 0 where
+  -- the winners at the prices paid cost no more than the budget in any year
+  pub affordable : (y : ℕ) → y < R .y → exactTold R p T y ≤ budgetAt (R .y) (R .pots) p y * pound
+  -- the reported total is never below that cost
+  pub not-below : (y : ℕ) → y < R .y → exactTold R p T y ≤ total y * pound
+  -- and above it by at most one pound a winner
+  pub not-above : (y : ℕ) → y < R .y → total y * pound ≤ exactTold R p T y + length (wonApps R p T) * pound
+  -- every bid looked at and turned down would, added at its own price to all that had won by the end of its step, revalued, have cost in some year more
+  -- than the
+  -- budget less one pound for each bid counted
+  pub turned-down : (k : ℕ) → In k (potOf R p .bids) → TurnedDown (why k) → Dear (potOf R p) k (auction (potOf R p))
+  -- the step that turned a bid down is one
+  pub one-step : NoneTwice (downs (auction (potOf R p)))
+  -- every bid never looked at belongs to an application that won, or to a delivery year in which a cheaper bid had been turned down
+  pub unlooked : (k : ℕ) → In k (potOf R p .bids) → Unlooked (why k)
+      → In (bidOf R k .app) (wonApps R p T)
+      ⊎ ((c : ℕ) × In c (potOf R p .bids) × TurnedDown (why c) × (bidOf R c .year ≡ bidOf R k .year) × (bidOf R c .price < bidOf R k .price))
+  -- every bid of the pot is told as one of the three: won, turned down, not looked at; no reason says two of them (`one-fate`)
+  pub fate : (k : ℕ) → In k (potOf R p .bids) → Fate (why k)
+  -- a bid told as won is the bid told with its application, which is told as won
+  pub winner : (k : ℕ) → In k (potOf R p .bids) → why k ≡ becauseWon → In (bidOf R k .app) (wonApps R p T) × (bidTold R p T (bidOf R k .app) ≡ k)
+  -- and the other way round
+  pub won-by : (a : ℕ) → In a (wonApps R p T)
+      → In (bidTold R p T a) (potOf R p .bids) × (why (bidTold R p T a) ≡ becauseWon) × (bidOf R (bidTold R p T a) .app ≡ a)

@@ -1,0 +1,302 @@
+-- "No declared cost enters any of them": two files of the same bytes but for declared costs get the same answer and the same bytes, refused or cleared. Assumes
+-- nothing.
+use Prim.Native.Nat.{ℕ, _+_, _-_, _*_, _≤_, _<_, min}
+use mathlib.Core.Path.{_≡_, refl, sym, ap, ap₂, _∙_}
+use mathlib.Core.Bool.{not, _&&_}
+use mathlib.Core.List.{List, _++_}
+use native.Mathlib.Omega.{arith}
+use native.Mathlib.Decide.{decLe, decLt, ℕ-discrete}
+use lib.ListN.{length, getD}
+use lib.Dec.{eqb, ltb}
+use Rattle.rules.specs.Names.{countWidth, appWidth, bidWidth, bytesAfter, largestCapacity}
+use Rattle.rules.specs.Names.{countOutside, appBroken, bidBroken, endsEarly}
+use Rattle.rules.specs.Lists.{pick, given, both, when, never, every, sift, below}
+use Rattle.rules.specs.Bytes.{le, part, bytes, each, onto}
+use Rattle.rules.specs.File.{Round, Bid, sections, roundOf, sectionsOf, deliveries, yearAt, budgetAt, techAt, appAt, bidAt, potsAt, techsAt, appsAt, bidsAt}
+use Rattle.rules.specs.File.{endAt}
+use Rattle.rules.specs.Refusals.{orElse, orFault, scan, countFault, recordFault, section, appFault, sevenOf, eightOf, nineOf}
+use Rattle.rules.specs.Refusals.{bidFault, elevenOf, judged, reading}
+use Rattle.rules.specs.Pot.{reason}
+use Rattle.rules.specs.Round.{blank, assemble, automatic, bidOf, mine, silent, enters, rowFor, potOf}
+use Rattle.rules.specs.Result.{toldIn, appTold, appBytes, potBytes, bidBytes, potsPart, appsPart, bidsPart, resultBytes, needed, answerTo, answerOf, after}
+use Rattle.rules.specs.Result.{clearOf}
+use Rattle.rules.specs.declared.Reading.{Reading}
+use Rattle.rules.specs.declared.Reading.the-variants.{Accepted}
+use Rattle.rules.specs.declared.Answer.{Answer}
+use Rattle.rules.specs.declared.Answer.the-variants.{Cleared, Refused}
+use Rattle.laws_round.specs.Apart.{undeclared}
+use Rattle.laws_reading.specs.Alike.{le-same, getD-past, part-same, part-byte, part-size}
+
+-- where the declared cost of application a stands in a file of y years, p pots and t technologies: the last 8 of its bytes
+abbrev pub costAt : (y p t a : ℕ) → ℕ
+costAt y p t a = appsAt y p t + countWidth + a * appWidth + undeclared
+
+-- does byte i of a file stand in a declared cost?
+pub record Declared (R : Round) (i : ℕ) : Type 0 where
+  pub app : ℕ
+  pub in-file : app < R .n
+  pub from : costAt (R .y) (R .p) (R .t) app ≤ i
+  pub to : i < costAt (R .y) (R .p) (R .t) app + 8
+
+-- two files of the same bytes but for declared costs
+pub record SaveCosts (s t : List ℕ) : Type 0 where
+  pub length : length s ≡ length t
+  pub bytes : (i : ℕ) → (Declared (roundOf s) i → ⊥) → getD s i 0 ≡ getD t i 0
+
+-- a round with other bytes for its applications
+abbrev withApps : Round → List ℕ → Round
+withApps R m = record {
+  years = R .years;
+  pots = R .pots;
+  techs = R .techs;
+  apps = m;
+  bids = R .bids;
+  y = R .y;
+  d = R .d;
+  p = R .p;
+  t = R .t;
+  n = R .n;
+  b = R .b;
+}
+
+-- ---- all that is asked of a round asks its applications' bytes for their fields alone
+
+module _ (R : Round) (m : List ℕ) (e : (a : ℕ) → appAt (R .apps) a ≡ appAt m a) where
+  abbrev Q : Round
+  Q = withApps R m
+
+  app-fault : (years : List ℕ) (d t i : ℕ) → appFault years d t (R .apps) i ≡ appFault years d t m i
+  unfolding appFault
+  app-fault years d t i = λ j.
+      given
+      (both (decLt (e i j .tech) t)
+      (both (decLt (e i j .year) d)
+      (both (decLt 0 (e i j .days))
+      (both (decLe (e i j .days) (yearAt years (e i j .year) .days))
+      (both (decLt 0 (e i j .capacity))
+      (both (decLe (e i j .capacity) largestCapacity) (every i (λ k. never (ℕ-discrete (e k j .draw) (e i j .draw))))))))))
+      0
+      appBroken
+
+  seven : (i : ℕ) → sevenOf R i ≡ sevenOf Q i
+  unfolding sevenOf
+  seven i = λ j.
+      let b = bidAt (R .bids) i in
+      let a = e (b .app) j in
+      given
+      (both (decLt (b .app) (R .n))
+      (both (decLt (b .year) (R .d))
+      (both (decLt 0 (b .days))
+      (both (decLe (b .days) (yearAt (R .years) (b .year) .days))
+      (both (decLt 0 (b .capacity))
+      (both (decLe (b .capacity) (a .capacity))
+      (both (decLe (a .year) (b .year))
+      (both (when (ℕ-discrete (a .year) (b .year)) (decLe (b .days) (a .days))) (decLe (b .price) (techAt (R .y) (R .techs) (a .tech) .admin (b .year)))))))))))
+      0
+      bidBroken
+
+  bid-fault : (i : ℕ) → bidFault R i ≡ bidFault Q i
+  unfolding bidFault eightOf nineOf
+  bid-fault i = ap (λ (x : ℕ). orFault x (orFault (eightOf R i) (nineOf R i))) (seven i)
+
+  auto : (a : ℕ) → automatic R a ≡ automatic Q a
+  unfolding automatic
+  auto a = λ j. record {
+    app = a;
+    year = e a j .year;
+    days = e a j .days;
+    capacity = e a j .capacity;
+    price = techAt (R .y) (R .techs) (e a j .tech) .admin (e a j .year);
+  }
+
+  bid : (k : ℕ) → bidOf R k ≡ bidOf Q k
+  unfolding bidOf
+  bid k = ap (λ (x : Bid). pick (ltb k (R .b)) (bidAt (R .bids) k) x) (auto (k - R .b))
+
+  its : (p k : ℕ) → mine R p k ≡ mine Q p k
+  unfolding mine
+  its p k = λ j. ltb k (R .b + R .n) && eqb (techAt (R .y) (R .techs) (e (bid k j .app) j .tech) .pot) p
+
+  pot : (p : ℕ) → potOf R p ≡ potOf Q p
+  unfolding potOf enters silent rowFor
+  pot p = λ j.
+      assemble (R .years) (R .y) (sift (λ k. its p k j && enters R k) (below (R .b + R .n))) (sift (λ k. its p k j && not (ltb k (R .b))) (below (R .b + R .n)))
+      (λ k. pick (its p k j)
+      (record {
+        bid = bid k j;
+        draw = e (bid k j .app) j .draw;
+        admin = techAt (R .y) (R .techs) (e (bid k j .app) j .tech) .admin (bid k j .year);
+        rqm = techAt (R .y) (R .techs) (e (bid k j .app) j .tech) .rqm;
+        reference = λ y. pick (ltb y (R .y)) (techAt (R .y) (R .techs) (e (bid k j .app) j .tech) .reference y) 0;
+        load = λ y. pick (ltb y (R .y)) (techAt (R .y) (R .techs) (e (bid k j .app) j .tech) .load y) 0;
+      })
+      blank)
+      (λ y. pick (ltb y (R .y)) (budgetAt (R .y) (R .pots) p y) 0)
+
+  -- the pot of application a
+  its-pot : (a : ℕ) → potOf R (techAt (R .y) (R .techs) (appAt (R .apps) a .tech) .pot) ≡ potOf Q (techAt (R .y) (R .techs) (appAt m a .tech) .pot)
+  its-pot a = λ j. pot (techAt (R .y) (R .techs) (e a j .tech) .pot) j
+
+  result : resultBytes R ≡ resultBytes Q
+  unfolding resultBytes potsPart appsPart bidsPart appTold silent bidBytes
+  result = λ j.
+      ((bytes countWidth (R .p) ++ each (λ p. potBytes (R .d) (R .y) (pot p j)) (R .p))
+      ++ (bytes countWidth (R .n) ++ each (λ a. appBytes (toldIn (R .b) (silent R a) (its-pot a j) a)) (R .n)))
+      ++ (bytes countWidth (R .b) ++ each (λ k. bytes 2 (reason (bid-pot k j) k)) (R .b))
+    where
+      bid-pot : (k : ℕ) → potOf R (techAt (R .y) (R .techs) (appAt (R .apps) (bidOf R k .app) .tech) .pot)
+          ≡ potOf Q (techAt (R .y) (R .techs) (appAt m (bidOf Q k .app) .tech) .pot)
+      bid-pot k = λ j. pot (techAt (R .y) (R .techs) (e (bid k j .app) j .tech) .pot) j
+
+-- a section is the same where its count, the room of its records and what is wrong with each are
+section-same : (s t : List ℕ) (at low high w : ℕ) (l m : List ℕ) (f g : ℕ → ℕ) (q r : Reading) → length s ≡ length t → le countWidth s at ≡ le countWidth t at
+    → length l ≡ length m → ((i : ℕ) → f i ≡ g i) → q ≡ r → section s at low high w l f q ≡ section t at low high w m g r
+unfolding section countFault recordFault
+section-same s t at low high w l m f g q r long c room h e = λ j.
+    orElse (given (decLe (at + countWidth) (long j)) (given (both (decLe low (c j)) (decLe (c j) high)) 0 countOutside) endsEarly) at
+    (scan (λ i. given (decLe (i * w + w) (room j)) (h i j) endsEarly) w (at + countWidth) 0 (c j) (e j))
+
+module _ (s t : List ℕ) (D : SaveCosts s t) where
+  abbrev R : Round
+  R = roundOf s
+
+  abbrev y : ℕ
+  y = le countWidth s 0
+
+  abbrev p : ℕ
+  p = le countWidth s (potsAt y)
+
+  abbrev k : ℕ
+  k = le countWidth s (techsAt y p)
+
+  abbrev n : ℕ
+  n = le countWidth s (appsAt y p k)
+
+  abbrev b : ℕ
+  b = le countWidth s (bidsAt y p k n)
+
+  -- bytes before the first declared cost, after the last, and of an application before its own
+  byte : (i : ℕ) → ((a : ℕ) → a < n → costAt y p k a ≤ i → i < costAt y p k a + 8 → ⊥) → getD s i 0 ≡ getD t i 0
+  unfolding roundOf sections
+  byte i h = D .bytes i (λ c. h (c .app) (c .in-file) (c .from) (c .to))
+
+  early : (i : ℕ) → i < appsAt y p k + countWidth → getD s i 0 ≡ getD t i 0
+  early i l = byte i (λ a x u v. omega arith)
+
+  late : (i : ℕ) → bidsAt y p k n ≤ i → getD s i 0 ≡ getD t i 0
+  late i l = byte i (λ a x u v. omega arith)
+
+  count : (at : ℕ) → at ≤ appsAt y p k → le countWidth s at ≡ le countWidth t at
+  count at l = le-same countWidth s t at countWidth at (λ j h. early (at + j) (omega arith)) (omega arith) (omega arith)
+
+  last : b ≡ le countWidth t (bidsAt y p k n)
+  last = le-same countWidth s t (bidsAt y p k n) countWidth (bidsAt y p k n) (λ j h. late (bidsAt y p k n + j) (omega arith)) (omega arith) (omega arith)
+
+  up-to : (a e : ℕ) → e ≤ appsAt y p k → part s a e ≡ part t a e
+  up-to a e l = part-same s t a e (ap (min e) (D .length)) (λ i x z. early i (omega arith))
+
+  from : (a e : ℕ) → bidsAt y p k n ≤ a → part s a e ≡ part t a e
+  from a e l = part-same s t a e (ap (min e) (D .length)) (λ i x z. late i (omega arith))
+
+  -- the applications' bytes in each, and their fields
+  abbrev mine-s : List ℕ
+  mine-s = part s (appsAt y p k + countWidth) (bidsAt y p k n)
+
+  abbrev mine-t : List ℕ
+  mine-t = part t (appsAt y p k + countWidth) (bidsAt y p k n)
+
+  room : length mine-s ≡ length mine-t
+  room = part-size s _ _ ∙ ap (λ (l : ℕ). min (bidsAt y p k n) l - (appsAt y p k + countWidth)) (D .length) ∙ sym (part-size t _ _)
+
+  field : (a x : ℕ) → x < undeclared → getD mine-s (a * appWidth + x) 0 ≡ getD mine-t (a * appWidth + x) 0
+  field a x h = go (decLt a n)
+    where
+      go : Dec (a < n) → getD mine-s (a * appWidth + x) 0 ≡ getD mine-t (a * appWidth + x) 0
+      go (yes l) =
+          part-byte s (appsAt y p k + countWidth) (bidsAt y p k n) (a * appWidth + x) (omega arith)
+          ∙ byte (appsAt y p k + countWidth + (a * appWidth + x)) (λ c i u v. omega arith)
+          ∙ sym (part-byte t (appsAt y p k + countWidth) (bidsAt y p k n) (a * appWidth + x) (omega arith))
+      go (no l) =
+          getD-past mine-s (a * appWidth + x) (omega (arith, part-size s (appsAt y p k + countWidth) (bidsAt y p k n)))
+          ∙ sym (getD-past mine-t (a * appWidth + x) (omega (arith, part-size t (appsAt y p k + countWidth) (bidsAt y p k n))))
+
+  number : (w a x : ℕ) → x + w ≤ undeclared → le w mine-s (a * appWidth + x) ≡ le w mine-t (a * appWidth + x)
+  number w a x l = le-same w mine-s mine-t (a * appWidth) undeclared (a * appWidth + x) (field a) (omega arith) (omega arith)
+
+  app-same : (a : ℕ) → appAt mine-s a ≡ appAt mine-t a
+  app-same a = λ i. record {
+    tech = le-same 2 mine-s mine-t (a * appWidth) undeclared (a * appWidth) (field a) (omega arith) (omega arith) i;
+    year = number 2 a 2 (omega arith) i;
+    days = number 2 a 4 (omega arith) i;
+    draw = number 2 a 6 (omega arith) i;
+    capacity = number 4 a 8 (omega arith) i;
+  }
+
+  -- the round of the other file is this one, with its own bytes for the applications
+  other : withApps R mine-t ≡ roundOf t
+  unfolding roundOf sections
+  other =
+      (λ j. record {
+        years = up-to countWidth (potsAt y) (omega arith) j;
+        pots = up-to (potsAt y + countWidth) (techsAt y p) (omega arith) j;
+        techs = up-to (techsAt y p + countWidth) (appsAt y p k) (omega arith) j;
+        apps = mine-t;
+        bids = from (bidsAt y p k n + countWidth) (endAt y p k n b) (omega arith) j;
+        y = y;
+        d = deliveries (up-to countWidth (potsAt y) (omega arith) j) y;
+        p = p;
+        t = k;
+        n = n;
+        b = b;
+      })
+      ∙ (λ j. sections t (ey j) (ep j) (ek j) (en j) (eb j))
+    where
+      ey : y ≡ le countWidth t 0
+      ey = count 0 (omega arith)
+
+      ep : p ≡ le countWidth t (potsAt (le countWidth t 0))
+      ep = count (potsAt y) (omega arith) ∙ ap (λ (x : ℕ). le countWidth t (potsAt x)) ey
+
+      ek : k ≡ le countWidth t (techsAt (le countWidth t 0) (le countWidth t (potsAt (le countWidth t 0))))
+      ek = count (techsAt y p) (omega arith) ∙ (λ j. le countWidth t (techsAt (ey j) (ep j)))
+
+      en : n ≡ le countWidth t (appsAt (le countWidth t 0) (le countWidth t (potsAt (le countWidth t 0)))
+          (le countWidth t (techsAt (le countWidth t 0) (le countWidth t (potsAt (le countWidth t 0))))))
+      en = count (appsAt y p k) (omega arith) ∙ (λ j. le countWidth t (appsAt (ey j) (ep j) (ek j)))
+
+      eb : b ≡ roundOf t .b
+      eb = last ∙ (λ j. le countWidth t (bidsAt (ey j) (ep j) (ek j) (en j)))
+
+  fields : (a : ℕ) → appAt (R .apps) a ≡ appAt mine-t a
+  unfolding roundOf sections
+  fields = app-same
+
+  read-alike : judged R s (Accepted (sectionsOf R)) ≡ judged (withApps R mine-t) t (Accepted (sectionsOf (withApps R mine-t)))
+  unfolding judged sectionsOf elevenOf roundOf sections
+  read-alike =
+      section-same s t _ _ _ _ _ _ _ _ _ _ (D .length) (count 0 (omega arith)) refl (λ i. refl)
+      (section-same s t _ _ _ _ _ _ _ _ _ _ (D .length) (count (potsAt y) (omega arith)) refl (λ i. refl)
+      (section-same s t _ _ _ _ _ _ _ _ _ _ (D .length) (count (techsAt y p) (omega arith)) refl (λ i. refl)
+      (section-same s t _ _ _ _ _ _ _ _ _ _ (D .length) (count (appsAt y p k) (omega arith)) room (app-fault R mine-t fields (R .years) (R .d) (R .t))
+      (section-same s t _ _ _ _ _ _ _ _ _ _ (D .length) last refl (bid-fault R mine-t fields)
+      (ap (λ (l : ℕ). orElse (given (decLe l (endAt y p k n b)) 0 bytesAfter) (endAt y p k n b)
+      (scan (elevenOf R) bidWidth (bidsAt y p k n + countWidth) 0 b (Accepted (sectionsOf R)))) (D .length))))))
+
+  pub same-reading : reading s ≡ reading t
+  unfolding reading
+  same-reading = read-alike ∙ ap (λ (x : Round). judged x t (Accepted (sectionsOf x))) other
+
+  after-same : (r : Answer) (lent : List ℕ) → after r R lent ≡ after r (roundOf t) lent
+  unfolding after
+  after-same (Cleared l) lent = ap (λ (x : List ℕ). onto x lent) (result R mine-t fields ∙ ap resultBytes other)
+  after-same (Refused number at) lent = refl
+
+  pub same-clearing : (lent : List ℕ) → clearOf s lent ≡ clearOf t lent
+  unfolding clearOf answerOf needed
+  same-clearing lent = λ j. record { answer = answer j; exit = exit j }
+    where
+      answer : answerOf s (length lent) ≡ answerOf t (length lent)
+      answer = ap₂ (λ (r : Reading) (x : Round). answerTo r (needed x) (length lent)) same-reading other
+
+      exit : after (answerOf s (length lent)) R lent ≡ after (answerOf t (length lent)) (roundOf t) lent
+      exit = after-same (answerOf s (length lent)) lent ∙ ap (λ (r : Answer). after r (roundOf t) lent) answer
