@@ -11,10 +11,10 @@ edits=$root/crates/rules/must-fail
 copy() {
     rm -rf "$d"
     mkdir -p "$d/crates"
-    cp -r "$root/crates/rules" "$root"/crates/*_laws "$d/crates"
+    cp -r "$root/crates/rules" "$root"/crates/laws_* "$d/crates"
     rm -rf "$d"/crates/*/must-fail "$d/crates/rules/specs/Worked.antt" "$d/crates/rules/specs/Listing.antt"
     sed -i '/^pub mod Worked$/d; /^pub mod Listing$/d' "$d/crates/rules/specs/Lib.antt"
-    grep -E '^(rules|[a-z]+_laws):' "$root/crates.txt" >"$d/crates.txt"
+    grep -E '^(rules|laws_[a-z]+):' "$root/crates.txt" >"$d/crates.txt"
 }
 
 # edited FILE OLD NEW: the file's text with OLD, which stands in it once, turned to NEW
@@ -41,7 +41,7 @@ refused() {
         law=$(printf '%s\n' "$line" | sed 's/.* error: `\([^`]*\)`.*/\1/')
         if [ "$law" = small-pots ]; then
             place=$(printf '%s\n' "$line" | sed 's/^\([^:]*\):\([0-9]*\):\([0-9]*\):.*/\2 \3/')
-            law=$law.$(sed -n "${place% *}p" "$d/crates/pot_laws/specs/Pots.antt" | cut -c "1-${place#* }" | tr ',' '\n' | wc -l)
+            law=$law.$(sed -n "${place% *}p" "$d/crates/laws_pot/specs/Pots.antt" | cut -c "1-${place#* }" | tr ',' '\n' | wc -l)
         fi
         echo "$law"
     done
