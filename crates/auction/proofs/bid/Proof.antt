@@ -1,3 +1,4 @@
+-- `auction::bid` meets its contract: a sealed bid's number, or that it was automatic.
 use Rattle.auction.proofs.Laws.{bid-sealed, bid-auto}
 use Rattle.auction.proofs.bid.Statement.{statement}
 use Rattle.auction.proofs.bid.Tie as tie

@@ -1,3 +1,4 @@
+-- `auction::flat` meets its contract: the struct is the definition's record.
 use mathlib.Core.Path.{refl}
 use Rattle.auction.specs.Numbers.{flatOf}
 use Rattle.auction.proofs.flat.Statement.{statement}

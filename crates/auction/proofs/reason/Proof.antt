@@ -1,3 +1,4 @@
+-- `auction::reason` meets its contract: a law for each return.
 use Prim.Native.Nat.{_-_}
 use Rattle.auction.proofs.Laws.{reason-marked, reason-won, reason-else}
 use Rattle.auction.proofs.reason.Statement.{statement}

@@ -1,3 +1,4 @@
+-- `auction::sold` meets its contract: the state's own rows, and what each application won with.
 use borrow.Author.Needs.{needs}
 use Rattle.auction.specs.Numbers.{soldOf}
 use Rattle.auction.proofs.sold.Statement.{statement}

@@ -1,3 +1,4 @@
+-- The invariant: `out` has, for each application, the last of the bids passed that won for it.
 use Prim.Native.Nat.{_-_, _≤_}
 use mathlib.Core.Path.{_≡_, _∙_}
 use mathlib.Core.Logic.{⊎-elim}

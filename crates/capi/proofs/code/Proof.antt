@@ -1,3 +1,4 @@
+-- `capi::code` meets its contract: a refusal's number and offset are small, so that nothing overflows.
 use native.Mathlib.Omega.{arith}
 use Rattle.capi.proofs.Laws.{number-small, code-cleared, code-refused}
 use borrow.Author.Needs.{needs}

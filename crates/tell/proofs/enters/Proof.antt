@@ -1,3 +1,4 @@
+-- `tell::enters` meets its contract: by the bid's standing.
 use mathlib.Core.Path.{ap}
 use lib.Dec.{eqb}
 use Prim.Native.Nat.{ℕ}

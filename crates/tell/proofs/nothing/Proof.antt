@@ -1,3 +1,4 @@
+-- `tell::nothing` meets its contract: no pot is told, and every place is empty.
 use Rattle.tell.proofs.Merge.{told-none}
 use Rattle.tell.proofs.nothing.Statement.{statement}
 use Rattle.tell.proofs.nothing.Tie as tie

@@ -1,3 +1,4 @@
+-- `tell::stands` meets its contract: by the bid's standing.
 use mathlib.Core.Bool.{not}
 use mathlib.Core.Path.{ap}
 use lib.Dec.{eqb}

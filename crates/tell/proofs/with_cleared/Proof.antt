@@ -1,3 +1,4 @@
+-- `tell::with_cleared` meets its contract: the pot's record at its place, and the merged applications and reasons.
 use borrow.Author.Needs.{needs}
 use Rattle.tell.specs.ToldTo.{toldWith}
 use Rattle.tell.proofs.with_cleared.Statement.{statement}
