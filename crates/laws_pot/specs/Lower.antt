@@ -19,7 +19,7 @@ use Rattle.laws_pot.specs.Taken.{live-is, is-live, Lows, taken-lows}
 use Rattle.laws_pot.specs.Money.{within-true, within-false}
 use Rattle.laws_pot.specs.Mono.{Lawful, value-mono}
 use Rattle.laws_pot.specs.Steps.{Step, look-wide}
-use Rattle.laws_pot.specs.Runs.{Inv, inv-none, live-back, won-seen, price-up, run-keeps, step-of, Looked, stepped, ended, looked-next, inv-looked}
+use Rattle.laws_pot.specs.Runs.{Inv, inv-none, live-back, won-seen, price-up, run-keeps, step-of, Went, stepped, ended, looked-next, inv-looked}
 use Rattle.laws_pot.specs.Runs as r
 use Rattle.laws_pot.specs.Lowered.{priced, Lowered, other, clearing-same, below-price, member, Next, the-same, b-next, next, Looks, like, hung, looks}
 
@@ -96,7 +96,7 @@ module _ (P : Pot) (b : ℕ) (pr : ℕ → ℕ) (W : Lowered P b pr) (L : Lawful
     won-live = A .won-live;
   }
 
-  later-looked : (s t : Trace) (e : Event) → Later s t → Looked P L t e → Inv P (e ∷ t) → Later s (e ∷ t)
+  later-looked : (s t : Trace) (e : Event) → Later s t → Went P L t e → Inv P (e ∷ t) → Later s (e ∷ t)
   later-looked s t e A (stepped S) I = later-step s t e A S I
   later-looked s t e A (ended q) I = rw q (later-wide s t A (rw q at I))
 

@@ -218,15 +218,15 @@ module _ (P : Pot) where
         h : Lows P s (taken P s)
         h = taken-lows P s
 
-    -- a look makes a step, or meets a tie too wide
-    pub data Looked (s : Trace) (e : Event) : Type 0 where
-      stepped : Step P s e → Looked s e
-      ended : e ≡ endedWide P → Looked s e
+    -- how a look went: it makes a step, or meets a tie too wide
+    pub data Went (s : Trace) (e : Event) : Type 0 where
+      stepped : Step P s e → Went s e
+      ended : e ≡ endedWide P → Went s e
 
-    pub looked-next : (s : Trace) → Inv s → Looked s (next s)
+    pub looked-next : (s : Trace) → Inv s → Went s (next s)
     looked-next s I = case (next s .wide) (λ t. ended (look-wide P s (taken P s) t)) (λ f. stepped (step-of s I f))
 
-    pub inv-looked : (s : Trace) (e : Event) → Inv s → Looked s e → Inv (e ∷ s)
+    pub inv-looked : (s : Trace) (e : Event) → Inv s → Went s e → Inv (e ∷ s)
     inv-looked s e I (stepped S) = inv-step s e I S
     inv-looked s e I (ended q) = rw q (inv-wide s I)
 
@@ -235,7 +235,7 @@ module _ (P : Pot) where
       abbrev Both : Trace → Type 0
       Both t = Inv t × Q t
 
-      kept-looked : (s : Trace) (e : Event) → Inv s → Q s → Looked s e → Q (e ∷ s)
+      kept-looked : (s : Trace) (e : Event) → Inv s → Q s → Went s e → Q (e ∷ s)
       kept-looked s e I q (stepped S) = step s e I S q
       kept-looked s e I q (ended z) = rw z (wide s q)
 
