@@ -1,37 +1,25 @@
 // Prints the reading of each file on standard input.
 use cases::Got;
-use libc::STDOUT_FILENO;
 use rules::Reading;
 use rules::Sections;
-
-fn number(n: usize) {
-    io::write_all(STDOUT_FILENO, b" ");
-    io::print_decimal(STDOUT_FILENO, n as u64);
-}
+use text::field;
+use text::word;
 
 fn accepted(s: Sections) {
-    io::write_all(STDOUT_FILENO, b"accepted");
-    number(s.years);
-    number(s.deliveries);
-    number(s.pots);
-    number(s.technologies);
-    number(s.applications);
-    number(s.bids);
-}
-
-fn refused(no: u64, at: usize) {
-    io::write_all(STDOUT_FILENO, b"refused ");
-    io::print_decimal(STDOUT_FILENO, no);
-    io::write_all(STDOUT_FILENO, b" at");
-    number(at);
+    field(b"accepted ", s.years as u64);
+    field(b" ", s.deliveries as u64);
+    field(b" ", s.pots as u64);
+    field(b" ", s.technologies as u64);
+    field(b" ", s.applications as u64);
+    field(b" ", s.bids as u64);
+    word(b"\n");
 }
 
 fn print(r: Reading) {
     match r {
         Reading::Accepted { sections } => accepted(sections),
-        Reading::Refused { number: no, at } => refused(no, at),
+        Reading::Refused { number, at } => text::refused(number, at),
     }
-    io::write_all(STDOUT_FILENO, b"\n");
 }
 
 fn main() {

@@ -3,20 +3,20 @@ mod rule;
 mod whose;
 
 use libc::STDIN_FILENO;
-use libc::STDOUT_FILENO;
 use rules::Reading;
+use text::field;
+use text::word;
 
 fn refused(file: &[u8], number: u64, at: usize) {
-    io::write_all(STDOUT_FILENO, b"refused: ");
+    word(b"refused: ");
     if number == names::BYTES_AFTER {
-        io::write_all(STDOUT_FILENO, b"the file");
+        word(b"the file");
     } else {
         whose::record(file, at);
     }
-    io::write_all(STDOUT_FILENO, b" breaks rule ");
-    io::print_decimal(STDOUT_FILENO, number);
+    field(b" breaks rule ", number);
     rule::words(number);
-    io::write_all(STDOUT_FILENO, b"\n");
+    word(b"\n");
 }
 
 fn explain(file: &[u8]) {

@@ -1,9 +1,5 @@
 // The rules of "When the file is turned away", in words.
-use libc::STDOUT_FILENO;
-
-fn word(w: &[u8]) {
-    io::write_all(STDOUT_FILENO, w);
-}
+use text::word;
 
 // Rules 1 to 6.
 fn of_sections(number: u64) {

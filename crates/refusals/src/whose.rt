@@ -6,9 +6,10 @@ ghost use Rattle.rules.specs.Names.{countWidth};
 ghost use Rattle.layout.specs.Layout.{beyond};
 use layout::pot;
 use layout::technology;
-use libc::STDOUT_FILENO;
 use places::count;
 use places::on;
+use text::number;
+use text::word;
 
 // The place after a section whose count, at `at`, is n.
 fn after(at: usize, n: usize, width: usize) -> usize
@@ -23,14 +24,14 @@ fn after(at: usize, n: usize, width: usize) -> usize
 fn told(start: usize, at: usize, width: usize, one: &[u8], many: &[u8]) {
     let first = on(start, names::COUNT_WIDTH);
     if at < first {
-        io::write_all(STDOUT_FILENO, b"the count of ");
-        io::write_all(STDOUT_FILENO, many);
+        word(b"the count of ");
+        word(many);
         return;
     }
-    io::write_all(STDOUT_FILENO, one);
-    io::write_all(STDOUT_FILENO, b" ");
+    word(one);
+    word(b" ");
     if width > 0 {
-        io::print_decimal(STDOUT_FILENO, ((at - first) / width) as u64);
+        number(((at - first) / width) as u64);
     }
 }
 

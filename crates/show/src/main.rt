@@ -1,25 +1,15 @@
 // Prints the tables of the round file on standard input as a person reads them, or the line of its refusal. Pounds a MWh stand with three
 // decimals, MW with two and factors with four; budgets and declared costs are whole pounds.
 mod tables;
-mod text;
 
 use libc::STDIN_FILENO;
 use rules::Reading;
-use text::field;
-use text::word;
-
-// `refused 7 at 120`
-fn refused(number: u64, at: usize) {
-    field(b"refused ", number);
-    field(b" at ", at as u64);
-    word(b"\n");
-}
 
 fn show(file: &[u8]) {
     let got = file::read(file);
     match got {
         Reading::Accepted { sections } => tables::print(file, sections),
-        Reading::Refused { number, at } => refused(number, at),
+        Reading::Refused { number, at } => text::refused(number, at),
     }
 }
 

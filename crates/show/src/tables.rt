@@ -4,11 +4,6 @@ ghost use lib.ListN.{length};
 ghost use Rattle.rules.specs.Names.{yearWidth, potWidth, techWidth, appWidth, bidWidth};
 ghost use Rattle.layout.specs.Layout.{Room};
 ghost use Rattle.rows.specs.Rows.{Held};
-use super::text::factor;
-use super::text::field;
-use super::text::hundredths;
-use super::text::thousandths;
-use super::text::word;
 use layout::application;
 use layout::bid;
 use layout::parts;
@@ -16,6 +11,11 @@ use layout::pot;
 use layout::technology;
 use layout::year;
 use rules::Sections;
+use text::factor;
+use text::field;
+use text::hundredths;
+use text::thousandths;
+use text::word;
 
 fn year_line(recs: &[u8], y: usize)
     requires { ⌜ Room (now recs) yearWidth y ⌝ }

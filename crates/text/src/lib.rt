@@ -1,4 +1,4 @@
-// Words and numbers on standard output.
+// Words and numbers on standard output, as the programs for people write them.
 use libc::STDOUT_FILENO;
 
 pub fn word(w: &[u8]) {
@@ -37,4 +37,11 @@ pub fn factor(w: &[u8], n: u64) {
     number(n / 100 % 10);
     number(n / 10 % 10);
     number(n % 10);
+}
+
+// The line of a refusal: `refused 7 at 120`.
+pub fn refused(number: u64, at: usize) {
+    field(b"refused ", number);
+    field(b" at ", at as u64);
+    word(b"\n");
 }
