@@ -1,6 +1,6 @@
 -- The laws of a bid's numbers, over plain variables: one for each return and each turn of a loop. Assumes nothing.
 use Prim.Native.Nat.{ℕ, suc, _+_, _-_, _*_, _≤_, _<_}
-use mathlib.Core.Path.{_≡_, sym, ap, ap₂, subst, _∙_}
+use mathlib.Core.Path.{_≡_, refl, sym, ap, subst, _∙_}
 use mathlib.Core.Bool.{Bool, true, false, not}
 use mathlib.Core.List.{List, [], _∷_, map}
 use native.Mathlib.Omega.{arith}
@@ -21,6 +21,8 @@ use Rattle.laws_round.specs.Bids.{bid-own, bid-auto, Kind, own, auto, out, kind
 use Rattle.layout.specs.Layout.{Room}
 use Rattle.layout.proofs.Laws.{read-in}
 use Rattle.sheet.specs.Sheet.{entered, spare}
+use Rattle.rows.specs.Factors.{FactorsOf}
+use Rattle.rows.specs.declared.factors.Factors.{Factors}
 use Rattle.rows.specs.Rows.{silentIn, silent-is, rowOf, standingOf, rowNumbers, figureNumbers, figuresIn}
 
 -- ---- records of the file
@@ -179,21 +181,27 @@ module _ (R : Round) (S : Sound R) (t y : ℕ) (h : t < R .t) (l : y < R .y) {ye
   pub rqm-most : {x : ℕ} → x ≡ techAt (R .y) techs t .rqm → x ≤ whole
   rqm-most e = rw (read-in (λ s. techAt (R .y) s t .rqm) et e) (S .tech t h .rqm)
 
-pub figure-is : (R : Round) (t y : ℕ) (b : Bid) {years techs : List ℕ} {reference load rqm days tlm hours energy share : ℕ} → years ≡ R .years
-    → techs ≡ R .techs
-    → reference ≡ techAt (R .y) techs t .reference y → load ≡ techAt (R .y) techs t .load y → rqm ≡ techAt (R .y) techs t .rqm → days ≡ yearAt years y .days
-    → tlm ≡ yearAt years y .tlm → hours ≡ hoursOf y (b .year) (b .days) days → energy ≡ load * (hours * b .capacity) → share ≡ (whole - tlm) * rqm
-    → reference ∷ energy ∷ share ∷ [] ≡ figuresIn R t b y
+  pub reference-most : {x : ℕ} → x ≡ techAt (R .y) techs t .reference y → x ≤ highestPrice
+  reference-most e = rw (read-in (λ s. techAt (R .y) s t .reference y) et e) (S .tech t h .reference y l)
+
+  -- the factors, where the first year's days and the capacity are those of bid b
+  pub factors-are : (b : Bid) {reference load rqm days tlm hours : ℕ} → reference ≡ techAt (R .y) techs t .reference y → load ≡ techAt (R .y) techs t .load y
+      → days ≡ yearAt years y .days → hours ≡ hoursOf y (b .year) (b .days) days → tlm ≡ yearAt years y .tlm → rqm ≡ techAt (R .y) techs t .rqm
+      → FactorsOf R t b y (record { reference = reference; load = load; hours = hours; capacity = b .capacity; kept = whole - tlm; rqm = rqm })
+  factors-are b er el ed eh em eq = record {
+    reference-is = read-in (λ s. techAt (R .y) s t .reference y) et er;
+    load-is = read-in (λ s. techAt (R .y) s t .load y) et el;
+    hours-is = eh ∙ ap (hoursOf y (b .year) (b .days)) (read-in (λ s. yearAt s y .days) ey ed);
+    capacity-is = refl;
+    kept-is = ap (λ (m : ℕ). whole - m) (read-in (λ s. yearAt s y .tlm) ey em);
+    rqm-is = read-in (λ s. techAt (R .y) s t .rqm) et eq;
+  }
+
+pub figure-is : (R : Round) (t y : ℕ) (b : Bid) {f : Factors} {energy share : ℕ} → FactorsOf R t b y f → energy ≡ f .load * (f .hours * f .capacity)
+    → share ≡ f .kept * f .rqm → f .reference ∷ energy ∷ share ∷ [] ≡ figuresIn R t b y
 unfolding figuresIn energyOf
-figure-is R t y b ey et er el eq ed em eh ee es =
-    let reference′ = er ∙ ap (λ (s : List ℕ). techAt (R .y) s t .reference y) et in
-    let load′ = el ∙ ap (λ (s : List ℕ). techAt (R .y) s t .load y) et in
-    let rqm′ = eq ∙ ap (λ (s : List ℕ). techAt (R .y) s t .rqm) et in
-    let tlm′ = em ∙ ap (λ (s : List ℕ). yearAt s y .tlm) ey in
-    let hours′ = eh ∙ ap (hoursOf y (b .year) (b .days)) (ed ∙ ap (λ (s : List ℕ). yearAt s y .days) ey) in
-    let energy′ = ee ∙ ap₂ (λ (l h : ℕ). l * (h * b .capacity)) load′ hours′ in
-    let share′ = es ∙ ap₂ (λ (m r : ℕ). (whole - m) * r) tlm′ rqm′ in
-    λ j. reference′ j ∷ energy′ j ∷ share′ j ∷ []
+figure-is R t y b f ee es = λ j.
+    f .reference-is j ∷ (ee ∙ (λ i. f .load-is i * (f .hours-is i * f .capacity-is i))) j ∷ (es ∙ (λ i. f .kept-is i * f .rqm-is i)) j ∷ []
 
 pub mine-in : (R : Round) (p k : ℕ) {s : Bool} → s ≡ mine R p k → s ≡ true → k < R .b + R .n
 unfolding mine

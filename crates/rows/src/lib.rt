@@ -1,19 +1,20 @@
 // What stands in the sheet of a pot for one bid: its row, and its figures in each year. Each number is read from the sections of an
 // accepted file.
+pub mod factors;
+
+use factors::Factors;
 use layout::application;
 use layout::application::Application;
 use layout::bid;
 use layout::bid::Bid;
 use layout::parts;
 use layout::technology;
-use layout::year;
 use rules::Sections;
 ghost use mathlib.Core.Path.{_≡_};
-ghost use Prim.Native.Nat.{_+_, _-_, _*_, _≤_, _<_};
+ghost use Prim.Native.Nat.{_+_, _*_, _≤_, _<_};
 ghost use lib.ListN.{length};
-ghost use Rattle.rules.specs.Names.{bidWidth, whole, longYear, largestCapacity, dayHours};
+ghost use Rattle.rules.specs.Names.{bidWidth, longYear, largestCapacity};
 ghost use Rattle.rules.specs.Lists.{pick};
-ghost use Rattle.rules.specs.Value.{hoursOf};
 ghost use Rattle.rules.specs.File.{techAt, appAt};
 ghost use Rattle.rules.specs.Round.{automatic, bidOf, enters, mine};
 ghost use Rattle.layout.specs.Layout.{applicationShown, bidShown};
@@ -141,47 +142,12 @@ pub fn row(file: &[u8], sections: Sections, p: usize, k: usize) -> [u64; sheet::
     [sheet::ABSENT, 0, 0, 0, 0, 0]
 }
 
-// "Hours are 0 for y before d, 24 × first-year days for y = d, and 24 × days of y after": d is the start year.
-fn hours(y: usize, d: usize, first: u64, days: u64) -> u64
-    requires { ⌜ (first ≤ longYear) × (days ≤ longYear) ⌝ }
-    ensures { λ r. ⌜ (r ≡ hoursOf y d first days) × (r ≤ dayHours * longYear) ⌝ }
-{
-    if y < d {
-        return 0;
-    }
-    if y == d {
-        return names::DAY_HOURS * first;
-    }
-    names::DAY_HOURS * days
-}
-
-// Load factor × hours × capacity.
-fn energy(load: u64, hours: u64, capacity: u64) -> u64
-    requires { ⌜ (load ≤ whole) × (hours ≤ dayHours * longYear) × (capacity ≤ largestCapacity) ⌝ }
-    ensures { λ r. ⌜ r ≡ load * (hours * capacity) ⌝ }
-{
-    load * (hours * capacity)
-}
-
-// (1 − TLM) × RQM.
-fn share(tlm: u64, rqm: u64) -> u64
-    requires { ⌜ (tlm ≤ whole) × (rqm ≤ whole) ⌝ }
-    ensures { λ r. ⌜ r ≡ (whole - tlm) * rqm ⌝ }
-{
-    (names::WHOLE - tlm) * rqm
-}
-
 // The figures in year y of a bid of technology t: reference price, load factor × hours × capacity, (1 − TLM) × RQM.
 pub fn figure(file: &[u8], sections: Sections, t: usize, bid: Bid, y: usize) -> [u64; sheet::FIGURE]
     requires { ⌜ Held (now file) sections × (t < sections .technologies) × (y < sections .years) ⌝ }
     requires { ⌜ (bid .days ≤ longYear) × (bid .capacity ≤ largestCapacity) ⌝ }
     ensures { λ r. ⌜ r ≡ figuresIn (roundIn (now (file .entry)) sections) t (bidShown bid) y ⌝ }
 {
-    let year_recs = parts::years(file, sections);
-    let recs = parts::technologies(file, sections);
-    let years = sections.years;
-    let hours = hours(y, bid.year, bid.days, year::days(year_recs, y));
-    let energy = energy(technology::load(recs, years, t, y), hours, bid.capacity);
-    let share = share(year::tlm(year_recs, y), technology::rqm(recs, years, t));
-    [technology::reference(recs, years, t, y), energy, share]
+    let of = Factors::of(file, sections, t, bid, y);
+    [of.reference, of.energy(), of.share()]
 }

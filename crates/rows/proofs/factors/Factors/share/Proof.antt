@@ -1,13 +1,15 @@
--- `rows::share` meets its contract: the product is bounded.
-use borrow.Author.Needs.{needs}
+-- `rows::factors::Factors::share` meets its contract: the product is bounded.
+use native.Mathlib.Nat.{mul-le-mul}
 use native.Mathlib.Omega.{arith}
-use Rattle.rows.proofs.Laws.{share-most}
-use Rattle.rows.proofs.share.Statement.{statement}
-use Rattle.rows.proofs.share.Tie as tie
+use mathlib.Core.Path.{refl}
+use Rattle.rows.proofs.factors.Factors.share.Statement.{statement}
+use Rattle.rows.proofs.factors.Factors.share.Tie as tie
 
 mul-result : tie.Need-mul-result
-mul-result c = omega (arith, share-most (c .args .tlm) (c .pre .1))
+mul-result c = omega (arith, mul-le-mul (c .before .pre .kept-most) (c .before .pre .rqm-most))
+
+returns : tie.Need-returns
+returns c = (refl, mul-le-mul (c .before .pre .kept-most) (c .before .pre .rqm-most))
 
 pub share-spec : {M : Type 1} → statement M
-share-spec =
-    tie.close (tie.spec (λ c. search needs) mul-result (λ c. search needs))
+share-spec = tie.close (tie.spec mul-result returns)
