@@ -1,2 +1,5 @@
 pub mod Ranges
+pub mod Scales
+pub mod Wide
+pub mod Lines
 pub mod Laws

@@ -1,14 +1,37 @@
-// The value of one bid in one year, in whole pounds: the exact cost, 10^17 parts to the pound, rounded up once.
+// The value of one bid in one year, in whole pounds, as a bookkeeper works it by pencil: the whole product, 10^17 parts to the pound, and below
+// it a line for each scale, which divides the line above and rounds up. That this rounds the exact cost up once is `Scales.lined`.
+pub mod wide;
+
+use wide::Wide;
 ghost use mathlib.Core.Path.{_≡_};
 ghost use Prim.Native.Nat.{_-_, _*_, _≤_, min};
 ghost use Rattle.rules.specs.Names.{highestPrice};
-ghost use Rattle.rules.specs.Value.{ceilDiv, pound, mostShare, dearest};
+ghost use Rattle.rules.specs.Value.{ceilDiv, pound, dearest};
 ghost use Rattle.value.specs.Ranges.{InRange};
+ghost use Rattle.value.specs.Lines.{Worked};
 
-// The columns in which a product of up to 28 digits is taken: 10^9 units to the upper one, of which 10^8 make a pound.
-const COLUMN: u64 = 1000000000;
+// "factors taken at their scales": so many units make a pound a MWh, a MW, one.
+pub const PRICE_SCALE: u64 = 1000;
 
-const POUND: u64 = 100000000;
+pub const LOAD_SCALE: u64 = 10000;
+
+pub const CAPACITY_SCALE: u64 = 100;
+
+pub const TLM_SCALE: u64 = 10000;
+
+pub const RQM_SCALE: u64 = 10000;
+
+// A valuation line by line: price less reference, the product, a line for each scale, and the value.
+pub struct Valuation {
+    pub margin: u64,
+    pub product: Wide,
+    pub by_price: Wide,
+    pub by_load: Wide,
+    pub by_capacity: Wide,
+    pub by_tlm: Wide,
+    pub by_rqm: Wide,
+    pub value: u64,
+}
 
 // Price less reference, which may fall below zero; it then counts as zero.
 pub fn margin(price: u64, reference: u64) -> u64
@@ -19,16 +42,6 @@ pub fn margin(price: u64, reference: u64) -> u64
     if d < 0 { 0 } else { d as u64 }
 }
 
-// parts * share in whole pounds, rounded up once: what is over in the lower column counts as one more in the upper.
-pub fn pounds(parts: u64, share: u64) -> u64
-    requires { ⌜ share ≤ mostShare ⌝ }
-    ensures { λ r. ⌜ r ≡ ceilDiv (parts * share) pound ⌝ }
-{
-    let high = parts / COLUMN * share;
-    let low = (parts % COLUMN * share + (COLUMN - 1)) / COLUMN;
-    (high + low + (POUND - 1)) / POUND
-}
-
 // The clearing price, capped at the administrative price.
 pub fn capped(price: u64, admin: u64) -> u64
     ensures { λ r. ⌜ r ≡ min price admin ⌝ }
@@ -36,12 +49,37 @@ pub fn capped(price: u64, admin: u64) -> u64
     if price < admin { price } else { admin }
 }
 
-// The value of a bid in a year, where energy is load factor × hours × capacity and share is (1 − TLM) × RQM.
+impl Valuation {
+    // Of a bid in a year, where energy is load factor × hours × capacity and share is (1 − TLM) × RQM.
+    pub fn of(price: u64, reference: u64, energy: u64, share: u64) -> Self
+        requires { ⌜ InRange price reference energy share ⌝ }
+        ensures { λ r. ⌜ Worked price reference energy share r ⌝ }
+    {
+        let margin = margin(price, reference);
+        let product = Wide::product(margin * energy, share);
+        let by_price = product.over(PRICE_SCALE);
+        let by_load = by_price.over(LOAD_SCALE);
+        let by_capacity = by_load.over(CAPACITY_SCALE);
+        let by_tlm = by_capacity.over(TLM_SCALE);
+        let by_rqm = by_tlm.over(RQM_SCALE);
+        Self {
+            margin,
+            product,
+            by_price,
+            by_load,
+            by_capacity,
+            by_tlm,
+            by_rqm,
+            value: by_rqm.number(),
+        }
+    }
+}
+
+// The value of a bid in a year: the last line.
 pub fn value(price: u64, reference: u64, energy: u64, share: u64) -> u64
     requires { ⌜ InRange price reference energy share ⌝ }
     ensures { λ r. ⌜ (r ≡ ceilDiv ((price - reference) * energy * share) pound) × (r ≤ dearest) ⌝ }
 {
-    let over = margin(price, reference);
-    let parts = over * energy;
-    pounds(parts, share)
+    let worked = Valuation::of(price, reference, energy, share);
+    worked.value
 }
