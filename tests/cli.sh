@@ -61,8 +61,8 @@ technologies='1 0 10000 4:20000 4:0 10000 4:0 4:0 10000'
 applications='1 0 0 365 0 4:100 8:0'
 bid='0 0 365 4:100'
 
-refuses() { # LINE WHOSE: both commands on the file that was made
-    for command in clear show; do
+refuses() { # LINE WHOSE: every command on the file that was made
+    for command in clear show value; do
         run "$command" "$room/round"
         refused "$1" "$2"
         check "$command: $1, $2" $?
@@ -96,6 +96,51 @@ run show examples/round-5.round
 [ "$ended" -eq 0 ] && [ ! -s "$room/err" ] && [ "$(grep -c '^  bid ' "$room/out")" -eq "$(grep -c '^bid ' examples/round-5.listing)" ]
 check 'show examples/round-5.round has every bid' $?
 
+# ---- the valuation
+
+run value examples/valuation.round
+gave crates/pencil/stdout
+check 'value examples/valuation.round' $?
+
+# What docs/VALUATION.md works through are the lines of bids 0 to 4, each in its start year.
+for worked in 0:0 1:0 2:0 3:0 4:1; do
+    run value "${worked%:*}" examples/valuation.round
+    [ "$ended" -eq 0 ] && [ "$(head -n 1 "$room/out")" = "bid ${worked%:*}" ] || ended=1
+    awk -v year="year ${worked#*:}" '/^year / { on = $0 == year } on' "$room/out" >>"$room/lines"
+done
+awk '/^```$/ { on = !on; next } on' docs/VALUATION.md | cmp -s - "$room/lines" && [ "$ended" -eq 0 ] && [ "$(wc -l <"$room/lines")" -eq 80 ]
+check 'the lines of V1 to V5 in docs/VALUATION.md' $?
+
+for number in 5 256 65535 65536 99999 100000; do
+    run value "$number" examples/valuation.round
+    declined
+    check "value $number: no such bid" $?
+done
+
+for word in x 1x -1 ''; do
+    run value "$word" examples/valuation.round
+    declined
+    check "value '$word': no number" $?
+done
+
+run value 4 examples/refused.round
+refused 'refused 7 at 206' 'bid 6'
+check 'value of a bid of a refused file' $?
+
+run value 1 - <examples/valuation.round
+cp "$room/out" "$room/piped"
+run value 1 examples/valuation.round
+gave "$room/piped"
+check 'value of a bid of a file on standard input' $?
+
+run clear - <examples/round-a.round
+gave examples/round-a.listing
+check 'clear of a file on standard input' $?
+
+run clear - <examples/refused.round
+refused 'refused 7 at 206' 'bid 6'
+check 'clear of a refused file on standard input' $?
+
 root=$(pwd -P)
 (cd "$room" && "$root/gustmirror" clear "$root/examples/round-a.round" >out 2>err)
 ended=$?
@@ -110,6 +155,11 @@ check 'clear, called from another folder' $?
     run show "$room/round"
     [ "$ended" -eq 0 ] && grep -q '^  1     365   valuation  0.0000$' "$room/out"
     check 'the file that the refused ones vary is accepted' $?
+
+    round $years $pots $technologies $applications 0
+    run value "$room/round"
+    gave /dev/null
+    check 'value of a file without bids' $?
 
     : >"$room/round"
     refuses 'refused 1 at 0' 'the count of years'
@@ -170,6 +220,14 @@ check 'no file' $?
 run clear examples/round-a.round examples/round-5.round
 declined
 check 'two files' $?
+
+run value 1 2 examples/round-a.round
+declined
+check 'two bids' $?
+
+run value
+declined
+check 'value of no file' $?
 
 run settle examples/round-a.round
 declined

@@ -23,9 +23,14 @@ link() {
         || { cat target/link.log; return 1; }
 }
 
-# run PROGRAM [WORDS...]
+# run PROGRAM [WORDS...]. The emulator is told to be a processor without ERMS: the C library clears memory by `rep stosb` on one that has it, and the
+# emulator takes that byte by byte.
 run() {
     emulator=$tools/bin/qemu-x86_64
-    [ -x "$emulator" ] || emulator=
-    $emulator "$tools/lib/ld-linux-x86-64.so.2" --library-path "$tools/lib" "$@"
+    if [ -x "$emulator" ]; then
+        set -- "$emulator" -cpu max,-erms "$tools/lib/ld-linux-x86-64.so.2" --library-path "$tools/lib" "$@"
+    else
+        set -- "$tools/lib/ld-linux-x86-64.so.2" --library-path "$tools/lib" "$@"
+    fi
+    "$@"
 }

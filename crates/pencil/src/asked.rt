@@ -1,0 +1,29 @@
+// The number of the bid that is asked for.
+const ZERO: u8 = 48;
+
+const NINE: u8 = 57;
+
+// The number that a word of decimal digits writes. A word of anything else, or of a number too large for a bid, is answered by a number that
+// no bid has.
+pub fn number(word: &[u8]) -> usize {
+    if word.len() == 0 {
+        return names::NUMBERS;
+    }
+    let mut n: usize = 0;
+    let mut i: usize = 0;
+    while i < word.len() {
+        let digit = word[i];
+        if digit < ZERO {
+            return names::NUMBERS;
+        }
+        if digit > NINE {
+            return names::NUMBERS;
+        }
+        n = 10 * n + (digit - ZERO) as usize;
+        if n > names::NUMBERS {
+            return names::NUMBERS;
+        }
+        i += 1;
+    }
+    n
+}
