@@ -1,7 +1,4 @@
 // The number of the bid that is asked for.
-const ZERO: u8 = 48;
-
-const NINE: u8 = 57;
 
 // The number that a word of decimal digits writes. A word of anything else, or of a number too large for a bid, is answered by a number that
 // no bid has.
@@ -13,13 +10,13 @@ pub fn number(word: &[u8]) -> usize {
     let mut i: usize = 0;
     while i < word.len() {
         let digit = word[i];
-        if digit < ZERO {
+        if digit < b'0' {
             return names::NUMBERS;
         }
-        if digit > NINE {
+        if digit > b'9' {
             return names::NUMBERS;
         }
-        n = 10 * n + (digit - ZERO) as usize;
+        n = 10 * n + (digit - b'0') as usize;
         if n > names::NUMBERS {
             return names::NUMBERS;
         }

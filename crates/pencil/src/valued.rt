@@ -18,8 +18,6 @@ const GROUP: usize = 3;
 
 const PLACES: usize = 38;
 
-const ZERO: u8 = 48;
-
 // A number at the end of its line.
 fn grouped(n: Wide) -> [u8; PLACES] {
     let mut text = [b' '; PLACES];
@@ -30,7 +28,7 @@ fn grouped(n: Wide) -> [u8; PLACES] {
     let mut i: usize = 0;
     while i < DIGITS {
         at -= 1;
-        text[at] = ZERO + (lower % 10) as u8;
+        text[at] = b'0' + (lower % 10) as u8;
         lower = upper % 10 * (COLUMN / 10) + lower / 10;
         upper /= 10;
         if upper == 0 && lower == 0 {
