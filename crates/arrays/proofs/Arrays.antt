@@ -8,8 +8,9 @@ use native.Mathlib.Numerals.{add-one}
 use native.Mathlib.Omega.{arith}
 use lib.ListN.{length, getD, set, replicate, length-set}
 use lib.Seq.{getD-set-same, getD-set-other}
-use lib.Dec.{eqb}
-use borrow.Author.Tests.{eqb-true, eqb-false, eq-eqb, ne-eqb}
+use native.Mathlib.Decide.{decLt}
+use lib.Dec.{eqb, ltb}
+use borrow.Author.Tests.{eqb-true, eqb-false, eq-eqb, ne-eqb, lt-ltb, le-ltb}
 use Rattle.rules.specs.Names.{mostNumbers}
 use Rattle.rules.specs.Lists.{pick, memb, sift, below}
 use Rattle.laws_pot.specs.Lists.{case, clash, memb-in, in-memb, in-sift, sift-in, sift-same, in-below, below-in}
@@ -57,6 +58,15 @@ pub fill-rest : {A : Type 0} (l : List A) (f : ℕ → A) (n k : ℕ) (d : A) �
 unfolding fill
 fill-rest l f zero k d h = refl
 fill-rest l f (suc n) k d h = getD-set-other (fill l f n) n k (f n) d (λ e. omega arith) ∙ fill-rest l f n k d (omega arith)
+
+-- every place of a blank array of which the first n are filled
+pub fill-each : {A : Type 0} (l : List A) (f g : ℕ → A) (n : ℕ) (d : A) → n ≤ length l → ((k : ℕ) → getD l k d ≡ d) → ((k : ℕ) → k < n → f k ≡ g k)
+    → (k : ℕ) → getD (fill l f n) k d ≡ pick (ltb k n) (g k) d
+fill-each l f g n d h e q k =
+    elim (decLt k n) [
+      | yes y ↦ rw (lt-ltb k n y) (fill-at l f n k d h y ∙ q k y)
+      | no z ↦ rw (le-ltb k n (omega (arith, z))) (fill-rest l f n k d (omega (arith, z)) ∙ e k)
+    ]
 
 set-same : {A : Type 0} (l : List A) (i : ℕ) (d : A) → i < length l → l ≡ set l i (getD l i d)
 set-same [] i d h = absurd (omega arith)
@@ -114,10 +124,17 @@ fill-le l f q (suc n) i h b s =
     rw (put-is (fill l f n) n i (f n) 0 (omega (arith, fill-length l f n)))
     (case (eqb i n) (λ t. rw t (b n (omega arith))) (λ g. rw g (fill-le l f q n i (omega arith) (λ j k. b j (omega arith)) s)))
 
+-- a repeated value, by what is read of it, past its end too
+pub same-at : {A B : Type 0} (f : A → B) (n i : ℕ) (v d : A) → f v ≡ f d → f (getD (replicate n v) i d) ≡ f d
+same-at f zero i v d e = refl
+same-at f (suc n) zero v d e = e
+same-at f (suc n) (suc i) v d e = same-at f n i v d e
+
+pub repeated : {A : Type 0} (n i : ℕ) (v : A) → getD (replicate n v) i v ≡ v
+repeated n i v = same-at (λ x. x) n i v v refl
+
 pub zeros : (n i : ℕ) → _≡_ {A = ℕ} (getD (replicate n 0) i 0) 0
-zeros zero i = refl
-zeros (suc n) zero = refl
-zeros (suc n) (suc i) = zeros n i
+zeros n i = repeated n i 0
 
 -- fewer places, fewer members
 pub members-less : (l : List Bool) (n m : ℕ) → n ≤ m → length (members l n) ≤ length (members l m)

@@ -18,7 +18,7 @@ use Rattle.laws_pot.specs.Lists.{case, clash, In, here, memb-in, sift-in, sift-
 use Rattle.sheet.specs.declared.Size.{Size}
 use Rattle.sheet.specs.Sheet.{rowApp, rowYear, rowAdmin, rowPrice, inAuction, entrants, potIn, Ready}
 use Rattle.sheet.proofs.Entrants.{entrant-small}
-use Rattle.arrays.proofs.Arrays.{at-start}
+use Rattle.arrays.proofs.Arrays.{at-start, fill-each, repeated}
 use Rattle.totals.specs.Totals.{totalOf, filled, rowFits, autoTotal}
 use Rattle.totals.proofs.Link as link
 use Rattle.ties.proofs.Sums.{price-won}
@@ -30,7 +30,7 @@ use Rattle.pot.proofs.Link as held
 use Rattle.auction.specs.declared.End.{End}
 use Rattle.auction.specs.Cleared.{Numbered, ClearedAs, EndedAs}
 use Rattle.auction.specs.Numbers.{reasonBy, reasonAt, reasonsOf, winningOf, atAdmin, bidBy, toldBy, noApps, appsOf, flatOf, soldOf}
-use Rattle.auction.proofs.Places.{fill-each, repeated, row-each, reasons-at, bidOr, wonFor, winning-at}
+use Rattle.auction.proofs.Places.{row-each, reasons-at, bidOr, wonFor, winning-at}
 
 module _ (sheet : List ℕ) (of : Size) (ok : Ready sheet of) where
   abbrev P : Pot

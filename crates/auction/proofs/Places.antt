@@ -12,32 +12,9 @@ use Rattle.rules.specs.Names.{mostNumbers, mostApps, noBid, noReason, becauseWo
 use Rattle.rules.specs.Lists.{pick, memb, sift, below}
 use Rattle.laws_pot.specs.Lists.{case}
 use Rattle.sheet.specs.Sheet.{rowApp, entrantAt, entrants}
-use Rattle.arrays.specs.Sets.{fill}
-use Rattle.arrays.proofs.Arrays.{eqb-sym, put-is, at-start, fill-length, fill-at, zeros}
+use Rattle.arrays.proofs.Arrays.{eqb-sym, put-is, at-start, fill-each, zeros}
 use Rattle.totals.specs.Totals.{noRow, filled}
 use Rattle.auction.specs.Numbers.{reasonAt, noReasons, reasonsOf, winningOf}
-
--- the places of an array that was filled: those past the last are as they were
-pub fill-past : {A : Type 0} (l : List A) (f : ℕ → A) (n k : ℕ) (d : A) → n ≤ length l → n ≤ k → getD (fill l f n) k d ≡ getD l k d
-unfolding fill
-fill-past l f zero k d h g = refl
-fill-past l f (suc n) k d h g =
-    put-is (fill l f n) n k (f n) d (omega (arith, fill-length l f n))
-    ∙ rw (ne-eqb k n (λ e. omega arith)) (fill-past l f n k d (omega arith) (omega arith))
-
-pub fill-each : {A : Type 0} (l : List A) (f g : ℕ → A) (n : ℕ) (d : A) → n ≤ length l → ((k : ℕ) → getD l k d ≡ d) → ((k : ℕ) → k < n → f k ≡ g k)
-    → (k : ℕ) → getD (fill l f n) k d ≡ pick (ltb k n) (g k) d
-fill-each l f g n d h e q k =
-    elim (decLt k n) [
-      | yes y ↦ rw (lt-ltb k n y) (fill-at l f n k d h y ∙ q k y)
-      | no z ↦ rw (le-ltb k n (omega (arith, z))) (fill-past l f n k d h (omega (arith, z)) ∙ e k)
-    ]
-
--- a repeated value, past its end too
-pub repeated : {A : Type 0} (n k : ℕ) (v : A) → getD (replicate n v) k v ≡ v
-repeated zero k v = refl
-repeated (suc n) zero v = refl
-repeated (suc n) (suc k) v = repeated n k v
 
 -- a row of totals
 pub row-each : (f g : ℕ → ℕ) (n : ℕ) → n ≤ 8 → ((y : ℕ) → y < n → f y ≡ g y) → (y : ℕ) → getD (filled f n) y 0 ≡ pick (ltb y n) (g y) 0

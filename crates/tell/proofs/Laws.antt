@@ -7,7 +7,7 @@ use native.Mathlib.Decide.{decLt}
 use native.Mathlib.Numerals.{add-one}
 use native.Mathlib.Omega.{arith}
 use lib.Dec.{eqb, ltb}
-use lib.ListN.{length, getD, set, replicate, length-set}
+use lib.ListN.{length, getD, set, length-set}
 use borrow.Author.Tests.{eqb-true, eqb-false, eq-eqb, ne-eqb, lt-ltb, le-ltb}
 use Rattle.rules.specs.Lists.{pick}
 use Rattle.laws_pot.specs.Lists.{case}
@@ -87,9 +87,3 @@ column-more p n own pot X mine old d long its new before a =
           let g : n ≤ a = omega (arith, z) in
           rw (le-ltb a n g) (merged-past own mine old d n a long g ∙ (rw (le-ltb a n g) at (before a)))
     ]
-
--- a repeated value, by what is read of it
-pub same-at : {A B : Type 0} (f : A → B) (n q : ℕ) (x d : A) → f x ≡ f d → f (getD (replicate n x) q d) ≡ f d
-same-at f zero q x d e = refl
-same-at f (suc n) zero x d e = e
-same-at f (suc n) (suc q) x d e = same-at f n q x d e

@@ -19,7 +19,7 @@ use Rattle.laws_reading.specs.Reading.{Sound, tech-pot, app-tech, bid-app}
 use Rattle.laws_round.specs.Bids.{appPot, bidPot, mine-own, mine-auto, bid-own}
 use Rattle.sheet.specs.declared.Size.{Size}
 use Rattle.sheet.specs.Sheet.{rowStanding, absent, inAuction, inTest, potIn}
-use Rattle.arrays.proofs.Arrays.{put-is, memb-sift}
+use Rattle.arrays.proofs.Arrays.{put-is, memb-sift, same-at}
 use Rattle.fill.specs.Fill.{sizeOf}
 use Rattle.auction.specs.declared.Cleared.{Cleared}
 use Rattle.auction.specs.Cleared.{Numbered, ClearedAs}
@@ -27,7 +27,7 @@ use Rattle.result.specs.declared.PotTold.{PotTold}
 use Rattle.result.specs.declared.Tellings.{Tellings}
 use Rattle.result.specs.Tells.{untold, noPot, Tells}
 use Rattle.tell.specs.ToldTo.{ToldTo, stands, toldWith}
-use Rattle.tell.proofs.Laws.{merged-length, told-more, column-more, same-at}
+use Rattle.tell.proofs.Laws.{merged-length, told-more, column-more}
 
 -- ---- the sheet of pot p tells which applications and bids are its own
 
