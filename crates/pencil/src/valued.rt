@@ -5,7 +5,6 @@ use rules::Sections;
 use text::field;
 use text::word;
 use value::Valuation;
-use value::wide::COLUMN;
 use value::wide::Wide;
 ghost use Prim.Native.Nat.{_<_};
 ghost use Rattle.rows.specs.Rows.{Held};
@@ -18,18 +17,19 @@ const GROUP: usize = 3;
 
 const PLACES: usize = 38;
 
-// A number at the end of its line.
+// A number at the end of its line. A tenth of it is a tenth of the upper column, and what that leaves over goes into the lower one.
 fn grouped(n: Wide) -> [u8; PLACES] {
     let mut text = [b' '; PLACES];
     let mut at: usize = PLACES - 1;
     text[at] = b'\n';
+    let tenth = n.column / 10;
     let mut upper = n.upper;
     let mut lower = n.lower;
     let mut i: usize = 0;
     while i < DIGITS {
         at -= 1;
         text[at] = b'0' + (lower % 10) as u8;
-        lower = upper % 10 * (COLUMN / 10) + lower / 10;
+        lower = upper % 10 * tenth + lower / 10;
         upper /= 10;
         if upper == 0 && lower == 0 {
             return text;
@@ -49,10 +49,12 @@ fn wide(name: &[u8], n: Wide) {
     word(&text);
 }
 
+// A number whose upper column is empty.
 fn line(name: &[u8], n: u64) {
     let n = Wide {
-        upper: n / COLUMN,
-        lower: n % COLUMN,
+        upper: 0,
+        column: 10,
+        lower: n,
     };
     wide(name, n);
 }
@@ -71,10 +73,10 @@ fn lines(of: Valuation) {
     wide(b"  product                   ", of.product);
     wide(b"  over 1,000: price         ", of.by_price);
     wide(b"  over 10,000: load factor  ", of.by_load);
-    wide(b"  over 100: capacity        ", of.by_capacity);
-    wide(b"  over 10,000: 1 - TLM      ", of.by_tlm);
-    wide(b"  over 10,000: RQM          ", of.by_rqm);
-    line(b"  value                     ", of.value);
+    line(b"  over 100: capacity        ", of.by_capacity);
+    line(b"  over 10,000: 1 - TLM      ", of.by_tlm);
+    line(b"  over 10,000: RQM          ", of.by_rqm);
+    line(b"  value                     ", of.by_rqm);
 }
 
 // A bid of technology t in year y.

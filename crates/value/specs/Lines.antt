@@ -3,18 +3,17 @@ use mathlib.Core.Path.{_≡_}
 use Prim.Native.Nat.{ℕ, _-_, _*_, _≤_}
 use Rattle.rules.specs.Value.{ceilDiv, pound, dearest}
 use Rattle.value.specs.Scales.{priceScale, loadScale, capacityScale, tlmScale, rqmScale}
-use Rattle.value.specs.Wide.{numberOf, Is}
+use Rattle.value.specs.Wide.{numberOf}
 use Rattle.value.specs.declared.Valuation.{Valuation}
 
 pub record Worked (price reference energy share : ℕ) (v : Valuation) : Type 0 where
   pub margin-is : v .margin ≡ price - reference
-  pub product-is : Is (v .product) ((price - reference) * energy * share)
-  pub price-line : Is (v .«by_price») (ceilDiv (numberOf (v .product)) priceScale)
-  pub load-line : Is (v .«by_load») (ceilDiv (numberOf (v .«by_price»)) loadScale)
-  pub capacity-line : Is (v .«by_capacity») (ceilDiv (numberOf (v .«by_load»)) capacityScale)
-  pub tlm-line : Is (v .«by_tlm») (ceilDiv (numberOf (v .«by_capacity»)) tlmScale)
-  pub rqm-line : Is (v .«by_rqm») (ceilDiv (numberOf (v .«by_tlm»)) rqmScale)
-  pub value-line : v .value ≡ numberOf (v .«by_rqm»)
-  -- the exact cost, rounded up once
-  pub once : v .value ≡ ceilDiv ((price - reference) * energy * share) pound
-  pub small : v .value ≤ dearest
+  pub product-is : numberOf (v .product) ≡ (price - reference) * energy * share
+  pub price-line : numberOf (v .«by_price») ≡ ceilDiv (numberOf (v .product)) priceScale
+  pub load-line : numberOf (v .«by_load») ≡ ceilDiv (numberOf (v .«by_price»)) loadScale
+  pub capacity-line : v .«by_capacity» ≡ ceilDiv (numberOf (v .«by_load»)) capacityScale
+  pub tlm-line : v .«by_tlm» ≡ ceilDiv (v .«by_capacity») tlmScale
+  pub rqm-line : v .«by_rqm» ≡ ceilDiv (v .«by_tlm») rqmScale
+  -- which is the exact cost, rounded up once
+  pub once : v .«by_rqm» ≡ ceilDiv ((price - reference) * energy * share) pound
+  pub small : v .«by_rqm» ≤ dearest

@@ -21,16 +21,16 @@ pub const TLM_SCALE: u64 = 10000;
 
 pub const RQM_SCALE: u64 = 10000;
 
-// A valuation line by line: price less reference, the product, a line for each scale, and the value.
+// A valuation line by line: price less reference, the product, and a line for each scale, of which the last is the value. From the third the
+// numbers fit one column.
 pub struct Valuation {
     pub margin: u64,
     pub product: Wide,
     pub by_price: Wide,
     pub by_load: Wide,
-    pub by_capacity: Wide,
-    pub by_tlm: Wide,
-    pub by_rqm: Wide,
-    pub value: u64,
+    pub by_capacity: u64,
+    pub by_tlm: u64,
+    pub by_rqm: u64,
 }
 
 // Price less reference, which may fall below zero; it then counts as zero.
@@ -59,9 +59,9 @@ impl Valuation {
         let product = Wide::product(margin * energy, share);
         let by_price = product.over(PRICE_SCALE);
         let by_load = by_price.over(LOAD_SCALE);
-        let by_capacity = by_load.over(CAPACITY_SCALE);
-        let by_tlm = by_capacity.over(TLM_SCALE);
-        let by_rqm = by_tlm.over(RQM_SCALE);
+        let by_capacity = by_load.over(CAPACITY_SCALE).number();
+        let by_tlm = wide::over(by_capacity, TLM_SCALE);
+        let by_rqm = wide::over(by_tlm, RQM_SCALE);
         Self {
             margin,
             product,
@@ -70,7 +70,6 @@ impl Valuation {
             by_capacity,
             by_tlm,
             by_rqm,
-            value: by_rqm.number(),
         }
     }
 }
@@ -81,5 +80,5 @@ pub fn value(price: u64, reference: u64, energy: u64, share: u64) -> u64
     ensures { λ r. ⌜ (r ≡ ceilDiv ((price - reference) * energy * share) pound) × (r ≤ dearest) ⌝ }
 {
     let worked = Valuation::of(price, reference, energy, share);
-    worked.value
+    worked.by_rqm
 }

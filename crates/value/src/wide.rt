@@ -1,50 +1,57 @@
-// A number of up to 28 digits, in two columns.
+// A number of up to 28 digits, in two columns, and its lines of division.
 ghost use mathlib.Core.Path.{_≡_};
-ghost use Prim.Native.Nat.{_*_, _≤_, _<_};
-ghost use Rattle.rules.specs.Value.{ceilDiv, mostShare, dearest};
+ghost use Prim.Native.Nat.{_*_, _%_, _^_, _≤_, _<_};
+ghost use Rattle.rules.specs.Value.{ceilDiv, mostShare};
 ghost use Rattle.value.specs.Scales.{widest};
-ghost use Rattle.value.specs.Wide.{column, numberOf, Is};
+ghost use Rattle.value.specs.Wide.{mostLower, numberOf, Product, Over};
 
-// How many units of the lower column make one of the upper.
-pub const COLUMN: u64 = 1000000000;
+// The upper column counts units of 10^9, the scales of price, load factor and capacity together: after their lines it counts ones.
+const COLUMN: u64 = 1000000000;
 
-// The lower column is at most full.
 pub struct Wide {
     pub upper: u64,
+    // how many units of the lower column make one of the upper
+    pub column: u64,
     pub lower: u64,
+}
+
+// One line: over a scale, rounded up.
+pub fn over(n: u64, scale: u64) -> u64
+    requires { ⌜ (0 < scale) × (scale ≤ widest) × (n < 2 ^ 63) ⌝ }
+    ensures { λ r. ⌜ r ≡ ceilDiv n scale ⌝ }
+{
+    (n + (scale - 1)) / scale
 }
 
 impl Wide {
     pub fn product(parts: u64, share: u64) -> Self
         requires { ⌜ share ≤ mostShare ⌝ }
-        ensures { λ r. ⌜ Is r (parts * share) ⌝ }
+        ensures { λ r. ⌜ Product parts share r ⌝ }
     {
-        let low = parts % COLUMN * share;
         Self {
-            upper: parts / COLUMN * share + low / COLUMN,
-            lower: low % COLUMN,
+            upper: parts / COLUMN * share,
+            column: COLUMN,
+            lower: parts % COLUMN * share,
         }
     }
 
-    // One line: over a scale, rounded up. What the upper column leaves over goes into the lower one.
+    // One line: over a scale, rounded up. The units of the upper column get smaller by the scale, and so the lower alone is divided.
     pub fn over(self, scale: u64) -> Self
-        requires { ⌜ (0 < scale) × (scale ≤ widest) × (self .lower ≤ column) ⌝ }
-        ensures { λ r. ⌜ Is r (ceilDiv (numberOf self) scale) ⌝ }
+        requires { ⌜ (0 < scale) × (scale ≤ widest) × (self .column % scale ≡ 0) × (self .lower ≤ mostLower) ⌝ }
+        ensures { λ r. ⌜ Over self scale r ⌝ }
     {
-        let upper = self.upper;
-        let lower = self.lower;
-        let rest = upper % scale * COLUMN + lower;
         Self {
-            upper: upper / scale,
-            lower: (rest + (scale - 1)) / scale,
+            upper: self.upper,
+            column: self.column / scale,
+            lower: over(self.lower, scale),
         }
     }
 
     // In one column.
     pub fn number(self) -> u64
-        requires { ⌜ numberOf self ≤ dearest ⌝ }
+        requires { ⌜ numberOf self < 2 ^ 64 ⌝ }
         ensures { λ r. ⌜ r ≡ numberOf self ⌝ }
     {
-        self.upper * COLUMN + self.lower
+        self.upper * self.column + self.lower
     }
 }

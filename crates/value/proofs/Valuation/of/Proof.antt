@@ -1,13 +1,13 @@
 -- `value::Valuation::of` meets its contract: the product fits by the ranges, and five lines that round up are one rounding.
 use borrow.Author.Needs.{needs}
-use mathlib.Core.Path.{_≡_, ap, _∙_}
+use mathlib.Core.Path.{_≡_, refl, sym, ap, _∙_}
 use Prim.Native.Nat.{ℕ, _-_, _*_, _≤_}
 use native.Mathlib.Nat.{mul-le-mul}
 use native.Mathlib.Omega.{arith}
 use mir.Facts.{fits-below}
 use Rattle.rules.specs.Names.{highestPrice}
-use Rattle.rules.specs.Value.{ceilDiv, pound}
-use Rattle.value.specs.Scales.{lined}
+use Rattle.rules.specs.Value.{ceilDiv, pound, dearest}
+use Rattle.value.specs.Scales.{tlmScale, rqmScale, lined}
 use Rattle.value.specs.Wide.{numberOf}
 use Rattle.value.specs.Laws.{at-most}
 use Rattle.value.proofs.Valuation.of.Statement.{statement}
@@ -19,41 +19,67 @@ over-ok c = omega (arith, c .before .pre .price-ok)
 mul-product : tie.Need-mul-product
 mul-product c = fits-below tt (mul-le-mul (over-ok c) (c .before .pre .energy-ok))
 
-module _ (c : tie.After-over5) where
+over-requires : tie.Need-over-requires
+over-requires c κs = (omega arith, omega arith, omega (arith, c .product .ensures .columned), c .product .ensures .low)
+
+over-requires-2 : tie.Need-over-requires-2
+over-requires-2 c κs =
+    let product = c .before .product .ensures in
+    (omega arith, omega arith, omega (arith, product .columned, c .over .ensures .columned), omega (arith, product .low, c .over .ensures .low))
+
+over-requires-3 : tie.Need-over-requires-3
+over-requires-3 c κs =
+    let product = c .before .before .product .ensures in
+    let price = c .before .over .ensures in
+    let load = c .over2 .ensures in
+    (omega arith, omega arith, omega (arith, product .columned, price .columned, load .columned), omega (arith, product .low, price .low, load .low))
+
+module _ (c : tie.After-over3) where
   abbrev start : tie.Start
-  start = c .before .before .before .before .before .before .before
+  start = c .before .before .before .before .before
 
   abbrev exact : ℕ
   exact = (start .args .price - start .args .reference) * start .args .energy * start .args .share
 
-  product-is : numberOf (c .before .before .before .before .before .product .result) ≡ exact
+  product-is : numberOf (c .before .before .before .product .result) ≡ exact
   product-is =
-      let product = c .before .before .before .before .before .product .ensures .is in
-      product ∙ ap (λ (x : ℕ). x * start .args .energy * start .args .share) (c .before .before .before .before .before .before .margin .ensures)
+      let product = c .before .before .before .product .ensures .is in
+      product ∙ ap (λ (x : ℕ). x * start .args .energy * start .args .share) (c .before .before .before .before .margin .ensures)
 
-  once : numberOf (c .over5 .result) ≡ ceilDiv exact pound
-  once = rw (← product-is) (lined _ (c .before .before .before .before .over .ensures .is) (c .before .before .before .over2 .ensures .is)
-      (c .before .before .over3 .ensures .is) (c .before .over4 .ensures .is) (c .over5 .ensures .is))
+  -- the last two lines, below the number of the third
+  once : {tlm rqm : ℕ} → tlm ≡ ceilDiv (numberOf (c .over3 .result)) tlmScale → rqm ≡ ceilDiv tlm rqmScale → rqm ≡ ceilDiv exact pound
+  once t r = rw (← product-is) (lined _ (c .before .before .over .ensures .is) (c .before .over2 .ensures .is) (c .over3 .ensures .is) t r)
+
+  small : ceilDiv (ceilDiv (numberOf (c .over3 .result)) tlmScale) rqmScale ≤ dearest
+  small = rw (once refl refl) (at-most _ _ _ _ (start .pre))
 
 number-requires : tie.Need-number-requires
-number-requires c κs = rw (once c) (at-most _ _ _ _ (start c .pre))
+number-requires c κs = omega (arith, small c)
+
+over-requires-4 : tie.Need-over-requires-4
+over-requires-4 c κs = (omega arith, omega arith, omega (arith, small (c .before), c .number .ensures))
+
+over-requires-5 : tie.Need-over-requires-5
+over-requires-5 c κs = (omega arith, omega arith, omega (arith, small (c .before .before), c .before .number .ensures, c .over4 .ensures))
 
 returns : tie.Need-returns
 returns c =
-    let at = c .before in record {
-      margin-is = at .before .before .before .before .before .before .margin .ensures;
-      product-is = record { is = product-is at; full = at .before .before .before .before .before .product .ensures .full };
-      price-line = at .before .before .before .before .over .ensures;
-      load-line = at .before .before .before .over2 .ensures;
-      capacity-line = at .before .before .over3 .ensures;
-      tlm-line = at .before .over4 .ensures;
-      rqm-line = at .over5 .ensures;
-      value-line = c .number .ensures;
-      once = c .number .ensures ∙ once at;
-      small = rw (c .number .ensures, once at) (at-most _ _ _ _ (start at .pre));
+    let number = c .before .before .number .ensures in
+    let at = c .before .before .before in
+    let tlm = c .before .over4 .ensures in
+    let value = once at (tlm ∙ ap (λ (x : ℕ). ceilDiv x tlmScale) number) (c .over5 .ensures) in record {
+      margin-is = at .before .before .before .before .margin .ensures;
+      product-is = product-is at;
+      price-line = at .before .before .over .ensures .is;
+      load-line = at .before .over2 .ensures .is;
+      capacity-line = number ∙ at .over3 .ensures .is;
+      tlm-line = tlm;
+      rqm-line = c .over5 .ensures;
+      once = value;
+      small = rw value (at-most _ _ _ _ (start at .pre));
     }
 
 pub of-spec : {M : Type 1} → statement M
 of-spec =
-    tie.close (tie.spec (λ c κs. search needs) mul-product (λ c κs. search needs) (λ c κs. search needs) (λ c κs. search needs) (λ c κs. search needs)
-    (λ c κs. search needs) (λ c κs. search needs) number-requires returns)
+    tie.close (tie.spec (λ c κs. search needs) mul-product (λ c κs. search needs) over-requires over-requires-2 over-requires-3 number-requires
+    over-requires-4 over-requires-5 returns)

@@ -1,28 +1,24 @@
--- `value::wide::Wide::over` meets its contract: long division in two columns.
+-- `value::wide::Wide::over` meets its contract: the lower column alone is divided.
 use borrow.Author.Needs.{needs}
-use mathlib.Core.Path.{sym}
-use Prim.Native.Nat.{_%_, _<_}
-use native.Mathlib.Nat.{mod-lt}
+use mathlib.Core.Path.{refl, ap, _∙_}
+use Prim.Native.Nat.{ℕ, _+_, _*_, _/_}
 use native.Mathlib.Omega.{arith}
-use Rattle.value.specs.Wide.{columns, full-at-most}
+use Rattle.value.specs.Wide.{lower-alone, no-more}
 use Rattle.value.proofs.wide.Wide.over.Statement.{statement}
 use Rattle.value.proofs.wide.Wide.over.Tie as tie
 
-left : (c : tie.Start) → c .args .self .upper % c .args .scale < c .args .scale
-left c = mod-lt (c .args .self .upper) (c .pre .0)
-
-mul-rest : tie.Need-mul-rest
-mul-rest c = omega (arith, left c)
-
-add-rest : tie.Need-add-rest
-add-rest c = omega (arith, left c)
-
-add-t8 : tie.Need-add-t8
-add-t8 c = omega (arith, left c)
+over-requires : tie.Need-over-requires
+over-requires c κs = (c .before .pre .0, c .before .pre .1, omega (arith, c .before .pre .3))
 
 returns : tie.Need-returns
-returns c = record { is = sym (columns _ _ (c .pre .0)); full = full-at-most _ _ (c .pre .0) (c .pre .2) }
+returns c =
+    let pre = c .before .before .pre in
+    let w = c .before .before .args .self in
+    let d = c .before .before .args .scale in record {
+      is = ap (λ (x : ℕ). w .upper * (w .column / d) + x) (c .over .ensures) ∙ lower-alone (w .upper) (w .column) (w .lower) (pre .0) (pre .2);
+      columned = refl;
+      low = rw (c .over .ensures) (no-more (w .lower) (pre .0));
+    }
 
 pub over-spec : {M : Type 1} → statement M
-over-spec =
-    tie.close (tie.spec (λ c. search needs) mul-rest add-rest (λ c. search needs) (λ c. search needs) add-t8 (λ c. search needs) returns)
+over-spec = tie.close (tie.spec (λ c. search needs) over-requires returns)
