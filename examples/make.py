@@ -6,8 +6,8 @@ make.py --check    names those that are not what it would write; the exit status
 
 A file of tables holds the five sections of a round file, each with its records numbered as the listing numbers them, and the yearly
 figures of the technologies. A table is its name and columns in one line, then its rows, then a blank line; cells stand two spaces or
-more apart; a line that begins with # is a note. Prices are pounds per MWh, capacities MW, money pounds. A start is the name of a year,
-for its first day, or a date.
+more apart; a line that begins with # is a note. Prices are pounds per MWh, capacities MW, money pounds; the totals of a listing are pence.
+A start is the name of a year, for its first day, or a date.
 """
 import re
 import sys

@@ -3,8 +3,10 @@
 crates/readings: files of every fault at every kind of place, each with its reading: the counts, or the refusal's number and offset.
 crates/listings: the worked cases, pots that reach what chance seldom does, made rounds and damaged ones, each with its listing."""
 import collections
+import itertools
 import os
 import random
+import re
 import struct
 
 import making
@@ -107,7 +109,8 @@ def files():
 
 def pots():
     """Pots that reach what chance seldom does, beyond making.directed: ties over delivery years with valuation years behind them, chains
-    that another application breaks, automatic bids alone and in ties, winners at no cost, budgets of 0 and of exactly the total."""
+    that another application breaks, automatic bids alone and in ties, winners at no cost, budgets of 0 and of exactly the total, and totals
+    within a pound of the budget."""
     def years(d, y, budgets, applications, bids, reference=0):
         figures = [(20000 if k < d else 0, reference, 10000) for k in range(y)]
         rows = [(0, start, 365, draw, capacity, 0) for start, draw, capacity in applications]
@@ -131,6 +134,16 @@ def pots():
     for price in (0, 10, 4990, 5000, 5010):
         yield years(1, 1, (0,), [(0, 0, 100), (0, 1, 100)], [(0, 0, 365, 100, price)], reference=5000)
         yield years(1, 1, (88,), [(0, 0, 100), (0, 1, 100)], [(0, 0, 365, 100, price), (1, 0, 365, 100, price)], reference=5000)
+    # five over the reference, 0.01, 0.02 and 0.03 MW cost 44, 88 and 132 pence
+    for capacities in itertools.product((1, 2, 3), repeat=3):
+        apps = [(0, a, capacity) for a, capacity in enumerate(capacities)]
+        for prices in ((10, 10, 10), (10, 20, 30)):
+            bids = [(a, 0, 365, capacity, price) for a, (capacity, price) in enumerate(zip(capacities, prices))]
+            for budget in (1, 2, 3, 4, 6):
+                yield years(1, 1, (budget,), apps, bids, reference=5)
+    for n in range(1, 11):
+        for budget in (44 * n // 100, 44 * n // 100 + 1):
+            yield years(1, 1, (budget,), [(0, a, 1) for a in range(n)], [], reference=19995)
 
 
 def rounds():
@@ -165,8 +178,8 @@ if __name__ == '__main__':
     write('readings', cases)
     kinds = collections.Counter(' '.join(text.split()[:2]) if text.startswith('refused') else 'accepted' for _, text in cases)
     assert all(kinds['refused %d' % k] >= 5 for k in range(1, 12)) and len(largest()) == 7866
-    for name, value in making.VALUES.items():
-        assert 'total %d\n' % value in reading.listing(making.worked()[name])
+    for name, file in making.worked().items():
+        assert [int(x) for x in re.findall('total ([0-9]+)', reading.listing(file))] == making.TOTALS[name]
     listings = [(f, reading.listing(f)) for f in rounds()]
     write('listings', listings)
     words = collections.Counter(' '.join(w for w in line.split() if w.isalpha()) + (' ' + line.split()[3] if line.startswith('bid') else '')

@@ -4,7 +4,7 @@ import struct
 
 def round_file(years, pots, technologies, applications, bids):
     """The bytes of a round. years: (days, kind, tlm); pots: budgets; technologies: (pot, rqm, [(admin, reference, load)]);
-    applications: (technology, year, days, draw, capacity, declared); bids: (application, year, days, capacity, price)."""
+    applications: (technology, year, days, draw, capacity, declared); bids: (application, year, days, capacity, price). Budgets are in pounds."""
     s = struct.pack('<H', len(years)) + b''.join(struct.pack('<HHH', *y) for y in years)
     s += struct.pack('<H', len(pots)) + b''.join(struct.pack('<%dQ' % len(p), *p) for p in pots)
     s += struct.pack('<H', len(technologies))
@@ -36,23 +36,31 @@ def flexible():
     return one_year(60000, [(0, 200)], [(0, 200, 6000), (0, 100, 6001)])
 
 
+def pennies(budget):
+    """At 6,010 each of three costs 52,647.60 pounds: 157,943 pounds pay for all, though not for three values of whole pounds."""
+    return one_year(budget, [(0, 100), (1, 100), (2, 100)], [(0, 100, 5990), (1, 100, 6000), (2, 100, 6010)])
+
+
 def valued(capacity, price, reference, load, tlm, rqm, days):
     """One application whose value in year 0 is the total of the first test."""
     return round_file([(days, 1, tlm)], [(10 ** 12,)], [(0, rqm, [(price, reference, load)])], [(0, 0, days, 0, capacity, 0)], [])
 
 
-# the values of V1 to V5
-VALUES = {'V1': 1302174, 'V2': 1303477, 'V3': 0, 'V4': 0, 'V5': 13176000000}
+# the totals of the worked cases, year by year, in pence
+TOTALS = {'V1': [130217400], 'V2': [130347618], 'V3': [0], 'V4': [0], 'V5': [1317600000000],
+          'Round A': [3504000, 7884000], 'A1': [10512000, 14892000], 'A2': [3504000, 7884000], 'A3': [35040000, 52560000],
+          'A4': [10512000, 14892000], 'T1': [10512000], 'T2': [7008000], 'F1': [5256876], 'Pennies': [15794280]}
 
 
 def worked():
-    """The worked cases of document 01 by name."""
+    """The worked cases of document 01 by name, and the one that only pennies let through."""
     return {
         'V1': valued(1000, 100000, 50000, 3000, 90, 10000, 365), 'V2': valued(1001, 100000, 50000, 3000, 90, 10000, 365),
         'V3': valued(1000, 40000, 50000, 3000, 90, 10000, 365), 'V4': valued(1000, 50000, 50000, 3000, 90, 10000, 365),
         'V5': valued(300000, 500000, 0, 10000, 0, 10000, 366),
         'Round A': round_a(), 'A1': round_a(105120, 148920), 'A2': round_a(105120, 148919), 'A3': round_a(350400, 525600),
         'A4': round_a(350400, 525599), 'T1': tied(105120), 'T2': tied(105119), 'F1': flexible(),
+        'Pennies': pennies(157943),
     }
 
 
@@ -72,6 +80,9 @@ def directed():
     files.append(one_year(0, [(0, 100)], [(0, 100, 0)]))
     files.append(one_year(0, [(0, 100)], [(0, 100, 10)]))
     files.append(one_year(0, [], []))
+    files.append(pennies(157942))
+    # 263 pence, or 88 and 176: the two come closer to 3 pounds, where whole pounds would be equal and the draw decide for the one
+    files.append(one_year(3, [(0, 3), (1, 1), (2, 2)], [(0, 3, 10), (1, 1, 10), (2, 2, 10)]))
     return files
 
 

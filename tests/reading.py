@@ -17,7 +17,8 @@ Pot = namedtuple('Pot', 'outcome prices totals')
 Told = namedtuple('Told', 'won bid reason paid')
 
 NO_PRICE, AUTOMATIC, NO_BID = 4294967295, 65534, 65535
-POUND = 10 ** 17
+# the exact cost is a whole number of parts; values and totals are pence, and budgets stay in pounds
+PARTS_TO_THE_PENNY, PENCE_TO_THE_POUND = 10 ** 15, 100
 
 
 class Refused(Exception):
@@ -151,16 +152,17 @@ class Auction:
         return self.r.technologies[self.r.applications[b.application].technology]
 
     def value(self, b, price, y):
+        """The exact cost rounded up once to a whole penny."""
         t, year = self.technology(b), self.r.years[y]
         hours = 0 if y < b.year else 24 * (b.days if y == b.year else year.days)
         margin = max(0, min(price, t.admin[b.year]) - t.reference[y])
-        return -(-margin * t.load[y] * hours * b.capacity * (10000 - year.tlm) * t.rqm // POUND)
+        return -(-margin * t.load[y] * hours * b.capacity * (10000 - year.tlm) * t.rqm // PARTS_TO_THE_PENNY)
 
     def totals(self, winners, price):
         return [sum(self.value(b, price(b), y) for _, b in winners) for y in range(len(self.r.years))]
 
     def fits(self, totals):
-        return all(t <= b for t, b in zip(totals, self.budgets))
+        return all(t <= PENCE_TO_THE_POUND * b for t, b in zip(totals, self.budgets))
 
     def trial(self, new):
         """The totals with these bids added, their years at their price."""

@@ -86,7 +86,7 @@ static void start(struct round_file *f, unsigned pots, struct rng *rng)
     }
 }
 
-/* What is paid at administrative prices, which the judge tells where every budget is at its limit, times so many hundredths. */
+/* What is paid at administrative prices, which the judge tells in pence where every budget is at its limit, times so many hundredths. */
 static void set_budgets(struct round_file *f, unsigned pots, unsigned hundredths)
 {
     uint8_t result[JUDGE_MAX_RESULT];
@@ -94,7 +94,8 @@ static void set_budgets(struct round_file *f, unsigned pots, unsigned hundredths
     for (unsigned p = 0; p < pots; p++)
         for (unsigned y = 0; y < YEARS; y++) {
             size_t total = 2 + p * (2 + 4 * DELIVERY_YEARS + 8 * YEARS) + 2 + 4 * DELIVERY_YEARS + 8 * y;
-            set(f, f->budgets + 8 * (p * YEARS + y), 8, get(result + total, 8) / 100 * hundredths);
+            uint64_t pounds = get(result + total, 8) / JUDGE_PENCE_TO_THE_POUND;
+            set(f, f->budgets + 8 * (p * YEARS + y), 8, pounds / 100 * hundredths);
         }
 }
 
@@ -130,7 +131,7 @@ static void set_budgets_of_ties(struct round_file *f)
 {
     for (unsigned y = 0; y < YEARS; y++) {
         unsigned last = y < DELIVERY_YEARS ? y : DELIVERY_YEARS - 1;
-        uint64_t one = judge_value(100000, 45000, 4000, 24 * 365, 1000, 90, 10000);
+        uint64_t one = judge_value(100000, 45000, 4000, 24 * 365, 1000, 90, 10000) / JUDGE_PENCE_TO_THE_POUND;
         for (unsigned p = 0; p < MOST_POTS; p++)
             set(f, f->budgets + 8 * (p * YEARS + y), 8, one * (2 * WINNERS_OF_A_TIE * (last + 1) + 1) / 2);
     }

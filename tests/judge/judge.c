@@ -1,5 +1,6 @@
-/* The judge: document 01 in plain C.  Sentences of 01 stand quoted in the
- * comments; words like look, trial, winner, live, closed are the paper's. */
+/* The judge: document 01 in plain C, its values to the penny.  Sentences of the
+ * paper stand quoted in the comments; words like look, trial, winner, live,
+ * closed are the paper's. */
 #include "judge.h"
 
 #include <stdarg.h>
@@ -18,7 +19,8 @@ enum {
     MAX_POT_BIDS = MAX_BIDS + MAX_APPLICATIONS, /* sealed and automatic */
     MAX_BIDS_OF_APPLICATION = 10,
     MAX_BIDS_IN_YEAR = 3,
-    MAX_REMAINING = 10
+    MAX_REMAINING = 10,
+    PENCE_TO_THE_POUND = JUDGE_PENCE_TO_THE_POUND
 };
 
 enum section { YEARS, POTS, TECHNOLOGIES, APPLICATIONS, BIDS };
@@ -47,7 +49,7 @@ struct year {
 };
 
 struct pot {
-    uint64_t budget[MAX_YEARS];
+    uint64_t budget[MAX_YEARS]; /* in pounds */
 };
 
 struct technology {
@@ -85,7 +87,7 @@ struct round {
 struct pot_result {
     uint32_t outcome;
     uint32_t price[MAX_DELIVERY_YEARS];
-    uint64_t total[MAX_YEARS];
+    uint64_t total[MAX_YEARS]; /* in pence */
 };
 
 struct application_result {
@@ -492,17 +494,17 @@ static uint64_t result_needs(const struct round *round)
 /* "the exact cost in pounds is (price − reference in y) × load factor in y ×
  * hours × capacity × (1 − TLM in y) × RQM, factors taken at their scales."
  * "Price less reference may fall below zero; the cost is then zero."
- * "The value is the exact cost rounded up once to a whole pound."
- * "the exact cost is a whole number of parts, 10^17 to the pound" */
+ * "The value is the exact cost rounded up once to a whole penny."
+ * "the exact cost is a whole number of parts, 10^15 to the penny" */
 uint64_t judge_value(uint32_t price, uint32_t reference, uint32_t load_factor,
                      uint32_t hours, uint32_t capacity, uint32_t tlm, uint32_t rqm)
 {
-    const uint64_t parts_to_the_pound = 100000000000000000u;
+    const uint64_t parts_to_the_penny = 1000000000000000u;
     int64_t difference = (int64_t)price - (int64_t)reference;
     if (difference <= 0)
         return 0;
     u128 parts = (u128)difference * load_factor * hours * capacity * (10000 - tlm) * rqm;
-    return (uint64_t)((parts + parts_to_the_pound - 1) / parts_to_the_pound);
+    return (uint64_t)((parts + parts_to_the_penny - 1) / parts_to_the_penny);
 }
 
 /* "Hours are 0 for y before d, 24 × first-year days for y = d, and 24 × days
@@ -542,35 +544,81 @@ static uint64_t value_in_year(const struct round *round, const struct bid *bid,
 /* Clearing prices and year totals, a place for each year. */
 struct row {
     uint32_t price[MAX_YEARS];
-    uint64_t total[MAX_YEARS];
+    uint64_t total[MAX_YEARS]; /* in pence */
+#ifdef JUDGE_COUNT
+    uint64_t in_pounds[MAX_YEARS]; /* the total of values rounded up to whole pounds */
+#endif
 };
+
+static void empty_totals(struct row *row)
+{
+    for (unsigned y = 0; y < MAX_YEARS; y++) {
+        row->total[y] = 0;
+        COUNT(row->in_pounds[y] = 0);
+    }
+}
+
+static struct row empty_row(void)
+{
+    struct row row;
+    for (unsigned y = 0; y < MAX_YEARS; y++)
+        row.price[y] = NO_PRICE;
+    empty_totals(&row);
+    return row;
+}
 
 static void add_value(const struct round *round, const struct bid *bid,
                       uint32_t clearing_price, struct row *row)
 {
     uint32_t price = capped_price(round, bid, clearing_price);
-    for (unsigned y = 0; y < round->year_count; y++)
-        row->total[y] += value_in_year(round, bid, price, y);
+    for (unsigned y = 0; y < round->year_count; y++) {
+        uint64_t value = value_in_year(round, bid, price, y);
+        row->total[y] += value;
+        COUNT(row->in_pounds[y] += (value + PENCE_TO_THE_POUND - 1) / PENCE_TO_THE_POUND);
+    }
+}
+
+/* "budgets in the file stay in pounds and are compared a hundredfold".  Refusal 4
+ * keeps the hundredfold far below 2^64. */
+static uint64_t budget_in_pence(const struct pot *pot, unsigned y)
+{
+    return PENCE_TO_THE_POUND * pot->budget[y];
 }
 
 /* "fits if no year's total exceeds its budget; equal fits." */
 static bool fits(const struct round *round, const struct pot *pot, const struct row *row)
 {
     for (unsigned y = 0; y < round->year_count; y++)
-        if (row->total[y] > pot->budget[y])
+        if (row->total[y] > budget_in_pence(pot, y))
             return false;
     return true;
 }
 
-static struct row empty_row(void)
+#ifdef JUDGE_COUNT
+static bool fits_in_pounds(const struct round *round, const struct pot *pot, const struct row *row)
 {
-    struct row row;
-    for (unsigned y = 0; y < MAX_YEARS; y++) {
-        row.price[y] = NO_PRICE;
-        row.total[y] = 0;
-    }
-    return row;
+    for (unsigned y = 0; y < round->year_count; y++)
+        if (row->in_pounds[y] > pot->budget[y])
+            return false;
+    return true;
 }
+
+/* Pennies that decided.  A year that fits is over by neither. */
+static void count_tested(const struct round *round, const struct pot *pot, const struct row *row,
+                         enum judge_tested tested)
+{
+    bool by_pence = true, by_one_penny = true;
+    for (unsigned y = 0; y < round->year_count; y++) {
+        uint64_t budget = budget_in_pence(pot, y), total = row->total[y];
+        by_pence = by_pence && total < budget + PENCE_TO_THE_POUND;
+        by_one_penny = by_one_penny && total <= budget + 1;
+    }
+    bool fit = fits(round, pot, row);
+    judge_counts.over_by_less_than_a_pound[tested] += !fit && by_pence;
+    judge_counts.over_by_one_penny[tested] += !fit && by_one_penny;
+    judge_counts.fits_but_not_in_pounds[tested] += fit && !fits_in_pounds(round, pot, row);
+}
+#endif
 
 /* ---- applications of a pot ---- */
 
@@ -724,8 +772,7 @@ static struct row trial(const struct auction *a, const struct taken *taken)
         const struct bid *bid = &a->bids[taken->bids[i]];
         row.price[bid->year] = bid->price;
     }
-    for (unsigned y = 0; y < a->round->year_count; y++)
-        row.total[y] = 0;
+    empty_totals(&row);
     for (unsigned i = 0; i < a->winner_count; i++) {
         const struct bid *bid = &a->bids[a->winners[i]];
         add_value(a->round, bid, row.price[bid->year], &row);
@@ -810,6 +857,7 @@ static void turn_down_and_look_further(struct auction *a, unsigned bid)
         further_looks++;
         struct row row = trial(a, &next);
         won = trial_fits(a, &row);
+        COUNT(count_tested(a->round, a->pot, &row, JUDGE_ONE_BID));
         if (won)
             win(a, &next, &row);
         else
@@ -856,29 +904,61 @@ static struct taken combination(const struct taken *remaining, unsigned number)
     return chosen;
 }
 
+#ifdef JUDGE_COUNT
+/* What would be chosen if each value were rounded up to a whole pound. */
+struct choice_in_pounds {
+    unsigned number; /* 0: none */
+    uint64_t total;
+};
+
+static void weigh_in_pounds(const struct auction *a, const struct row *row, unsigned number,
+                            struct choice_in_pounds *best)
+{
+    uint64_t total = row->in_pounds[a->round->year_count - 1];
+    if (total < best->total || !fits_in_pounds(a->round, a->pot, row))
+        return;
+    best->number = number;
+    best->total = total;
+}
+
+static void count_choice(const struct auction *a, const struct taken *remaining, unsigned number,
+                         const struct choice_in_pounds *in_pounds)
+{
+    struct taken chosen = combination(remaining, number);
+    struct row row = trial(a, &chosen);
+    bool another = number != in_pounds->number;
+    judge_counts.tie_none_remain += remaining->count == 0;
+    judge_counts.tie_pounds_choose_another += another;
+    judge_counts.tie_pounds_prefer_another += another && fits_in_pounds(a->round, a->pot, &row);
+}
+#endif
+
 /* "choose the fitting combination whose total in the last year of the file is
  * greatest; if none remain, none is chosen. Among equals, the one holding the
  * lowest-draw bid on which they differ", that is the largest number. */
 static struct taken choose_combination(struct auction *a, const struct taken *remaining)
 {
-    unsigned last = a->round->year_count - 1;
-    struct taken best = { 0 };
+    unsigned last = a->round->year_count - 1, best = 0;
     uint64_t best_total = 0;
-    COUNT(judge_counts.tie_none_remain += remaining->count == 0);
 #ifdef JUDGE_COUNT
+    struct choice_in_pounds in_pounds = { 0, 0 };
     bool equals = false;
 #endif
     for (unsigned number = 1; number < 1u << remaining->count; number++) {
         struct taken chosen = combination(remaining, number);
         struct row row = trial(a, &chosen);
-        if (!trial_fits(a, &row) || row.total[last] < best_total)
+        if (!trial_fits(a, &row))
             continue;
-        COUNT(equals = best.count > 0 && row.total[last] == best_total);
-        best = chosen;
+        COUNT(weigh_in_pounds(a, &row, number, &in_pounds));
+        if (row.total[last] < best_total)
+            continue;
+        COUNT(equals = best > 0 && row.total[last] == best_total);
+        best = number;
         best_total = row.total[last];
     }
-    COUNT(judge_counts.tie_equal_totals += equals);
-    return best;
+    COUNT(judge_counts.tie_equal_totals += equals;
+          count_choice(a, remaining, best, &in_pounds));
+    return combination(remaining, best);
 }
 
 #ifdef JUDGE_COUNT
@@ -915,6 +995,7 @@ static bool break_tie(struct auction *a, const struct taken *taken)
     struct taken chosen = choose_combination(a, &remaining);
     if (chosen.count > 0) {
         struct row row = trial(a, &chosen);
+        COUNT(count_tested(a->round, a->pot, &row, JUDGE_TIED_BIDS));
         win(a, &chosen, &row);
     }
     for (unsigned i = 0; i < taken->count; i++) {
@@ -937,6 +1018,8 @@ static enum outcome hold_auction(struct auction *a)
         if (taken.count == 0)
             return AUCTION;
         struct row row = trial(a, &taken);
+        COUNT(count_tested(a->round, a->pot, &row,
+                           taken.count == 1 ? JUDGE_ONE_BID : JUDGE_TIED_BIDS));
         if (trial_fits(a, &row)) {
             COUNT(judge_counts.ties_that_fit[taken.count]++);
             win(a, &taken, &row);
@@ -1042,18 +1125,6 @@ static void set_auction_result(const struct auction *a, unsigned pot, struct cle
         set_winner(a, &a->bids[a->winners[i]], clearing);
 }
 
-#ifdef JUDGE_COUNT
-static void count_first_test(const struct round *round, unsigned p, const struct row *row)
-{
-    unsigned over = 0, over_by_one = 0;
-    for (unsigned y = 0; y < round->year_count; y++) {
-        over += row->total[y] > round->pots[p].budget[y];
-        over_by_one += row->total[y] == round->pots[p].budget[y] + 1;
-    }
-    judge_counts.one_over_administrative += over > 0 && over == over_by_one;
-}
-#endif
-
 /* "Pots are cleared apart. If all a pot's applications, at their administrative
  * prices, fit its budget in every year, all win at those prices (outcome 0) and
  * no bid is looked at. A pot with no application is such a pot. Otherwise
@@ -1061,7 +1132,7 @@ static void count_first_test(const struct round *round, unsigned p, const struct
 static void clear_pot(const struct round *round, unsigned pot, struct clearing *clearing)
 {
     struct row row = administrative_row(round, pot);
-    COUNT(count_first_test(round, pot, &row));
+    COUNT(count_tested(round, &round->pots[pot], &row, JUDGE_FIRST_TEST));
     if (fits(round, &round->pots[pot], &row)) {
         all_win_at_administrative_prices(round, pot, &row, clearing);
         return;
@@ -1084,7 +1155,8 @@ static void count_clearing(const struct round *round, const struct clearing *cle
             empty = empty && !in_pot(round, i, p);
         for (unsigned y = 0; y < round->year_count; y++) {
             zero = zero || round->pots[p].budget[y] == 0;
-            equal = equal || (result->total[y] == round->pots[p].budget[y] && result->total[y] > 0);
+            equal = equal || (result->total[y] == budget_in_pence(&round->pots[p], y)
+                              && result->total[y] > 0);
         }
         judge_counts.outcome[result->outcome]++;
         judge_counts.outcome_of_empty_pot += empty;

@@ -15,6 +15,7 @@ enum {
     JUDGE_MAX_APPLICATIONS = 64,
     JUDGE_MAX_BIDS = 256,
     JUDGE_MAX_FILE = 7866,
+    JUDGE_PENCE_TO_THE_POUND = 100,
     /* 6 + P(2 + 4D + 8Y) + 10N + 2B at the limits */
     JUDGE_MAX_RESULT = 6 + 4 * (2 + 4 * 4 + 8 * 8) + 10 * 64 + 2 * 256,
     /* enough for the longest listing */
@@ -33,8 +34,8 @@ uint64_t judge_result_len(const uint8_t *file, uint64_t file_len);
  * too small for it (what then stands in out is not promised). */
 int judge_listing(const uint8_t *file, uint64_t file_len, char *out, size_t cap);
 
-/* Value of one bid in one year, in whole pounds; every argument at its scale
- * in the file, price already capped. */
+/* Value of one bid in one year, in whole pence; every argument at its scale in
+ * the file, price already capped. */
 uint64_t judge_value(uint32_t price, uint32_t reference, uint32_t load_factor,
                      uint32_t hours, uint32_t capacity, uint32_t tlm, uint32_t rqm);
 
@@ -64,6 +65,10 @@ extern bool judge_counting;
 #define JUDGE_CLAUSE_NAME(number, name) JUDGE_CLAUSE_##name,
 enum judge_clause { JUDGE_CLAUSES(JUDGE_CLAUSE_NAME) JUDGE_CLAUSE_COUNT };
 
+/* What was held against the budgets: all at administrative prices, one bid, or
+ * bids tied, all that were taken or those chosen. */
+enum judge_tested { JUDGE_FIRST_TEST, JUDGE_ONE_BID, JUDGE_TIED_BIDS, JUDGE_TESTED_COUNT };
+
 struct judge_counts {
     uint64_t accepted;
     uint64_t refusal[13];
@@ -84,6 +89,8 @@ struct judge_counts {
     uint64_t tie_across_years;
     uint64_t tie_left_a_taken_year_open;       /* of the years taken, one stayed open */
     uint64_t tie_equal_totals;                 /* the largest number decided */
+    uint64_t tie_pounds_choose_another;        /* values of whole pounds choose otherwise */
+    uint64_t tie_pounds_prefer_another;        /* though the one chosen fits in pounds too */
     uint64_t tie_none_remain;
     uint64_t tie_with_earlier_winners;
     uint64_t zero_cost_winner;                 /* outcome 1 */
@@ -94,7 +101,12 @@ struct judge_counts {
     uint64_t won_after_turned_down;
     uint64_t budget_0_administrative, budget_0_auction;
     uint64_t budget_equals_total_administrative, budget_equals_total_auction;
-    uint64_t one_over_administrative;          /* the first test failed by one pound */
+    /* By what was tested: it did not fit, for less than a pound in each year
+     * that exceeds its budget, or for one penny; it did fit, but would not with
+     * each value rounded up to a whole pound. */
+    uint64_t over_by_less_than_a_pound[JUDGE_TESTED_COUNT];
+    uint64_t over_by_one_penny[JUDGE_TESTED_COUNT];
+    uint64_t fits_but_not_in_pounds[JUDGE_TESTED_COUNT];
     uint64_t closed_some_but_not_all;          /* pots ending with open and closed years */
 };
 

@@ -1,6 +1,6 @@
 /* Makers of round files: a plan is drawn from the seed, legal by construction,
- * its budgets are set by what some of its bids would cost, and it is written
- * out.  Damage works on the bytes of a well-formed round. */
+ * its budgets in pounds are set by what some of its bids would cost in pence,
+ * and it is written out.  Damage works on the bytes of a well-formed round. */
 #include "make.h"
 
 #include "judge.h"
@@ -37,6 +37,7 @@ static unsigned between(struct rng *rng, unsigned least, unsigned most)
 
 enum { MAX_Y = 8, MAX_D = 4, MAX_P = 4, MAX_T = 32, MAX_N = 64, MAX_B = 256 };
 enum { MAX_ADMINISTRATIVE = 500000, MAX_CAPACITY = 300000, MAX_FACTOR = 10000 };
+enum { PENCE_TO_THE_POUND = JUDGE_PENCE_TO_THE_POUND };
 #define MAX_BUDGET 1000000000000u
 
 struct plan_year {
@@ -64,15 +65,15 @@ struct plan {
     struct rng rng;
     unsigned years, delivery, pots, technologies, applications, bids;
     struct plan_year year[MAX_Y];
-    uint64_t budget[MAX_P][MAX_Y];
+    uint64_t budget[MAX_P][MAX_Y]; /* in pounds */
     struct plan_technology technology[MAX_T];
     struct plan_application application[MAX_N];
     struct plan_bid bid[MAX_B];
     uint32_t common; /* the price many bid in a round of ties */
 };
 
-enum flavour { ORDINARY, CHAINS, TIES, WIDE_TIES, AUTOMATIC, ZERO_COST, MANY_POTS, BIG };
-enum capacities { EQUAL, SMALL, ANY, SKEWED };
+enum flavour { ORDINARY, CHAINS, TIES, WIDE_TIES, AUTOMATIC, ZERO_COST, MANY_POTS, BIG, PENNIES };
+enum capacities { EQUAL, SMALL, ANY, SKEWED, CLOSE };
 
 /* What a flavour asks of the plan; percentages are chances per application. */
 struct style {
@@ -80,6 +81,7 @@ struct style {
     unsigned no_bid, common_price, chain, further_bids;
     unsigned reference_above; /* chance per technology */
     unsigned same_technology; /* chance that technologies share prices */
+    unsigned low_load;        /* chance per technology of values of a few pounds */
     enum capacities capacities;
 };
 
@@ -132,6 +134,14 @@ static unsigned some_load_factor(struct plan *plan)
     return rng_chance(rng, 20) ? between(rng, 1, MAX_FACTOR) : usual[rng_below(rng, 6)];
 }
 
+/* So low that a hundredth of a MW more costs pennies. */
+static void lower_load_factors(struct plan *plan, struct plan_technology *technology)
+{
+    unsigned load_factor = between(&plan->rng, 1, 4);
+    for (unsigned y = 0; y < plan->years; y++)
+        technology->load_factor[y] = load_factor;
+}
+
 static void plan_technology(struct plan *plan, const struct style *style, uint32_t base,
                             struct plan_technology *technology)
 {
@@ -151,6 +161,8 @@ static void plan_technology(struct plan *plan, const struct style *style, uint32
             technology->administrative[y] =
                 same ? administrative : some_administrative_price(plan, base);
     }
+    if (rng_chance(rng, style->low_load))
+        lower_load_factors(plan, technology);
 }
 
 static uint32_t lowest_administrative_price(const struct plan *plan)
@@ -194,6 +206,8 @@ static uint32_t some_capacity(struct plan *plan, enum capacities capacities)
         return 100 * between(rng, 1, 4);
     case SKEWED:
         return rng_chance(rng, 50) ? between(rng, 90, 110) : between(rng, 500, 2000);
+    case CLOSE:
+        return between(rng, 1, 12);
     default:
         if (rng_chance(rng, 3))
             return rng_chance(rng, 50) ? MAX_CAPACITY : 1;
@@ -550,6 +564,19 @@ static void choose_some(struct plan *plan, const struct stack *stack, struct cho
     choose_tied(plan, stack, dearer, choice);
 }
 
+/* The least budgets that the totals fit.  One pound less is the total rounded
+ * down, or short of it by a whole pound where pounds and pence are equal. */
+static void pounds_for(const struct plan *plan, const uint64_t *totals, uint64_t *budget)
+{
+    for (unsigned y = 0; y < plan->years; y++)
+        budget[y] = (totals[y] + PENCE_TO_THE_POUND - 1) / PENCE_TO_THE_POUND;
+}
+
+static void one_pound_less(uint64_t *budget)
+{
+    *budget -= *budget > 0;
+}
+
 static void vary_budget(struct plan *plan, uint64_t *budget)
 {
     struct rng *rng = &plan->rng;
@@ -559,14 +586,14 @@ static void vary_budget(struct plan *plan, uint64_t *budget)
     case 1:
         return;
     case 2:
-        budget[y] -= budget[y] > 0;
+        one_pound_less(&budget[y]);
         return;
     case 3:
         budget[y] += 1;
         return;
     default:
         for (unsigned i = 0; i < plan->years; i++)
-            budget[i] = budget[i] / 100 * between(rng, 90, 160);
+            budget[i] = budget[i] * between(rng, 90, 160) / 100;
     }
 }
 
@@ -580,38 +607,74 @@ static void administrative_totals(const struct plan *plan, unsigned pot, uint64_
         }
 }
 
+/* What some bids that would win together cost. */
+static void plan_by_choice(struct plan *plan, const struct stack *stack, uint64_t *budget)
+{
+    struct choice choice;
+    uint64_t totals[MAX_Y];
+    choose_some(plan, stack, &choice);
+    choice_totals(plan, &choice, totals);
+    pounds_for(plan, totals, budget);
+}
+
+/* A choice that costs whole pounds in this year, or a penny more, if one is soon
+ * found: its total equals the budget, or exceeds it by that penny. */
+static void plan_to_the_penny(struct plan *plan, const struct stack *stack, unsigned year,
+                              uint64_t *budget)
+{
+    enum { TRIES = 16 };
+    struct choice choice;
+    uint64_t totals[MAX_Y];
+    unsigned penny = (unsigned)rng_below(&plan->rng, 2), tries = 0;
+    do {
+        choose_some(plan, stack, &choice);
+        choice_totals(plan, &choice, totals);
+    } while ((totals[year] == 0 || totals[year] % PENCE_TO_THE_POUND != penny) && ++tries < TRIES);
+    pounds_for(plan, totals, budget);
+    if (penny)
+        one_pound_less(&budget[year]);
+}
+
+static void plan_year_by_year(struct plan *plan, const struct stack *stack, uint64_t *budget)
+{
+    uint64_t other[MAX_Y];
+    for (unsigned y = 0; y < plan->years; y++) {
+        plan_by_choice(plan, stack, other);
+        budget[y] = other[y];
+        if (rng_chance(&plan->rng, 20))
+            one_pound_less(&budget[y]);
+    }
+}
+
 static void plan_budget(struct plan *plan, unsigned pot, uint64_t *budget)
 {
     struct rng *rng = &plan->rng;
     struct stack stack;
-    struct choice choice;
-    uint64_t other[MAX_Y];
+    uint64_t totals[MAX_Y];
     unsigned kind = (unsigned)rng_below(rng, 100);
     unsigned binding = (unsigned)rng_below(rng, plan->years);
     stack_of_pot(plan, pot, &stack);
-    choose_some(plan, &stack, &choice);
-    choice_totals(plan, &choice, budget);
-    if (kind < 60) { /* what a choice costs, or near it */
+    plan_by_choice(plan, &stack, budget);
+    if (kind < 56) { /* what a choice costs, or near it */
         vary_budget(plan, budget);
+    } else if (kind < 60) {
+        plan_to_the_penny(plan, &stack, binding, budget);
     } else if (kind < 75) { /* one year binds */
         for (unsigned y = 0; y < plan->years; y++)
             if (y != binding)
                 budget[y] = MAX_BUDGET;
     } else if (kind < 85) { /* each year from a choice of its own */
-        for (unsigned y = 0; y < plan->years; y++) {
-            choose_some(plan, &stack, &choice);
-            choice_totals(plan, &choice, other);
-            budget[y] = other[y];
-        }
+        plan_year_by_year(plan, &stack, budget);
     } else if (kind < 90) { /* nothing in one year, or in all */
         bool all = rng_chance(rng, 40);
         for (unsigned y = 0; y < plan->years; y++)
             if (all || y == binding)
                 budget[y] = 0;
     } else if (kind < 97) { /* all at administrative prices, or one pound less */
-        administrative_totals(plan, pot, budget);
+        administrative_totals(plan, pot, totals);
+        pounds_for(plan, totals, budget);
         if (rng_chance(rng, 60))
-            budget[binding] -= budget[binding] > 0;
+            one_pound_less(&budget[binding]);
     } else {
         for (unsigned y = 0; y < plan->years; y++)
             budget[y] = MAX_BUDGET;
@@ -707,6 +770,15 @@ static struct style small_style(struct rng *rng)
     return style;
 }
 
+static void style_of_chains(struct rng *rng, struct style *style)
+{
+    style->applications = between(rng, 1, 5);
+    style->chain = 75;
+    style->common_price = 10;
+    style->no_bid = 10;
+    style->further_bids = 1;
+}
+
 static void style_of_ties(struct rng *rng, struct style *style)
 {
     style->applications = between(rng, 2, 12);
@@ -742,6 +814,16 @@ static void style_of_big(struct rng *rng, struct style *style)
     style->capacities = ANY;
 }
 
+/* A small pot: bids of a few pounds, mostly tied, where pennies tell. */
+static void style_of_pennies(struct rng *rng, struct style *style)
+{
+    style_of_ties(rng, style);
+    style->applications = between(rng, 2, 7);
+    style->common_price = 70;
+    style->low_load = 85;
+    style->capacities = CLOSE;
+}
+
 static struct style style_of(enum flavour flavour, struct rng *rng)
 {
     struct style style = small_style(rng);
@@ -749,11 +831,7 @@ static struct style style_of(enum flavour flavour, struct rng *rng)
     case ORDINARY:
         break;
     case CHAINS:
-        style.applications = between(rng, 1, 5);
-        style.chain = 75;
-        style.common_price = 10;
-        style.no_bid = 10;
-        style.further_bids = 1;
+        style_of_chains(rng, &style);
         break;
     case TIES:
         style_of_ties(rng, &style);
@@ -777,13 +855,16 @@ static struct style style_of(enum flavour flavour, struct rng *rng)
     case BIG:
         style_of_big(rng, &style);
         break;
+    case PENNIES:
+        style_of_pennies(rng, &style);
+        break;
     }
     return style;
 }
 
 static enum flavour some_flavour(struct rng *rng)
 {
-    static const unsigned weight[] = { 16, 22, 18, 12, 12, 6, 10, 4 };
+    static const unsigned weight[] = { 15, 20, 17, 11, 11, 6, 10, 4, 6 };
     unsigned left = (unsigned)rng_below(rng, 100);
     unsigned flavour = 0;
     while (left >= weight[flavour])

@@ -66,6 +66,28 @@ static void print_refusals(void)
     JUDGE_CLAUSES(CLAUSE_LINE)
 }
 
+static void occurs_in_tests(const char *what, const uint64_t *of_rounds, const uint64_t *of_all)
+{
+    static const char *const tested[] = { "first test", "one bid", "tied bids" };
+    for (unsigned t = 0; t < JUDGE_TESTED_COUNT; t++) {
+        char name[64];
+        snprintf(name, sizeof name, "%s: %s", tested[t], what);
+        must_occur(name, of_rounds[t], of_all[t]);
+    }
+}
+
+static void print_pennies(void)
+{
+    printf("pennies from a budget\n");
+    occurs_in_tests("over by less than a pound", rounds.over_by_less_than_a_pound,
+                    all.over_by_less_than_a_pound);
+    occurs_in_tests("over by one penny", rounds.over_by_one_penny, all.over_by_one_penny);
+    occurs_in_tests("fits, in pounds it would not", rounds.fits_but_not_in_pounds,
+                    all.fits_but_not_in_pounds);
+    OCCURS(tie_pounds_choose_another);
+    OCCURS(tie_pounds_prefer_another);
+}
+
 static void print_outcomes(void)
 {
     printf("pots\n");
@@ -77,7 +99,6 @@ static void print_outcomes(void)
     OCCURS(budget_0_auction);
     OCCURS(budget_equals_total_administrative);
     OCCURS(budget_equals_total_auction);
-    OCCURS(one_over_administrative);
     OCCURS(closed_some_but_not_all);
     printf("winners of auctions\n");
     OCCURS(zero_cost_winner);
@@ -173,6 +194,7 @@ unsigned print_occurrences(const struct judge_counts *of_rounds, const struct ju
     printf("  %-46s %10s %10s\n", "occurred", "in rounds", "in others");
     print_refusals();
     print_outcomes();
+    print_pennies();
     print_reasons();
     print_chains();
     print_ties();

@@ -1,5 +1,6 @@
-/* The judge itself is held to all worked cases of document 01, to every cut of
- * round A and to the order of the refusals. */
+/* The judge itself is held to all worked cases of document 01, in pence, to
+ * totals within a penny of the budget, to every cut of round A and to the order
+ * of the refusals. */
 #include "judge.h"
 #include "make.h"
 
@@ -126,27 +127,33 @@ static void refused(const struct round_file *f, uint64_t number, uint64_t offset
 
 static void values(void)
 {
-    assert(judge_value(100000, 50000, 3000, 8760, 1000, 90, 10000) == 1302174);
-    assert(judge_value(100000, 50000, 3000, 8760, 1001, 90, 10000) == 1303477);
+    assert(judge_value(100000, 50000, 3000, 8760, 1000, 90, 10000) == 130217400);
+    assert(judge_value(100000, 50000, 3000, 8760, 1001, 90, 10000) == 130347618);
     assert(judge_value(40000, 50000, 3000, 8760, 1000, 90, 10000) == 0);
     assert(judge_value(50000, 50000, 3000, 8760, 1000, 90, 10000) == 0);
-    assert(judge_value(500000, 0, 10000, 24 * 366, 300000, 0, 10000) == 13176000000u);
+    assert(judge_value(500000, 0, 10000, 24 * 366, 300000, 0, 10000) == 1317600000000u);
     assert(judge_value(100000, 50000, 3000, 0, 1000, 90, 10000) == 0);
     assert(judge_value(1, 0, 1, 24, 1, 9999, 1) == 1); /* rounded up */
+    /* one over the reference, 1.00 MW, one hour: a tenth of a penny */
+    assert(judge_value(1, 0, 10000, 10, 100, 0, 10000) == 1);
+    assert(judge_value(1, 0, 10000, 11, 100, 0, 10000) == 2);
+    assert(judge_value(1, 0, 10000, 1000, 100, 0, 10000) == JUDGE_PENCE_TO_THE_POUND);
+    assert(judge_value(1, 0, 10000, 1001, 100, 0, 10000) == JUDGE_PENCE_TO_THE_POUND + 1);
 }
 
-/* One application at its administrative price with a budget of just its value,
- * and one pound less. */
+/* One application at its administrative price with the least budget that pays
+ * for it, and one pound less. */
 static void value_in_a_round(uint32_t capacity, uint32_t price, uint32_t reference, unsigned load,
                              unsigned tlm, unsigned days, uint64_t value)
 {
+    uint64_t pounds = (value + JUDGE_PENCE_TO_THE_POUND - 1) / JUDGE_PENCE_TO_THE_POUND;
     for (unsigned less = 0; less <= (value > 0); less++) {
         struct round_file f = { .len = 0 };
         uint8_t result[64];
         add(&f, 2, 1);
         add_year(&f, days, 1, tlm);
         add(&f, 2, 1);
-        add(&f, 8, value - less);
+        add(&f, 8, pounds - less);
         add(&f, 2, 1);
         add(&f, 2, 0);
         add(&f, 2, 10000);
@@ -167,21 +174,25 @@ static void value_in_a_round(uint32_t capacity, uint32_t price, uint32_t referen
     }
 }
 
+/* The last two are at a penny: exactly 100 times the budget fits, and one penny
+ * more does not. */
 static void values_in_rounds(void)
 {
-    value_in_a_round(1000, 100000, 50000, 3000, 90, 365, 1302174);
-    value_in_a_round(1001, 100000, 50000, 3000, 90, 365, 1303477);
+    value_in_a_round(1000, 100000, 50000, 3000, 90, 365, 130217400);
+    value_in_a_round(1001, 100000, 50000, 3000, 90, 365, 130347618);
     value_in_a_round(1000, 40000, 50000, 3000, 90, 365, 0);
     value_in_a_round(1000, 50000, 50000, 3000, 90, 365, 0);
-    value_in_a_round(300000, 500000, 0, 10000, 0, 366, 13176000000u);
+    value_in_a_round(300000, 500000, 0, 10000, 0, 366, 1317600000000u);
+    value_in_a_round(250, 50000, 49990, 10000, 0, 365, 21900);
+    value_in_a_round(8, 50000, 49990, 10000, 0, 365, 701);
 }
 
 /* ---- round A and A1 to A4 ---- */
 
 static const char listing_of_a[] =
     "pot 0 auction\n"
-    "year 0 price 4000 total 35040\n"
-    "year 1 price 5000 total 78840\n"
+    "year 0 price 4000 total 3504000\n"
+    "year 1 price 5000 total 7884000\n"
     "application 0 won 4000 bid 0\n"
     "application 1 lost\n"
     "application 2 won 5000 bid 2\n"
@@ -191,8 +202,8 @@ static const char listing_of_a[] =
 
 static const char listing_of_a1[] =
     "pot 0 auction\n"
-    "year 0 price 6000 total 105120\n"
-    "year 1 price 5000 total 148920\n"
+    "year 0 price 6000 total 10512000\n"
+    "year 1 price 5000 total 14892000\n"
     "application 0 won 6000 bid 0\n"
     "application 1 won 6000 bid 1\n"
     "application 2 won 5000 bid 2\n"
@@ -202,8 +213,8 @@ static const char listing_of_a1[] =
 
 static const char listing_of_a3[] =
     "pot 0 administrative\n"
-    "year 0 price - total 350400\n"
-    "year 1 price - total 525600\n"
+    "year 0 price - total 35040000\n"
+    "year 1 price - total 52560000\n"
     "application 0 won 20000 bid -\n"
     "application 1 won 20000 bid -\n"
     "application 2 won 20000 bid -\n"
@@ -231,7 +242,7 @@ static void result_of_a(void)
     static const uint8_t expected[] = {
         1, 0,
         1, 0, 0xA0, 0x0F, 0, 0, 0x88, 0x13, 0, 0,
-        0xE0, 0x88, 0, 0, 0, 0, 0, 0, 0xF8, 0x33, 1, 0, 0, 0, 0, 0,
+        0x80, 0x77, 0x35, 0, 0, 0, 0, 0, 0xE0, 0x4C, 0x78, 0, 0, 0, 0, 0,
         3, 0,
         1, 0, 0, 0, 0, 0, 0xA0, 0x0F, 0, 0,
         0, 0, 0xFF, 0xFF, 0, 0, 0, 0, 0, 0,
@@ -273,7 +284,7 @@ static void ties_and_flexible_bid(void)
     struct round_file t1 = tie(105120);
     lists(&t1,
           "pot 0 auction\n"
-          "year 0 price 4000 total 105120\n"
+          "year 0 price 4000 total 10512000\n"
           "application 0 won 4000 bid 0\n"
           "application 1 won 4000 bid 1\n"
           "application 2 lost\n"
@@ -283,7 +294,7 @@ static void ties_and_flexible_bid(void)
     struct round_file t2 = tie(105119);
     lists(&t2,
           "pot 0 auction\n"
-          "year 0 price 4000 total 70080\n"
+          "year 0 price 4000 total 7008000\n"
           "application 0 lost\n"
           "application 1 won 4000 bid 1\n"
           "application 2 won 4000 bid 2\n"
@@ -298,10 +309,144 @@ static void ties_and_flexible_bid(void)
     add_bid(&f1, 0, 0, 100, 6001);
     lists(&f1,
           "pot 0 auction\n"
-          "year 0 price 6001 total 52569\n"
+          "year 0 price 6001 total 5256876\n"
           "application 0 won 6001 bid 1\n"
           "bid 0 reason 2\n"
           "bid 1 reason 1\n");
+}
+
+/* ---- pennies ---- */
+
+/* One-bid applications with draws 0, 1, ... in year 0 alone. */
+static struct round_file one_bid_each(uint64_t budget, unsigned bids, const uint32_t *capacities,
+                                      const uint32_t *prices)
+{
+    struct round_file f = start_of_year_0_alone(budget);
+    add(&f, 2, bids);
+    for (unsigned i = 0; i < bids; i++)
+        add_application(&f, 0, i, capacities[i]);
+    add(&f, 2, bids);
+    for (unsigned i = 0; i < bids; i++)
+        add_bid(&f, i, 0, capacities[i], prices[i]);
+    return f;
+}
+
+/* At 6,010 each costs 52,647.60 pounds.  Rounded up to pounds the three would
+ * exceed the first budget by a pound. */
+static void three_that_pounds_turn_down(void)
+{
+    static const uint32_t capacities[] = { 100, 100, 100 }, prices[] = { 5990, 6000, 6010 };
+    struct round_file all = one_bid_each(157943, 3, capacities, prices);
+    lists(&all,
+          "pot 0 auction\n"
+          "year 0 price 6010 total 15794280\n"
+          "application 0 won 6010 bid 0\n"
+          "application 1 won 6010 bid 1\n"
+          "application 2 won 6010 bid 2\n"
+          "bid 0 reason 1\n"
+          "bid 1 reason 1\n"
+          "bid 2 reason 1\n");
+    struct round_file two = one_bid_each(157942, 3, capacities, prices);
+    lists(&two,
+          "pot 0 auction\n"
+          "year 0 price 6000 total 10512000\n"
+          "application 0 won 6000 bid 0\n"
+          "application 1 won 6000 bid 1\n"
+          "application 2 lost\n"
+          "bid 0 reason 1\n"
+          "bid 1 reason 1\n"
+          "bid 2 reason 2\n");
+}
+
+/* At a price of 10 a hundredth of a MW costs 87.6 pence: 2.50 MW cost exactly
+ * 219 pounds, and 0.08 MW cost 7 pounds and, rounded up, a penny. */
+static void one_bid_at_a_penny(void)
+{
+    static const struct { uint64_t budget; uint32_t capacity; unsigned total; } cases[] = {
+        { 219, 250, 21900 }, { 218, 250, 0 }, { 8, 8, 701 }, { 7, 8, 0 },
+    };
+    static const uint32_t price = 10;
+    for (size_t i = 0; i < sizeof cases / sizeof *cases; i++) {
+        struct round_file f = one_bid_each(cases[i].budget, 1, &cases[i].capacity, &price);
+        char expected[128];
+        if (cases[i].total > 0)
+            snprintf(expected, sizeof expected, "pot 0 auction\nyear 0 price 10 total %u\n"
+                     "application 0 won 10 bid 0\nbid 0 reason 1\n", cases[i].total);
+        else
+            snprintf(expected, sizeof expected, "pot 0 auction\nyear 0 price - total 0\n"
+                     "application 0 lost\nbid 0 reason 2\n");
+        lists(&f, expected);
+    }
+}
+
+/* Two tied for 1.25 MW, at 109.50 pounds each, cost exactly 219 pounds; 0.05 and
+ * 0.03 MW, at 438 and 263 pence, a penny more than 7 pounds. */
+static void tie_at_a_penny(void)
+{
+    static const struct { uint64_t budget; uint32_t capacities[2]; unsigned both, first; } cases[] = {
+        { 219, { 125, 125 }, 21900, 0 }, { 218, { 125, 125 }, 0, 10950 },
+        { 8, { 5, 3 }, 701, 0 }, { 7, { 5, 3 }, 0, 438 },
+    };
+    static const uint32_t prices[] = { 10, 10 };
+    for (size_t i = 0; i < sizeof cases / sizeof *cases; i++) {
+        struct round_file f = one_bid_each(cases[i].budget, 2, cases[i].capacities, prices);
+        char expected[192];
+        if (cases[i].both > 0)
+            snprintf(expected, sizeof expected, "pot 0 auction\nyear 0 price 10 total %u\n"
+                     "application 0 won 10 bid 0\napplication 1 won 10 bid 1\n"
+                     "bid 0 reason 1\nbid 1 reason 1\n", cases[i].both);
+        else
+            snprintf(expected, sizeof expected, "pot 0 auction\nyear 0 price 10 total %u\n"
+                     "application 0 won 10 bid 0\napplication 1 lost\n"
+                     "bid 0 reason 1\nbid 1 reason 3\n", cases[i].first);
+        lists(&f, expected);
+    }
+}
+
+/* 263 pence against 88 and 176: the two come closer to 3 pounds.  In pounds both
+ * would be 3, and the lowest draw would decide for the one. */
+static void tie_closest_in_pence(void)
+{
+    static const uint32_t capacities[] = { 3, 1, 2 }, prices[] = { 10, 10, 10 };
+    struct round_file f = one_bid_each(3, 3, capacities, prices);
+    lists(&f,
+          "pot 0 auction\n"
+          "year 0 price 10 total 264\n"
+          "application 0 lost\n"
+          "application 1 won 10 bid 1\n"
+          "application 2 won 10 bid 2\n"
+          "bid 0 reason 3\n"
+          "bid 1 reason 1\n"
+          "bid 2 reason 1\n");
+}
+
+/* 64 applications of V5 have the greatest total there is: exactly their budget,
+ * and a pound more than it. */
+static void greatest_total(void)
+{
+    const uint64_t total = 84326400000000u, pounds = total / JUDGE_PENCE_TO_THE_POUND;
+    for (unsigned less = 0; less < 2; less++) {
+        struct round_file f = { .len = 0 };
+        uint8_t result[JUDGE_MAX_RESULT];
+        add(&f, 2, 1);
+        add_year(&f, 366, 1, 0);
+        add(&f, 2, 1);
+        add(&f, 8, pounds - less);
+        add(&f, 2, 1);
+        add(&f, 2, 0);
+        add(&f, 2, 10000);
+        add_technology_year(&f, 500000, 0, 10000);
+        add(&f, 2, JUDGE_MAX_APPLICATIONS);
+        for (unsigned i = 0; i < JUDGE_MAX_APPLICATIONS; i++) {
+            size_t start = f.len;
+            add_application(&f, 0, i, 300000);
+            set(&f, start + 4, 2, 366);
+        }
+        add(&f, 2, 0);
+        assert(judge_clear(f.bytes, f.len, result, sizeof result) == 0);
+        assert(get(result + 2, 2) == (less ? 2 : 0));
+        assert(get(result + 8, 8) == (less ? 0 : total));
+    }
 }
 
 /* ---- beyond the worked cases: automatic bids, wide ties, valuation-only ---- */
@@ -315,7 +460,7 @@ static void automatic_bids(void)
     add(&f, 2, 0);
     lists(&f,
           "pot 0 auction\n"
-          "year 0 price 20000 total 175200\n"
+          "year 0 price 20000 total 17520000\n"
           "application 0 won 20000 bid auto\n"
           "application 1 lost\n");
     uint8_t result[64];
@@ -341,7 +486,7 @@ static void widest_ties(void)
     char out[JUDGE_LISTING_CAP];
     struct round_file ten = tied_at_4000(10);
     int len = judge_listing(ten.bytes, ten.len, out, sizeof out);
-    static const char ten_starts[] = "pot 0 auction\nyear 0 price 4000 total 70080\napplication 0 lost\n";
+    static const char ten_starts[] = "pot 0 auction\nyear 0 price 4000 total 7008000\napplication 0 lost\n";
     assert(len > 0 && memcmp(out, ten_starts, sizeof ten_starts - 1) == 0);
     out[len] = 0;
     assert(strstr(out, "application 7 lost\napplication 8 won 4000 bid 8\napplication 9 won 4000 bid 9\n"));
@@ -375,8 +520,8 @@ static void valuation_only_year(void)
     add_bid(&f, 0, 0, 100, 5000);
     lists(&f,
           "pot 0 auction\n"
-          "year 0 price 5000 total 43800\n"
-          "year 1 price - total 43920\n"
+          "year 0 price 5000 total 4380000\n"
+          "year 1 price - total 4392000\n"
           "pot 1 administrative\n"
           "year 0 price - total 0\n"
           "year 1 price - total 0\n"
@@ -480,6 +625,11 @@ int main(void)
     round_a_and_its_kin();
     result_of_a();
     ties_and_flexible_bid();
+    three_that_pounds_turn_down();
+    one_bid_at_a_penny();
+    tie_at_a_penny();
+    tie_closest_in_pence();
+    greatest_total();
     automatic_bids();
     widest_ties();
     valuation_only_year();

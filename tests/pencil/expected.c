@@ -382,14 +382,15 @@ static void write_round(const struct round *round)
 typedef unsigned __int128 wide; /* a product has up to 28 digits */
 
 enum { LINES = 5, MOST_DIGITS = 28 };
-static const wide PARTS = 100000000000000000u; /* 10^17 to the pound */
+enum { PENCE_TO_THE_POUND = 100 };
+static const wide PARTS_TO_THE_PENNY = 1000000000000000u; /* 10^15 */
 
-/* The divisions in their order; the scales together are 10^17. */
+/* The divisions in their order; the scales together are 10^15. */
 static const struct {
     const char *name;
     uint32_t scale;
 } lines[LINES] = {
-    { "over 1,000: price", 1000 },
+    { "over 10: price", 10 },
     { "over 10,000: load factor", 10000 },
     { "over 100: capacity", 100 },
     { "over 10,000: 1 - TLM", 10000 },
@@ -398,7 +399,7 @@ static const struct {
 
 struct working {
     uint32_t price, reference, difference, load, hours, capacity, kept, rqm;
-    wide product, over[LINES], value;
+    wide product, over[LINES], value; /* in pence */
 };
 
 static wide divided_up(wide number, wide by)
@@ -413,8 +414,8 @@ static uint32_t hours_in(const struct round *round, const struct bid *bid, unsig
     return HOURS_A_DAY * (y == bid->year ? bid->days : round->year[y].days);
 }
 
-/* The value is not the last of the lines: it is the product over 10^17, rounded
- * once, as the document has it. */
+/* The value is not the last of the lines: it is the product over 10^15, rounded
+ * up once to a whole penny, as the document has it. */
 static struct working work(const struct round *round, const struct bid *bid, unsigned y)
 {
     const struct application *application = &round->application[bid->application];
@@ -433,18 +434,19 @@ static struct working work(const struct round *round, const struct bid *bid, uns
     wide above = w.product;
     for (unsigned s = 0; s < LINES; s++)
         above = w.over[s] = divided_up(above, lines[s].scale);
-    w.value = divided_up(w.product, PARTS);
+    w.value = divided_up(w.product, PARTS_TO_THE_PENNY);
     return w;
 }
 
 /* ---- the text ---- */
 
-static void print_line(const char *name, wide number)
+enum { ROOM = 64, NAME_WIDTH = 26, NUMBER_WIDTH = 37 };
+
+/* The number with commas, written to end before this place; answers its start. */
+static char *write_before(char *at, wide number)
 {
-    enum { GROUP = 3, ROOM = 64, NAME_WIDTH = 26, NUMBER_WIDTH = 37 };
-    char room[ROOM], *at = room + ROOM - 1;
+    enum { GROUP = 3 };
     unsigned digits = 0;
-    *at = '\0';
     do {
         if (digits > 0 && digits % GROUP == 0)
             *--at = ',';
@@ -452,7 +454,28 @@ static void print_line(const char *name, wide number)
         number /= 10;
         digits++;
     } while (number > 0);
-    printf("  %-*s%*s\n", NAME_WIDTH, name, NUMBER_WIDTH, at);
+    return at;
+}
+
+static void print_line(const char *name, wide number)
+{
+    char room[ROOM];
+    room[ROOM - 1] = '\0';
+    printf("  %-*s%*s\n", NAME_WIDTH, name, NUMBER_WIDTH, write_before(room + ROOM - 1, number));
+}
+
+/* Pounds and pence as people write them.  The pound sign is one character of
+ * two bytes, and widths are counted in bytes. */
+static void print_money(const char *name, wide pence)
+{
+    static const char sign[] = "\xC2\xA3";
+    enum { SIGN_BYTES = sizeof sign - 1, WIDTH_IN_BYTES = NUMBER_WIDTH - 1 + SIGN_BYTES };
+    char room[ROOM], whole[ROOM];
+    room[ROOM - 1] = '\0';
+    snprintf(whole, sizeof whole, "%s%s.%02u", sign,
+             write_before(room + ROOM - 1, pence / PENCE_TO_THE_POUND),
+             (unsigned)(pence % PENCE_TO_THE_POUND));
+    printf("  %-*s%*s\n", NAME_WIDTH, name, WIDTH_IN_BYTES, whole);
 }
 
 static void print_working(const struct working *w)
@@ -468,7 +491,7 @@ static void print_working(const struct working *w)
     print_line("product", w->product);
     for (unsigned s = 0; s < LINES; s++)
         print_line(lines[s].name, w->over[s]);
-    print_line("value", w->value);
+    print_money("value", w->value);
 }
 
 static void print_text(const struct round *round)
@@ -489,9 +512,19 @@ static void print_text(const struct round *round)
  * start, since a bid has at least one day. */
 #define KINDS(KIND) \
     KIND("product 0", w->product == 0) \
-    KIND("product above 0 and below 10^17", w->product > 0 && w->product < PARTS) \
-    KIND("product above 0, a multiple of 10^17", w->product > 0 && w->product % PARTS == 0) \
+    KIND("product above 0 and below 10^15", w->product > 0 && w->product < PARTS_TO_THE_PENNY) \
+    KIND("product above 0, a multiple of 10^15", \
+         w->product > 0 && w->product % PARTS_TO_THE_PENNY == 0) \
     KIND("product of 28 digits", digits_of(w->product) == MOST_DIGITS) \
+    KIND("value of pence below ten", w->value > 0 && w->value < 10) \
+    KIND("value of pence from ten", w->value >= 10 && w->value < PENCE_TO_THE_POUND) \
+    KIND("value of whole pounds", w->value > 0 && w->value % PENCE_TO_THE_POUND == 0) \
+    KIND("value of pounds and pence below ten", \
+         w->value > PENCE_TO_THE_POUND && w->value % PENCE_TO_THE_POUND > 0 \
+             && w->value % PENCE_TO_THE_POUND < 10) \
+    KIND("value of pounds below a thousand", \
+         w->value >= PENCE_TO_THE_POUND && w->value < 1000 * PENCE_TO_THE_POUND) \
+    KIND("value of thousands of pounds", w->value >= 1000 * PENCE_TO_THE_POUND) \
     KIND("price below reference", w->price < w->reference) \
     KIND("price equal to reference", w->price == w->reference) \
     KIND("price one unit above reference", w->price == w->reference + 1) \
