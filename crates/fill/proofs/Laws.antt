@@ -1,5 +1,5 @@
 -- The laws of the filling, over plain variables: one for each return and each turn of a loop. Assumes nothing.
-use Prim.Native.Nat.{ℕ, zero, suc, _+_, _-_, _≤_, _<_}
+use Prim.Native.Nat.{ℕ, zero, suc, _+_, _-_, _*_, _≤_, _<_}
 use mathlib.Core.Path.{_≡_, refl, sym, ap, subst, _∙_}
 use mathlib.Core.Bool.{Bool, true, false}
 use mathlib.Core.List.{List, [], _∷_}
@@ -10,7 +10,7 @@ use lib.ListN.{length, getD, set, take, drop, length-set, getD-replicate}
 use lib.Seq.{getD-drop, getD-set-same, getD-set-other}
 use lib.Dec.{eqb}
 use borrow.Author.Tests.{eqb-true, eqb-false, eq-eqb, ne-eqb}
-use Rattle.rules.specs.Names.{mostYears, potWidth, mostNumbers}
+use Rattle.rules.specs.Names.{mostYears, potWidth, mostNumbers, pencePerPound, highestBudget}
 use Rattle.rules.specs.Lists.{pick, sift, below}
 use Rattle.rules.specs.Bytes.{part}
 use Rattle.rules.specs.File.{Round, App, Bid, appAt, budgetAt}
@@ -99,10 +99,15 @@ pub figures-own : (R : Round) (p k : ℕ) {x : Bid} {a : App} (s : List ℕ) →
     → Figured R (a .tech) x k (R .y) s → FiguresRight R p k (R .y) s
 figures-own R p k s m ex ea f y l = subst (λ (v : List ℕ). Stands v s (figurePlace k y)) (figure-own R p k (sym m) refl ex ea y l refl) (f y l)
 
-pub limits-more : (years : ℕ) (pots : List ℕ) (p y : ℕ) (s : List ℕ) {x : ℕ} → y < length s → LimitsRight years pots p y s → x ≡ budgetAt years pots p y
+-- a budget, read in the part that the pots occupy, is within its range
+pub budget-in : (R : Round) (p y : ℕ) {pots : List ℕ} {x : ℕ} → Sound R → pots ≡ R .pots → p < R .p → y < R .y → x ≡ budgetAt (R .y) pots p y
+    → x ≤ highestBudget
+budget-in R p y S e h l q = rw (q, e) (S .budget-most p y h l)
+
+pub limits-more : (years : ℕ) (pots : List ℕ) (p y : ℕ) (s : List ℕ) {x : ℕ} → y < length s → LimitsRight years pots p y s → x ≡ pencePerPound * budgetAt years pots p y
     → LimitsRight years pots p (y + 1) (set s y x)
 limits-more years pots p y s {x} h f e =
-    and-next (λ k. getD (set s y x) k 0 ≡ budgetAt years pots p k) y
+    and-next (λ k. getD (set s y x) k 0 ≡ pencePerPound * budgetAt years pots p k) y
     (λ j l. getD-set-other s y j x 0 (λ z. omega arith) ∙ f j l)
     (getD-set-same s y x 0 h ∙ e)
 

@@ -8,12 +8,12 @@ use native.Mathlib.Nat.{add-zero, zero-mul, mul-zero}
 use lib.ListN.{length, getD, List·getD-eq-default, getD-replicate}
 use lib.Dec.{eqb, ltb}
 use borrow.Author.Tests.{lt-ltb, ltb-true, ltb-false}
-use Rattle.rules.specs.Names.{mostYears, mostApps, mostDeliveries, highestPrice, highestBudget, whole, longYear, largestCapacity, mostNumbers, dayHours}
+use Rattle.rules.specs.Names.{mostYears, mostApps, mostDeliveries, highestPrice, highestBudget, whole, longYear, largestCapacity, mostNumbers, dayHours, pencePerPound}
 use Rattle.rules.specs.Lists.{pick, sift, below}
 use Rattle.rules.specs.Bytes.{le}
-use Rattle.rules.specs.Value.{exactParts, hoursOf, pound, mostEnergy}
+use Rattle.rules.specs.Value.{exactParts, hoursOf, penny, mostEnergy}
 use Rattle.rules.specs.File.{Round, yearAt, budgetAt}
-use Rattle.rules.specs.Round.{Row, blank, energyOf, costOf, assemble, bidOf, mine, enters, rowFor, potOf}
+use Rattle.rules.specs.Round.{Row, blank, energyOf, costOf, assemble, bidOf, mine, enters, rowFor, budgetOf, potOf}
 use Rattle.laws_pot.specs.Lists.{case, in-sift, in-below, sift-same}
 use Rattle.laws_reading.specs.Reading.{Sound}
 use Rattle.laws_reading.specs.Reading as r
@@ -167,7 +167,7 @@ module _ (R : Round) (S : Sound R) (p : ℕ) {sheet : List ℕ} {n : ℕ} (W : W
       (λ t. rw t (case (ltb k (R .b + R .n)) (λ u. cost-in k price z (ltb-true k _ u) (ltb-true z _ t)) (λ u. cost-beyond k price z (ltb-false k _ u))))
       (λ t. rw (t, load-out k z t) (sym (no-load _ _ _ _ _)))
 
-  budget-is : (z : ℕ) → pick (ltb z (R .y)) (limitAt sheet z) 0 ≡ pick (ltb z (R .y)) (budgetAt (R .y) (R .pots) p z) 0
+  budget-is : (z : ℕ) → pick (ltb z (R .y)) (limitAt sheet z) 0 ≡ budgetOf R p z
   unfolding limitAt
   budget-is z = case (ltb z (R .y)) (λ t. rw t (W .limits-right z (ltb-true z _ t))) (λ t. rw t)
 
@@ -177,7 +177,7 @@ module _ (R : Round) (S : Sound R) (p : ℕ) {sheet : List ℕ} {n : ℕ} (W : W
     bids = bids-are i;
     autos = autos-are i;
     years = R .y;
-    scale = pound;
+    scale = penny;
     app = λ k. app-is k i;
     yr = λ k. year-is k i;
     price = λ k. price-is k i;
@@ -281,5 +281,6 @@ module _ (R : Round) (S : Sound R) (p : ℕ) (bytes : (i : ℕ) → getD (R .app
       listed = W .entered;
     }
       where
-        limit-most : (z : ℕ) → getD sheet z 0 ≡ budgetAt (R .y) (R .pots) p z → budgetAt (R .y) (R .pots) p z ≤ highestBudget → limitAt sheet z ≤ highestBudget
-        limit-most z e g = unfold limitAt in rw e g
+        limit-most : (z : ℕ) → getD sheet z 0 ≡ pencePerPound * budgetAt (R .y) (R .pots) p z → budgetAt (R .y) (R .pots) p z ≤ highestBudget
+            → limitAt sheet z ≤ pencePerPound * highestBudget
+        limit-most z e g = unfold limitAt in rw e (omega arith)

@@ -1,9 +1,9 @@
 -- What a sheet holds once it is filled. Assumes nothing.
-use Prim.Native.Nat.{ℕ, _+_, _≤_, _<_}
+use Prim.Native.Nat.{ℕ, _+_, _*_, _≤_, _<_}
 use mathlib.Core.Path.{_≡_}
 use mathlib.Core.List.{List}
 use lib.ListN.{length, getD}
-use Rattle.rules.specs.Names.{mostNumbers}
+use Rattle.rules.specs.Names.{mostNumbers, pencePerPound}
 use Rattle.rules.specs.Lists.{sift, below}
 use Rattle.rules.specs.File.{Round, Bid, budgetAt}
 use Rattle.sheet.specs.declared.Size.{Size}
@@ -51,7 +51,7 @@ abbrev pub AllFigures : Round → (p n : ℕ) → List ℕ → Type 0
 AllFigures R p n sheet = (k : ℕ) → k < n → FiguresRight R p k (R .y) sheet
 
 abbrev pub LimitsRight : (years : ℕ) (pots : List ℕ) (p n : ℕ) → List ℕ → Type 0
-LimitsRight years pots p n sheet = (y : ℕ) → y < n → getD sheet y 0 ≡ budgetAt years pots p y
+LimitsRight years pots p n sheet = (y : ℕ) → y < n → getD sheet y 0 ≡ pencePerPound * budgetAt years pots p y
 
 -- ---- from s to t: the rows of all bids were written; the figures of one bid, and of all; the limits; the first n of m bids that enter.
 -- Nothing else was changed, and t is as long as a sheet

@@ -77,7 +77,7 @@ fn fill_figures(file: &[u8], sections: Sections, p: usize, sheet: &mut Sheet)
     }
 }
 
-// The limits: the budgets of pot p.
+// The limits: the budgets of pot p, in pence.
 fn fill_limits(file: &[u8], sections: Sections, p: usize, sheet: &mut Sheet)
     requires { ⌜ Held (now file) sections × (p < sections .pots) × (length (now sheet) ≡ sheetLength) ⌝ }
     ensures { λ _. ⌜ LimitsWritten (roundIn (now (file .entry)) sections) p (now (sheet .entry)) (now (sheet .exit)) ⌝ }
@@ -86,7 +86,7 @@ fn fill_limits(file: &[u8], sections: Sections, p: usize, sheet: &mut Sheet)
     let years = sections.years;
     let mut y: usize = 0;
     while y < years {
-        sheet[y] = pot::budget(recs, years, p, y);
+        sheet[y] = names::PENCE_PER_POUND * pot::budget(recs, years, p, y);
         y += 1;
     }
 }

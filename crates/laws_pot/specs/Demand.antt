@@ -14,7 +14,7 @@ use Rattle.laws_pot.specs.Mono.{Lawful}
 use Rattle.laws_pot.specs.Runs.{Turned, now, before, Rest, has-won, cheaper, waits, Inv, inv-end, none-live}
 
 module _ (P : Pot) where
-  -- c was turned down, and with all that had won by the end of that step it costs, in some year, more than the budget less a pound for each bid counted
+  -- c was turned down, and with all that had won by the end of that step it costs, in some year, more than the budget less a penny for each bid counted
   pub data Dear (c : ℕ) : Trace → Type 0 where
     dear : {e : Event} {s : Trace} (y : ℕ) → In c (e .downs) → y < P .years
         → P .budget y * P .scale < exact P (c ∷ winners (e ∷ s)) y + counted P (c ∷ winners (e ∷ s)) * P .scale → Dear c (e ∷ s)
@@ -24,7 +24,7 @@ module _ (P : Pot) where
   pub record Meets (s : Trace) : Type 0 where
     -- 1: the winners, at the prices paid, cost exactly no more than the budget in any year
     pub affordable : (y : ℕ) → y < P .years → exact P (winners s) y ≤ P .budget y * P .scale
-    -- 2 and 3: the total is not below that cost, and not above it by more than a pound a winner
+    -- 2 and 3: the total is not below that cost, and not above it by more than a penny a winner
     pub not-below : (y : ℕ) → exact P (winners s) y ≤ total P (winners s) y * P .scale
     pub not-above : (y : ℕ) → total P (winners s) y * P .scale ≤ exact P (winners s) y + counted P (winners s) * P .scale
     -- 4: a bid turned down is dear

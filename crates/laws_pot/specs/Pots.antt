@@ -22,14 +22,14 @@ module _ (P : Pot) where
   abbrev affordable : Trace → Bool
   affordable s = all (λ y. leb (exact P (winners s) y) (P .budget y * P .scale)) (below (P .years))
 
-  -- 2 and 3: "the reported total is never below that cost and above it by at most one pound a winner"
+  -- 2 and 3: "the reported total is never below that cost and above it by at most one penny a winner"
   abbrev near : Trace → Bool
   near s =
       all (λ y. leb (exact P (winners s) y) (total P (winners s) y * P .scale)
       && leb (total P (winners s) y * P .scale) (exact P (winners s) y + counted P (winners s) * P .scale)) (below (P .years))
 
   -- 4: "every bid looked at and turned down would, added at its own price to all that had won by the end of its step, revalued, have cost in some year more
-  -- than the budget less one pound for each bid counted"
+  -- than the budget less one penny for each bid counted"
   unfoldable pub dear : Trace → Bool
   dear [] = true
   dear (e ∷ s) =
@@ -47,7 +47,7 @@ module _ (P : Pot) where
   abbrev shut : Trace → Bool
   shut s = all (λ c. memb (P .yr c) (closed s)) (downs s)
 
--- a pot of one year, ten parts to the pound, whose bid k is of application k and costs `parts k` at a price of 1
+-- a pot of one year, ten parts to the penny, whose bid k is of application k and costs `parts k` at a price of 1
 abbrev pot : (bids : List ℕ) (price parts : ℕ → ℕ) (budget : ℕ) → Pot
 pot bids price parts budget = record {
   bids = bids;
@@ -67,7 +67,7 @@ pot bids price parts budget = record {
 abbrev dearer : Pot
 dearer = pot (1 ∷ 0 ∷ []) (λ k. 10 + 10 * k) (λ k. 3) 6
 
--- one bid of 31 parts, which is 3 pounds and a tenth
+-- one bid of 31 parts, which is 3 pence and a tenth
 abbrev tenth : Pot
 tenth = pot (0 ∷ []) (λ k. 1) (λ k. 31) 9
 

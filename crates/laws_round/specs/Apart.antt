@@ -8,12 +8,12 @@ use mathlib.Core.List.{List, [], _∷_, map}
 use native.Mathlib.Omega.{arith}
 use lib.Dec.{eqb, ltb}
 use borrow.Author.Tests.{eqb-true, eqb-false, eq-eqb, ne-eqb, ltb-true, lt-ltb}
-use Rattle.rules.specs.Names.{potWidth, techWidth, appWidth, bidWidth}
+use Rattle.rules.specs.Names.{pencePerPound, potWidth, techWidth, appWidth, bidWidth}
 use Rattle.rules.specs.Lists.{pick, memb, sift, below}
 use Rattle.rules.specs.Bytes.{le}
-use Rattle.rules.specs.File.{Round, App, Bid, budgetAt, techAt, appAt, bidAt}
+use Rattle.rules.specs.File.{Round, App, Bid, techAt, appAt, bidAt}
 use Rattle.rules.specs.Pot.{Pot, outcome, priceIn, totalIn, reason}
-use Rattle.rules.specs.Round.{blank, techOf, automatic, bidOf, mine, silent, enters, rowFor, assemble, potOf}
+use Rattle.rules.specs.Round.{blank, techOf, automatic, bidOf, mine, silent, enters, rowFor, assemble, budgetOf, potOf}
 use Rattle.rules.specs.Result.{potFor, potAt, toldIn, appTold}
 use Rattle.laws_pot.specs.Lists.{case, clash, In, here, there, below-in, sift-same}
 use Rattle.laws_reading.specs.Alike.{Same, le-same}
@@ -214,14 +214,14 @@ module _ (p : ℕ) (f g : Round) (F : Sound f) (A : DifferElsewhere p f g) where
           (λ t. rw (sym (mine-same k) ∙ t, t) (row-same (bidOf f k) (mine-is f F p k t) ∙ ap (rowFor g) (bid-same k t)))
           (λ t. rw (sym (mine-same k) ∙ t, t))
 
-      budget : (y : ℕ) → pick (ltb y (f .y)) (budgetAt (f .y) (f .pots) p y) 0 ≡ pick (ltb y (g .y)) (budgetAt (g .y) (g .pots) p y) 0
+      budget : (y : ℕ) → budgetOf f p y ≡ budgetOf g p y
       budget y =
           let e : ltb y (g .y) ≡ ltb y (f .y) = ap (λ (z : ℕ). ltb y z) (sym (A .count-y)) in
           case (ltb y (f .y))
           (λ u. rw (e, u)
-          (le-same 8 (f .pots) (g .pots) (p * potWidth (f .y)) (potWidth (f .y)) (p * potWidth (f .y) + 8 * y)
+          (ap (λ (z : ℕ). pencePerPound * z) (le-same 8 (f .pots) (g .pots) (p * potWidth (f .y)) (potWidth (f .y)) (p * potWidth (f .y) + 8 * y)
           (A .budgets) (omega arith) (omega (arith, ltb-true y (f .y) u))
-          ∙ ap (λ (z : ℕ). le 8 (g .pots) (p * potWidth z + 8 * y)) (A .count-y)))
+          ∙ ap (λ (z : ℕ). le 8 (g .pots) (p * potWidth z + 8 * y)) (A .count-y))))
           (λ u. rw (e, u))
 
 -- What the result tells of pot p is the same

@@ -7,9 +7,9 @@ use native.Mathlib.Omega.{arith}
 use native.Mathlib.Nat.{mul-le-mul-right}
 use lib.Dec.{eqb, ltb}
 use borrow.Author.Tests.{eqb-true, ltb-true, ltb-false, lt-ltb, le-ltb}
-use Rattle.rules.specs.Names.{whole}
+use Rattle.rules.specs.Names.{whole, pencePerPound}
 use Rattle.rules.specs.Lists.{pick, below}
-use Rattle.rules.specs.Value.{exactParts, pound}
+use Rattle.rules.specs.Value.{exactParts, penny}
 use Rattle.rules.specs.File.{Round, Bid, budgetAt, appAt, bidAt}
 use Rattle.rules.specs.Round.{Row, blank, techOf, costOf, automatic, bidOf, mine, silent, enters, rowFor, assemble, potOf}
 use Rattle.laws_pot.specs.Lists.{case, clash, and-true, not-is-true, In, in-memb, in-map, in-below, sift-in}
@@ -117,15 +117,15 @@ module _ (R : Round) (p : ℕ) where
   unfolding potOf assemble
   bids-once k = omega (arith, often-sift k (λ k. mine R p k && enters R k) (below (R .b + R .n)), often-below k (R .b + R .n))
 
-  pub pound-is : potOf R p .scale ≡ pound
+  pub penny-is : potOf R p .scale ≡ penny
   unfolding potOf assemble
-  pound-is = refl
+  penny-is = refl
 
   pub years-is : potOf R p .years ≡ R .y
   unfolding potOf assemble
   years-is = refl
 
-  pub budget-is : (y : ℕ) → y < R .y → potOf R p .budget y ≡ budgetAt (R .y) (R .pots) p y
+  pub budget-is : (y : ℕ) → y < R .y → potOf R p .budget y ≡ pencePerPound * budgetAt (R .y) (R .pots) p y
   unfolding potOf assemble
   budget-is y h = rw (lt-ltb y (R .y) h)
 
@@ -195,7 +195,7 @@ module _ (R : Round) (p : ℕ) where
         differ c d i j (app-is c m ∙ e ∙ sym (app-is d n)) q
 
     pub lawful : Lawful (potOf R p)
-    lawful = record { pos = rw pound-is (omega arith); apart = drawn-apart; mono = mono }
+    lawful = record { pos = rw penny-is (omega arith); apart = drawn-apart; mono = mono }
       where
         mono : (b p′ q y : ℕ) → p′ ≤ q → potOf R p .cost b p′ y ≤ potOf R p .cost b q y
         mono b p′ q y h = unfold potOf assemble in cost-mono (R .years) _ p′ q y h

@@ -1,12 +1,12 @@
 -- The numbers of the result of an accepted file fit in their bytes. Assumes nothing.
-use Prim.Native.Nat.{ℕ, _+_, _-_, _≤_, _<_}
+use Prim.Native.Nat.{ℕ, _+_, _-_, _*_, _≤_, _<_}
 use mathlib.Core.Path.{_≡_, refl, ap, _∙_}
 use mathlib.Core.Bool.{true, _&&_}
 use mathlib.Core.List.{List, [], _∷_}
 use native.Mathlib.Omega.{arith}
 use lib.Dec.{eqb, ltb}
 use borrow.Author.Tests.{ltb-true, eq-eqb}
-use Rattle.rules.specs.Names.{highestBudget, highestPrice, noPrice, noBid, noReason, becauseTooWide}
+use Rattle.rules.specs.Names.{pencePerPound, highestBudget, highestPrice, noPrice, noBid, noReason, becauseTooWide}
 use Rattle.rules.specs.Lists.{pick, memb}
 use Rattle.rules.specs.File.{Round, appAt}
 use Rattle.rules.specs.Pot.{Pot, winners, auction, adminTotal, adminFits, priceIn, totalIn, total, paid, reason, winnersOf}
@@ -52,11 +52,11 @@ module _ (R : Round) (S : Sound R) where
         (λ t u. price-below P noPrice noPrice (winners (auction P)) d (omega arith) (λ w i. omega (arith, price-most w (bids-in R p w (won-in R p S w i) .0))))
         (omega arith)
 
-    pub totalIn-most : (y : ℕ) → p < R .p → y < R .y → totalIn P y ≤ highestBudget
+    pub totalIn-most : (y : ℕ) → p < R .p → y < R .y → totalIn P y ≤ pencePerPound * highestBudget
     unfolding totalIn adminFits
     totalIn-most y l h =
         let B = S .budget-most p y l h in
-        by-all P (λ (n : ℕ). n ≤ highestBudget) _ _ _
+        by-all P (λ (n : ℕ). n ≤ pencePerPound * highestBudget) _ _ _
         (λ t. omega (arith, budget-is R p y h, within-true P (adminTotal P) (P .years) t y (rw (years-is R p) h)))
         (λ t u. omega
         (arith, budget-is R p y h, within-true P (total P (winners (auction P))) (P .years) (inv-end P (lawful R p S) .fit) y (rw (years-is R p) h)))

@@ -1,8 +1,10 @@
 -- The third demand is met by the records told of every pot that an auction cleared. Assumes nothing.
 use Prim.Native.Nat.{ℕ, _+_, _*_, _≤_}
-use mathlib.Core.Path.{_≡_, refl, sym, _∙_}
+use mathlib.Core.Path.{_≡_, sym, _∙_}
+use native.Mathlib.Omega.{arith}
 use mathlib.Core.Logic.{inl, inr, ⊎-elim}
-use Rattle.rules.specs.Names.{becauseWon}
+use Rattle.rules.specs.Names.{becauseWon, pencePerPound}
+use Rattle.rules.specs.Value.{penny, pound}
 use Rattle.rules.specs.File.{Round}
 use Rattle.rules.specs.Pot.{Pot, winners, downs, auction, totalIn, reason}
 use Rattle.rules.specs.Round.{bidOf, potOf}
@@ -12,13 +14,17 @@ use Rattle.laws_reading.specs.Reading.{Sound}
 use Rattle.laws_pot.specs.Runs.{won-seen, down-seen}
 use Rattle.laws_pot.specs.Demand as d
 use Rattle.laws_pot.specs.Once.{seen-mine, not-both, downs-once}
-use Rattle.laws_round.specs.Bids.{pound-is, years-is, budget-is, bids-in, bids-once, app-is, yr-is, price-is, lawful}
+use Rattle.laws_round.specs.Bids.{penny-is, years-is, budget-is, bids-in, bids-once, app-is, yr-is, price-is, lawful}
 use Rattle.laws_pot.specs.Reasons.{TurnedDown, Auctioned, Why, wins, falls, rests, fate, won-so, fell, rested, reason-why}
 use Rattle.laws_round.specs.Third.{Third}
 use Rattle.laws_round.specs.Carried.{bid-mine, won-in, won-told, bid-told, winner-of, exact-told, length-told, total-told}
 
-at-scale : {a b c s t : ℕ} → b ≡ c → s ≡ t → a ≤ b * s → a ≤ c * t
-at-scale p q h = rw (sym p, sym q) h
+at-scale : (b : ℕ) {a s t : ℕ} → s ≡ t → a ≤ b * s → a ≤ b * t
+at-scale b q h = rw (sym q) h
+
+-- so many pence, each of a penny's parts, are a budget in pounds
+in-pounds : (budget : ℕ) {a pence scale : ℕ} → pence ≡ pencePerPound * budget → scale ≡ penny → a ≤ pence * scale → a ≤ budget * pound
+in-pounds budget {a} p q h = let g : a ≤ pencePerPound * budget * penny = rw (sym p, sym q) h in omega arith
 
 both-scales : (a b n : ℕ) {s t : ℕ} → s ≡ t → a * s ≤ b + n * s → a * t ≤ b + n * t
 both-scales a b n q h = rw (sym q) h
@@ -53,9 +59,9 @@ module _ (R : Round) (p : ℕ) (S : Sound R) (A : Auctioned (potOf R p)) where
 
   pub third : Third R p (appTold R) (totalIn P) (reason P)
   third = record {
-    affordable = λ y h. rw (exact-told R p S A y) (at-scale (budget-is R p y h) (pound-is R p) (demand .affordable y (rw (years-is R p) h)));
-    not-below = λ y l. rw (exact-told R p S A y, total-told R p S A y) (at-scale refl (pound-is R p) (demand .not-below y));
-    not-above = λ y l. rw (exact-told R p S A y, total-told R p S A y, length-told R p S A) (both-scales _ _ _ (pound-is R p) (demand .not-above y));
+    affordable = λ y h. rw (exact-told R p S A y) (in-pounds _ (budget-is R p y h) (penny-is R p) (demand .affordable y (rw (years-is R p) h)));
+    not-below = λ y l. rw (exact-told R p S A y, total-told R p S A y) (at-scale _ (penny-is R p) (demand .not-below y));
+    not-above = λ y l. rw (exact-told R p S A y, total-told R p S A y, length-told R p S A) (both-scales _ _ _ (penny-is R p) (demand .not-above y));
     turned-down = λ k i t. demand .turned-down k (fell P k (reason P k) (reason-why P A k) t);
     unlooked = λ k i t.
         let n = bids-in R p k i .0 in

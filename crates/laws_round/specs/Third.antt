@@ -7,7 +7,7 @@ use mathlib.Core.List.{List}
 use lib.ListN.{length}
 use lib.Dec.{eqb, ltb}
 use Rattle.rules.specs.Lists.{pick, sift, below, sum}
-use Rattle.rules.specs.Value.{pound}
+use Rattle.rules.specs.Value.{penny, pound}
 use Rattle.rules.specs.File.{Round, budgetAt}
 use Rattle.rules.specs.Names.{becauseWon}
 use Rattle.rules.specs.Pot.{downs, auction}
@@ -37,18 +37,16 @@ module _ (R : Round) (p : ℕ) (T : ℕ → Told) where
   exactTold y = sum (costTold y) wonApps
 
 -- Of pot p, which an auction cleared, where a result tells T of the applications, `total` of the years and `why` of the pot's bids. Costs are exact: parts,
--- `pound`
--- to the pound
+-- `penny` to the penny. Totals are pence, budgets pounds
 pub record Third (R : Round) (p : ℕ) (T : ℕ → Told) (total why : ℕ → ℕ) : Type 0 where
   -- the winners at the prices paid cost no more than the budget in any year
   pub affordable : (y : ℕ) → y < R .y → exactTold R p T y ≤ budgetAt (R .y) (R .pots) p y * pound
   -- the reported total is never below that cost
-  pub not-below : (y : ℕ) → y < R .y → exactTold R p T y ≤ total y * pound
-  -- and above it by at most one pound a winner
-  pub not-above : (y : ℕ) → y < R .y → total y * pound ≤ exactTold R p T y + length (wonApps R p T) * pound
+  pub not-below : (y : ℕ) → y < R .y → exactTold R p T y ≤ total y * penny
+  -- and above it by at most one penny a winner
+  pub not-above : (y : ℕ) → y < R .y → total y * penny ≤ exactTold R p T y + length (wonApps R p T) * penny
   -- every bid looked at and turned down would, added at its own price to all that had won by the end of its step, revalued, have cost in some year more
-  -- than the
-  -- budget less one pound for each bid counted
+  -- than the budget less one penny for each bid counted
   pub turned-down : (k : ℕ) → In k (potOf R p .bids) → TurnedDown (why k) → Dear (potOf R p) k (auction (potOf R p))
   -- the step that turned a bid down is one
   pub one-step : NoneTwice (downs (auction (potOf R p)))

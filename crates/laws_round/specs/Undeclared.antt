@@ -12,12 +12,12 @@ use Rattle.rules.specs.Names.{countWidth, appWidth, bidWidth, bytesAfter, large
 use Rattle.rules.specs.Names.{countOutside, appBroken, bidBroken, endsEarly}
 use Rattle.rules.specs.Lists.{pick, given, both, when, never, every, sift, below}
 use Rattle.rules.specs.Bytes.{le, part, bytes, each, onto}
-use Rattle.rules.specs.File.{Round, Bid, sections, roundOf, sectionsOf, deliveries, yearAt, budgetAt, techAt, appAt, bidAt, potsAt, techsAt, appsAt, bidsAt}
+use Rattle.rules.specs.File.{Round, Bid, sections, roundOf, sectionsOf, deliveries, yearAt, techAt, appAt, bidAt, potsAt, techsAt, appsAt, bidsAt}
 use Rattle.rules.specs.File.{endAt}
 use Rattle.rules.specs.Refusals.{orElse, orFault, scan, countFault, recordFault, section, appFault, sevenOf, eightOf, nineOf}
 use Rattle.rules.specs.Refusals.{bidFault, elevenOf, judged, reading}
 use Rattle.rules.specs.Pot.{reason}
-use Rattle.rules.specs.Round.{blank, assemble, automatic, bidOf, mine, silent, enters, rowFor, potOf}
+use Rattle.rules.specs.Round.{blank, assemble, automatic, bidOf, mine, silent, enters, rowFor, budgetOf, potOf}
 use Rattle.rules.specs.Result.{toldIn, appTold, appBytes, potBytes, bidBytes, potsPart, appsPart, bidsPart, resultBytes, needed, answerTo, answerOf, after}
 use Rattle.rules.specs.Result.{clearOf}
 use Rattle.rules.specs.declared.Reading.{Reading}
@@ -131,7 +131,7 @@ module _ (R : Round) (m : List ℕ) (e : (a : ℕ) → appAt (R .apps) a ≡ app
         load = λ y. pick (ltb y (R .y)) (techAt (R .y) (R .techs) (e (bid k j .app) j .tech) .load y) 0;
       })
       blank)
-      (λ y. pick (ltb y (R .y)) (budgetAt (R .y) (R .pots) p y) 0)
+      (budgetOf R p)
 
   -- the pot of application a
   its-pot : (a : ℕ) → potOf R (techAt (R .y) (R .techs) (appAt (R .apps) a .tech) .pot) ≡ potOf Q (techAt (R .y) (R .techs) (appAt m a .tech) .pot)

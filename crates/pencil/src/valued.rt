@@ -3,6 +3,7 @@ use layout::bid::Bid;
 use rows::factors::Factors;
 use rules::Sections;
 use text::field;
+use text::figure::Figure;
 use text::word;
 use value::Valuation;
 use value::wide::Wide;
@@ -10,43 +11,16 @@ ghost use Prim.Native.Nat.{_<_};
 ghost use Rattle.rows.specs.Rows.{Held};
 ghost use Rattle.pencil.specs.Valued.{Placed};
 
-// The digits of the longest product, and its places in groups of three with a comma between them and the end of the line.
-const DIGITS: usize = 28;
+// The places of a figure before the longest number, which leaves none for a pound sign and pence. The sign is one character of two bytes.
+const NUMBER_AT: usize = 5;
 
-const GROUP: usize = 3;
-
-const PLACES: usize = 38;
-
-// A number at the end of its line. A tenth of it is a tenth of the upper column, and what that leaves over goes into the lower one.
-fn grouped(n: Wide) -> [u8; PLACES] {
-    let mut text = [b' '; PLACES];
-    let mut at: usize = PLACES - 1;
-    text[at] = b'\n';
-    let tenth = n.column / 10;
-    let mut upper = n.upper;
-    let mut lower = n.lower;
-    let mut i: usize = 0;
-    while i < DIGITS {
-        at -= 1;
-        text[at] = b'0' + (lower % 10) as u8;
-        lower = upper % 10 * tenth + lower / 10;
-        upper /= 10;
-        if upper == 0 && lower == 0 {
-            return text;
-        }
-        i += 1;
-        if i % GROUP == 0 {
-            at -= 1;
-            text[at] = b',';
-        }
-    }
-    text
-}
+const MONEY_AT: usize = 4;
 
 fn wide(name: &[u8], n: Wide) {
     word(name);
-    let text = grouped(n);
-    word(&text);
+    let places = Figure::number(n).places;
+    word(&places[NUMBER_AT..]);
+    word(b"\n");
 }
 
 // A number whose upper column is empty.
@@ -57,6 +31,14 @@ fn line(name: &[u8], n: u64) {
         lower: n,
     };
     wide(name, n);
+}
+
+// A number of pence, in pounds.
+fn money(name: &[u8], pence: u64) {
+    word(name);
+    let places = Figure::money(pence / names::PENCE_PER_POUND, pence % names::PENCE_PER_POUND).places;
+    word(&places[MONEY_AT..]);
+    word(b"\n");
 }
 
 // What is multiplied.
@@ -71,12 +53,12 @@ fn factors(of: Factors) {
 // What is divided, one scale a line.
 fn lines(of: Valuation) {
     wide(b"  product                   ", of.product);
-    wide(b"  over 1,000: price         ", of.by_price);
+    wide(b"  over 10: price            ", of.by_price);
     wide(b"  over 10,000: load factor  ", of.by_load);
-    line(b"  over 100: capacity        ", of.by_capacity);
+    wide(b"  over 100: capacity        ", of.by_capacity);
     line(b"  over 10,000: 1 - TLM      ", of.by_tlm);
     line(b"  over 10,000: RQM          ", of.by_rqm);
-    line(b"  value                     ", of.by_rqm);
+    money(b"  value                     ", of.by_rqm);
 }
 
 // A bid of technology t in year y.

@@ -17,7 +17,7 @@ fn of_sections(number: u64) {
         );
     }
     if number == names::POT_BROKEN {
-        return word(b": a budget above 1,000,000,000,000");
+        return word(b": a budget above \xC2\xA31,000,000,000,000");
     }
     if number == names::TECH_BROKEN {
         return word(

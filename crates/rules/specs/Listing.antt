@@ -104,13 +104,13 @@ listingFor (Refused number at) R = refusalLine number at
 unfoldable pub listingOf : (file : List ℕ) → List ℕ
 listingOf s = listingFor (reading s) (roundOf s)
 
--- ---- "Round A .. It prints:"
+-- ---- "Round A .. It prints:", with totals in pence (02, CR 11)
 
 abbrev printed : List ℕ
 printed =
     ascii "pot 0 auction\n"
-    ++ (ascii "year 0 price 4000 total 35040\n"
-    ++ (ascii "year 1 price 5000 total 78840\n"
+    ++ (ascii "year 0 price 4000 total 3504000\n"
+    ++ (ascii "year 1 price 5000 total 7884000\n"
     ++ (ascii "application 0 won 4000 bid 0\n"
     ++ (ascii "application 1 lost\n"
     ++ (ascii "application 2 won 5000 bid 2\n"
@@ -123,8 +123,8 @@ pub listed :
     -- in outcome 0; of two applications without a bid; of a file that ends within its first count
     × (listingOf (roundA 350400 525600) ≡
     ascii "pot 0 administrative\n"
-    ++ (ascii "year 0 price - total 350400\n"
-    ++ (ascii "year 1 price - total 525600\n"
+    ++ (ascii "year 0 price - total 35040000\n"
+    ++ (ascii "year 1 price - total 52560000\n"
     ++ (ascii "application 0 won 20000 bid -\n"
     ++ (ascii "application 1 won 20000 bid -\n"
     ++ (ascii "application 2 won 20000 bid -\n"
@@ -133,7 +133,7 @@ pub listed :
     ++ ascii "bid 2 reason 6\n"))))))))
     × (listingOf silence ≡
     ascii "pot 0 auction\n"
-    ++ (ascii "year 0 price 20000 total 175200\n"
+    ++ (ascii "year 0 price 20000 total 17520000\n"
     ++ (ascii "application 0 lost\n"
     ++ ascii "application 1 won 20000 bid auto\n")))
     × (listingOf (2 ∷ []) ≡ ascii "refused 1 at 0\n")

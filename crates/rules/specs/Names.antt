@@ -87,6 +87,12 @@ appWidth = 20
 abbrev pub bidWidth : ℕ
 bidWidth = 14
 
+-- ---- the units
+
+-- "budgets in the file stay in pounds and are compared a hundredfold" (02, CR 11): so many pence make a pound
+abbrev pub pencePerPound : ℕ
+pencePerPound = 100
+
 -- ---- the ranges of the fields
 
 -- "kind 2 (1 delivery, 0 valuation only)"
@@ -115,6 +121,7 @@ dayHours = 24
 abbrev pub whole : ℕ
 whole = 10000
 
+-- in pounds, as it stands in the file
 abbrev pub highestBudget : ℕ
 highestBudget = 1000000000000
 

@@ -13,7 +13,7 @@ use Rattle.rules.specs.Lists.{pick, memb, sift, sum}
 
 -- "Pots are cleared apart": what the clearing of one pot reads. `bids` are the numbers of the bids of its auction, `autos` those of the automatic bids of all
 -- its applications; years are numbered below `years`; `cost b p y` is the exact cost in parts of bid b in year y where the clearing price of its start
--- year is p, with `scale` parts to the pound; `admin` is the administrative price of its technology in its start year.
+-- year is p, with `scale` parts to the penny; `budget y` is in pence; `admin` is the administrative price of its technology in its start year.
 pub record Pot : Type 0 where
   pub bids : List ℕ
   pub autos : List ℕ
@@ -85,7 +85,7 @@ best ok figure zero = 0
 best ok figure (suc n) = let r = best ok figure n in pick (ok n && leb (figure r) (figure n)) n r
 
 module _ (P : Pot) where
-  -- "The value is the exact cost rounded up once to a whole pound"
+  -- "Round each value up to a penny" (02, CR 11): "the exact cost rounded up once", to whole pence
   unfoldable pub value : ℕ → ℕ → ℕ → ℕ
   value b p y = ceilDiv (P .cost b p y) (P .scale)
 

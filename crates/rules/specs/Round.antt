@@ -4,7 +4,8 @@ use mathlib.Core.Bool.{Bool, not, _&&_, _||_}
 use mathlib.Core.List.{List, map}
 use lib.Dec.{eqb, ltb}
 use Rattle.rules.specs.Lists.{pick, memb, sift, below}
-use Rattle.rules.specs.Value.{exactParts, hoursOf, pound}
+use Rattle.rules.specs.Names.{pencePerPound}
+use Rattle.rules.specs.Value.{exactParts, hoursOf, penny}
 use Rattle.rules.specs.File.{Round, Tech, App, Bid, yearAt, budgetAt, techAt, appAt, bidAt}
 use Rattle.rules.specs.Pot.{Pot}
 
@@ -29,13 +30,13 @@ energyOf years b y = hoursOf y (b .year) (b .days) (yearAt years y .days) * b .c
 unfoldable pub costOf : (years : List ℕ) → Row → (price y : ℕ) → ℕ
 costOf years r price y = exactParts (min price (r .admin)) (r .reference y) (r .load y) (energyOf years (r .bid) y) (yearAt years y .tlm) (r .rqm)
 
--- a pot of y years from the numbers of its bids, their rows and its budgets
+-- a pot of y years from the numbers of its bids, their rows and its budgets in pence
 unfoldable pub assemble : (years : List ℕ) (y : ℕ) (bids autos : List ℕ) → (ℕ → Row) → (ℕ → ℕ) → Pot
 assemble years y bids autos row budget = record {
   bids = bids;
   autos = autos;
   years = y;
-  scale = pound;
+  scale = penny;
   app = λ k. row k .bid .app;
   yr = λ k. row k .bid .year;
   price = λ k. row k .bid .price;
@@ -83,9 +84,13 @@ module _ (R : Round) where
         load = λ y. pick (ltb y (R .y)) (techOf a .load y) 0;
       }
 
+  -- "budgets in the file stay in pounds and are compared a hundredfold" (02, CR 11): pot p's in year y, in pence. A year that the file does not have has none
+  abbrev pub budgetOf : (p y : ℕ) → ℕ
+  budgetOf p y = pick (ltb y (R .y)) (pencePerPound * budgetAt (R .y) (R .pots) p y) 0
+
   -- "Pots are cleared apart"
   unfoldable pub potOf : ℕ → Pot
   potOf p =
       assemble (R .years) (R .y) (sift (λ k. mine p k && enters k) (below (R .b + R .n))) (sift (λ k. mine p k && not (ltb k (R .b))) (below (R .b + R .n)))
       (λ k. pick (mine p k) (rowFor (bidOf k)) blank)
-      (λ y. pick (ltb y (R .y)) (budgetAt (R .y) (R .pots) p y) 0)
+      (budgetOf p)

@@ -1,5 +1,5 @@
--- The worked cases of document 01, from the file's bytes to the result's, as rows under a single theorem; and rows of our own for what they leave open.
--- Assumes nothing.
+-- The worked cases of document 01, restated in pence (02, CR 11), from the file's bytes to the result's, as rows under a single theorem; and rows of our own
+-- for what they leave open. Assumes nothing.
 use Prim.Native.Nat.{ℕ, zero, suc, _+_, _*_, _/_, _^_}
 use mathlib.Core.Path.{_≡_, refl}
 use mathlib.Core.List.{List, [], _∷_, _++_}
@@ -107,11 +107,11 @@ roundA b0 b1 =
 
 -- the result that the listing prints
 abbrev listed : List ℕ
-listed = result (potTold 1 (4000 ∷ 5000 ∷ []) (35040 ∷ 78840 ∷ []) ∷ []) (line 1 0 4000 ∷ line 0 65535 0 ∷ line 1 2 5000 ∷ []) (1 ∷ 2 ∷ 1 ∷ [])
+listed = result (potTold 1 (4000 ∷ 5000 ∷ []) (3504000 ∷ 7884000 ∷ []) ∷ []) (line 1 0 4000 ∷ line 0 65535 0 ∷ line 1 2 5000 ∷ []) (1 ∷ 2 ∷ 1 ∷ [])
 
 -- all three win
 abbrev allWin : List ℕ
-allWin = result (potTold 1 (6000 ∷ 5000 ∷ []) (105120 ∷ 148920 ∷ []) ∷ []) (line 1 0 6000 ∷ line 1 1 6000 ∷ line 1 2 5000 ∷ []) (1 ∷ 1 ∷ 1 ∷ [])
+allWin = result (potTold 1 (6000 ∷ 5000 ∷ []) (10512000 ∷ 14892000 ∷ []) ∷ []) (line 1 0 6000 ∷ line 1 1 6000 ∷ line 1 2 5000 ∷ []) (1 ∷ 1 ∷ 1 ∷ [])
 
 -- "T1, T2 and F1 have year 0 alone"
 abbrev tiedAt : (budget : ℕ) → List ℕ
@@ -137,22 +137,22 @@ Marked =
     × Gives (roundA 105120 148919) listed
     -- A3, A4
     × Gives (roundA 350400 525600)
-    (result (potTold 0 (noPrice ∷ noPrice ∷ []) (350400 ∷ 525600 ∷ []) ∷ [])
+    (result (potTold 0 (noPrice ∷ noPrice ∷ []) (35040000 ∷ 52560000 ∷ []) ∷ [])
     (line 1 65535 20000 ∷ line 1 65535 20000 ∷ line 1 65535 20000 ∷ []) (6 ∷ 6 ∷ 6 ∷ []))
     × Gives (roundA 350400 525599) allWin
     -- T1, T2
-    × Gives (tiedAt 105120) (result (potTold 1 (4000 ∷ []) (105120 ∷ []) ∷ []) (line 1 0 4000 ∷ line 1 1 4000 ∷ line 0 65535 0 ∷ []) (1 ∷ 1 ∷ 3 ∷ []))
-    × Gives (tiedAt 105119) (result (potTold 1 (4000 ∷ []) (70080 ∷ []) ∷ []) (line 0 65535 0 ∷ line 1 1 4000 ∷ line 1 2 4000 ∷ []) (3 ∷ 1 ∷ 1 ∷ []))
+    × Gives (tiedAt 105120) (result (potTold 1 (4000 ∷ []) (10512000 ∷ []) ∷ []) (line 1 0 4000 ∷ line 1 1 4000 ∷ line 0 65535 0 ∷ []) (1 ∷ 1 ∷ 3 ∷ []))
+    × Gives (tiedAt 105119) (result (potTold 1 (4000 ∷ []) (7008000 ∷ []) ∷ []) (line 0 65535 0 ∷ line 1 1 4000 ∷ line 1 2 4000 ∷ []) (3 ∷ 1 ∷ 1 ∷ []))
     -- F1
     × Gives (single 60000 (app 0 0 200 ∷ []) (bid 0 0 200 6000 ∷ bid 0 0 100 6001 ∷ []))
-    (result (potTold 1 (6001 ∷ []) (52569 ∷ []) ∷ []) (line 1 1 6001 ∷ []) (2 ∷ 1 ∷ []))
-    -- V1 to V5; V2's exact cost, 1,303,476.174 pounds
-    × Gives (valued 1000 100000 50000 3000 90 10000 365) (worth 100000 1302174)
-    × Gives (valued 1001 100000 50000 3000 90 10000 365) (worth 100000 1303477)
+    (result (potTold 1 (6001 ∷ []) (5256876 ∷ []) ∷ []) (line 1 1 6001 ∷ []) (2 ∷ 1 ∷ []))
+    -- V1 to V5; V2's exact cost, 130,347,617.4 pence
+    × Gives (valued 1000 100000 50000 3000 90 10000 365) (worth 100000 130217400)
+    × Gives (valued 1001 100000 50000 3000 90 10000 365) (worth 100000 130347618)
     × (potOf (roundOf (valued 1001 100000 50000 3000 90 10000 365)) 0 .cost 0 100000 0 ≡ 1303476174 * 10 ^ 14)
     × Gives (valued 1000 40000 50000 3000 90 10000 365) (worth 40000 0)
     × Gives (valued 1000 50000 50000 3000 90 10000 365) (worth 50000 0)
-    × Gives (valued 300000 500000 0 10000 0 10000 366) (worth 500000 13176000000)
+    × Gives (valued 300000 500000 0 10000 0 10000 366) (worth 500000 1317600000000)
 
 -- ---- rows of our own, for what the marked ones leave open
 
@@ -171,37 +171,46 @@ Own =
     -- an administrative price that is lower in the later year: pay is capped by that of the start year
     × Gives (file (year ∷ year ∷ []) (budgets (100000 ∷ 100000 ∷ []) ∷ []) (tech 0 10000 (figures ∷ figuresWith 5000 0 10000 ∷ []) ∷ []) (app 0 0 100 ∷ [])
     (bid 0 0 100 6000 ∷ []))
-    (result (potTold 1 (6000 ∷ noPrice ∷ []) (52560 ∷ 52560 ∷ []) ∷ []) (line 1 0 6000 ∷ []) (1 ∷ []))
+    (result (potTold 1 (6000 ∷ noPrice ∷ []) (5256000 ∷ 5256000 ∷ []) ∷ []) (line 1 0 6000 ∷ []) (1 ∷ []))
     -- two applications without a bid
-    × Gives silence (result (potTold 1 (20000 ∷ []) (175200 ∷ []) ∷ []) (lineWith 0 65535 3 0 ∷ lineWith 1 65534 1 20000 ∷ []) [])
-    -- two winners whose values are no whole pounds: each is rounded up, not their sum
+    × Gives silence (result (potTold 1 (20000 ∷ []) (17520000 ∷ []) ∷ []) (lineWith 0 65535 3 0 ∷ lineWith 1 65534 1 20000 ∷ []) [])
+    -- two winners whose values are no whole pence: each is rounded up, not their sum
     × Gives (file (yearWith 365 1 90 ∷ []) (budgets (2606954 ∷ []) ∷ []) (tech 0 10000 (figuresWith 500000 50000 3000 ∷ []) ∷ []) (app 0 0 1001 ∷
     app 0 1 1001 ∷ []) (bid 0 0 1001 100000 ∷ bid 1 0 1001 100000 ∷ []))
-    (result (potTold 1 (100000 ∷ []) (2606954 ∷ []) ∷ []) (line 1 0 100000 ∷ line 1 1 100000 ∷ []) (1 ∷ 1 ∷ []))
+    (result (potTold 1 (100000 ∷ []) (260695236 ∷ []) ∷ []) (line 1 0 100000 ∷ line 1 1 100000 ∷ []) (1 ∷ 1 ∷ []))
     -- a clearing price above a winner's administrative price: it is valued and paid at the latter
     × Gives (file (year ∷ []) (budgets (230000 ∷ []) ∷ []) (tech 0 10000 (figuresWith 10000 0 10000 ∷ []) ∷ tech 0 10000 (figures ∷ []) ∷ [])
     (app 0 0 100 ∷ appWith 1 0 365 1 100 0 ∷ []) (bid 0 0 100 9000 ∷ bid 1 0 100 15000 ∷ []))
-    (result (potTold 1 (15000 ∷ []) (219000 ∷ []) ∷ []) (line 1 0 10000 ∷ line 1 1 15000 ∷ []) (1 ∷ 1 ∷ []))
+    (result (potTold 1 (15000 ∷ []) (21900000 ∷ []) ∷ []) (line 1 0 10000 ∷ line 1 1 15000 ∷ []) (1 ∷ 1 ∷ []))
     -- two pots, a leap year and a valuation-only one; days, TLM, RQM, reference, load factor and capacity all matter
     × Gives (file (yearWith 365 1 100 ∷ yearWith 366 1 200 ∷ yearWith 365 0 300 ∷ []) (budgets (100000 ∷ 100000 ∷ 100000 ∷ []) ∷ budgets (800000 ∷
     2200000 ∷ 2000000 ∷ []) ∷ []) (tech 1 9000 (figuresWith 60000 10000 3000 ∷ figuresWith 50000 20000 4000 ∷ figuresWith 0 30000 5000 ∷ []) ∷
     tech 0 10000 (figures ∷ figures ∷ figuresWith 0 0 10000 ∷ []) ∷ []) (appWith 0 0 200 7 1234 999 ∷ appWith 0 1 366 1 777 0 ∷ appWith 1 0 365 2 100 5 ∷
     []) (bidWith 0 0 200 1234 45000 ∷ bidWith 1 1 300 700 40000 ∷ bid 2 0 100 4000 ∷ []))
-    (result (potTold 1 (4000 ∷ noPrice ∷ []) (34690 ∷ 34434 ∷ 33989 ∷ []) ∷ potTold 1 (45000 ∷ 40000 ∷ []) (554145 ∷ 1311664 ∷ 975437 ∷ []) ∷ [])
+    (result (potTold 1 (4000 ∷ noPrice ∷ []) (3468960 ∷ 3443328 ∷ 3398880 ∷ []) ∷ potTold 1 (45000 ∷ 40000 ∷ []) (55414498 ∷ 131166242 ∷ 97543608 ∷ []) ∷ [])
     (line 1 0 45000 ∷ line 1 1 40000 ∷ line 1 2 4000 ∷ []) (1 ∷ 1 ∷ 1 ∷ []))
     -- a bid not looked at, whose application has won
     × Gives (single 150000 (app 0 0 200 ∷ app 0 1 300 ∷ []) (bid 0 0 100 4000 ∷ bid 0 0 200 5000 ∷ bid 1 0 300 5000 ∷ bid 1 0 200 6000 ∷ []))
-    (result (potTold 1 (4000 ∷ []) (35040 ∷ []) ∷ []) (line 1 0 4000 ∷ line 0 65535 0 ∷ []) (1 ∷ 4 ∷ 2 ∷ 2 ∷ []))
+    (result (potTold 1 (4000 ∷ []) (3504000 ∷ []) ∷ []) (line 1 0 4000 ∷ line 0 65535 0 ∷ []) (1 ∷ 4 ∷ 2 ∷ 2 ∷ []))
     -- eleven tied bids, of which nine do not fit alone and are dropped: two remain
     × Gives (single 90000 (app 0 0 100 ∷ app 0 1 100 ∷ times 9 (λ i. app 0 (2 + i) 1000)) (bid 0 0 100 4000 ∷ bid 1 0 100 4000 ∷
     times 9 (λ i. bid (2 + i) 0 1000 4000)))
-    (result (potTold 1 (4000 ∷ []) (70080 ∷ []) ∷ []) (line 1 0 4000 ∷ line 1 1 4000 ∷ times 9 (λ i. line 0 65535 0)) (1 ∷ 1 ∷ replicate 9 3))
+    (result (potTold 1 (4000 ∷ []) (7008000 ∷ []) ∷ []) (line 1 0 4000 ∷ line 1 1 4000 ∷ times 9 (λ i. line 0 65535 0)) (1 ∷ 1 ∷ replicate 9 3))
     -- eleven that each fit alone remain: outcome 2
     × Gives (single 200000 (times 12 (λ i. app 0 i 100)) (times 11 (λ i. bid i 0 100 4000)))
     (result (potTold 2 (noPrice ∷ []) (0 ∷ []) ∷ []) (times 11 (λ i. line 0 65535 0) ++ (lineWith 0 65535 7 0 ∷ [])) (replicate 11 7))
     -- an application's own dearer bid is looked at next where no other bid is lower: it wins and the year closes
     × Gives (single 110000 (app 0 0 300 ∷ app 0 1 100 ∷ []) (bid 0 0 300 6000 ∷ bid 0 0 200 6001 ∷ bid 1 0 100 6100 ∷ []))
-    (result (potTold 1 (6001 ∷ []) (105138 ∷ []) ∷ []) (line 1 1 6001 ∷ line 0 65535 0 ∷ []) (2 ∷ 1 ∷ 5 ∷ []))
+    (result (potTold 1 (6001 ∷ []) (10513752 ∷ []) ∷ []) (line 1 1 6001 ∷ line 0 65535 0 ∷ []) (2 ∷ 1 ∷ 5 ∷ []))
+    -- pence left over make room for the third bid: in whole pounds it would be turned down
+    × Gives (single 157943 (app 0 0 100 ∷ app 0 1 100 ∷ app 0 2 100 ∷ []) (bid 0 0 100 5990 ∷ bid 1 0 100 6000 ∷ bid 2 0 100 6010 ∷ []))
+    (result (potTold 1 (6010 ∷ []) (15794280 ∷ []) ∷ []) (line 1 0 6010 ∷ line 1 1 6010 ∷ line 1 2 6010 ∷ []) (1 ∷ 1 ∷ 1 ∷ []))
+    -- two bids whose exact costs are together the budget, and whose values are a penny more: they do not both win
+    × Gives (single 175638 (app 0 0 201 ∷ app 0 1 299 ∷ []) (bid 0 0 201 4010 ∷ bid 1 0 299 4010 ∷ []))
+    (result (potTold 1 (4010 ∷ []) (10503153 ∷ []) ∷ []) (line 0 65535 0 ∷ line 1 1 4010 ∷ []) (3 ∷ 1 ∷ []))
+    -- two tied bids that come as close to the budget as each other in pounds, and not in pence: the closer wins, though its draw is the higher
+    × Gives (single 10 (app 0 0 8 ∷ app 0 1 9 ∷ []) (bid 0 0 8 10 ∷ bid 1 0 9 10 ∷ []))
+    (result (potTold 1 (10 ∷ []) (789 ∷ []) ∷ []) (line 0 65535 0 ∷ line 1 1 10 ∷ []) (3 ∷ 1 ∷ []))
 
 -- ---- files that are turned away
 
@@ -313,7 +322,7 @@ unfolding times counted joined nums given both when never one-more every howMany
 worked = (
   (refl, refl, refl, refl, refl, refl, refl, refl, refl, refl, refl, refl, refl, refl),
   (
-    (refl, refl, refl, refl, refl, refl, refl, refl, refl, refl, refl),
+    (refl, refl, refl, refl, refl, refl, refl, refl, refl, refl, refl, refl, refl, refl),
     (
       (
         (refl, refl, refl),

@@ -6,9 +6,9 @@ use mathlib.Core.Path.{_≡_}
 use mathlib.Core.List.{List, [], _∷_}
 use lib.Dec.{eqb, ltb}
 use lib.ListN.{getD}
-use Rattle.rules.specs.Names.{mostNumbers, mostApps, mostYears, mostDeliveries, highestPrice, highestBudget}
+use Rattle.rules.specs.Names.{mostNumbers, mostApps, mostYears, mostDeliveries, highestPrice, highestBudget, pencePerPound}
 use Rattle.rules.specs.Lists.{pick, sift, below}
-use Rattle.rules.specs.Value.{pound, mostEnergy, mostShare}
+use Rattle.rules.specs.Value.{penny, mostEnergy, mostShare}
 use Rattle.rules.specs.Pot.{Pot}
 use Rattle.sheet.specs.declared.Size.{Size}
 
@@ -51,7 +51,7 @@ figuresPlace k = figuresAt + k * figuresWidth
 abbrev pub figurePlace : (k y : ℕ) → ℕ
 figurePlace k y = figuresPlace k + y * figureWidth
 
--- the limit of column c: the budget of a year
+-- the limit of column c: the budget of a year, in pence
 unfoldable pub limitAt : List ℕ → ℕ → ℕ
 limitAt sheet c = getD sheet c 0
 
@@ -120,7 +120,7 @@ potIn sheet of = record {
   bids = sift (inAuction sheet) (below (of .bids));
   autos = sift (inTest sheet (of .sealed)) (below (of .bids));
   years = of .years;
-  scale = pound;
+  scale = penny;
   app = rowApp sheet;
   yr = rowYear sheet;
   price = rowPrice sheet;
@@ -144,7 +144,7 @@ pub record Ready (sheet : List ℕ) (of : Size) : Type 0 where
   pub reference : (k y : ℕ) → k < of .bids → y < of .years → figReference sheet k y ≤ highestPrice
   pub energy : (k y : ℕ) → k < of .bids → y < of .years → figEnergy sheet k y ≤ mostEnergy
   pub share : (k y : ℕ) → k < of .bids → y < of .years → figShare sheet k y ≤ mostShare
-  pub limit : (y : ℕ) → y < of .years → limitAt sheet y ≤ highestBudget
+  pub limit : (y : ℕ) → y < of .years → limitAt sheet y ≤ pencePerPound * highestBudget
   -- two bids of the auction at one price are of applications with different draws
   pub apart : (c d : ℕ) → c < of .bids → d < of .bids → inAuction sheet c ≡ true → inAuction sheet d ≡ true
       → rowPrice sheet c ≡ rowPrice sheet d → rowDraw sheet c ≡ rowDraw sheet d → c ≡ d

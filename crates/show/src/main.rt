@@ -1,5 +1,5 @@
 // Prints the tables of the round file on standard input as a person reads them, or the line of its refusal. Pounds a MWh stand with three
-// decimals, MW with two and factors with four; budgets and declared costs are whole pounds.
+// decimals, MW with two and factors with four; budgets and declared costs stand in pounds and pence, though the file has whole pounds.
 mod tables;
 
 use libc::STDIN_FILENO;

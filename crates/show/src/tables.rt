@@ -14,6 +14,7 @@ use rules::Sections;
 use text::factor;
 use text::field;
 use text::hundredths;
+use text::money;
 use text::thousandths;
 use text::word;
 
@@ -49,7 +50,7 @@ fn budget(recs: &[u8], years: usize, p: usize, y: usize)
     if y > 0 {
         word(b",");
     }
-    field(b" ", pot::budget(recs, years, p, y));
+    money(b" ", pot::budget(recs, years, p, y), 0);
 }
 
 fn budgets(recs: &[u8], years: usize, p: usize)
@@ -134,7 +135,7 @@ fn application_line(recs: &[u8], a: usize)
     field(b", first-year days ", x.days);
     field(b", draw ", x.draw);
     hundredths(b", ", x.capacity);
-    field(b" MW, declared cost ", application::declared_cost(recs, a));
+    money(b" MW, declared cost ", application::declared_cost(recs, a), 0);
     word(b"\n");
 }
 

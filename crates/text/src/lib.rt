@@ -1,4 +1,7 @@
 // Words and numbers on standard output, as the programs for people write them.
+pub mod figure;
+
+use figure::Figure;
 use libc::STDOUT_FILENO;
 
 pub fn word(w: &[u8]) {
@@ -37,6 +40,15 @@ pub fn factor(w: &[u8], n: u64) {
     number(n / 100 % 10);
     number(n / 10 % 10);
     number(n % 10);
+}
+
+// A word, and an amount of money after it.
+pub fn money(w: &[u8], pounds: u64, pence: u64) {
+    word(w);
+    let amount = Figure::money(pounds, pence);
+    let places = amount.places;
+    let at = amount.at;
+    word(&places[at..]);
 }
 
 // The line of a refusal: `refused 7 at 120`.

@@ -11,7 +11,7 @@ use lib.Dec.{eqb, ltb}
 use borrow.Author.Tests.{eq-eqb, ne-eqb, le-ltb, lt-ltb, lt-leb, le-leb, ltb-true, ltb-false}
 use Rattle.rules.specs.Names.{becauseWon}
 use Rattle.rules.specs.Lists.{pick, keep, sift, below, sum}
-use Rattle.rules.specs.Value.{ceilDiv, pound, dearest}
+use Rattle.rules.specs.Value.{ceilDiv, penny, dearest}
 use Rattle.laws_pot.specs.Lists.{case, In, here, there, below-in}
 use Rattle.arrays.proofs.Laws.{done, fill-next}
 use Rattle.arrays.proofs.Arrays.{fill-at, fill-length, zeros, fill-rest}
@@ -23,7 +23,7 @@ use Rattle.totals.specs.Totals.{Adding, worthOf, costOf, totalOf, noRow,
 module _ (sheet : List ℕ) where
   pub worth-is : (k price y : ℕ) {c s f e h r : ℕ} → c ≡ rowAdmin sheet k → s ≡ min price c → f ≡ figReference sheet k y → e ≡ figEnergy sheet k y
       → h ≡ figShare sheet k y
-      → r ≡ ceilDiv ((s - f) * e * h) pound → r ≡ worthOf sheet k price y
+      → r ≡ ceilDiv ((s - f) * e * h) penny → r ≡ worthOf sheet k price y
   unfolding worthOf sheetCost
   worth-is k price y ec es ef ee eh er = rw (er, es, ec, ef, ee, eh)
 

@@ -7,7 +7,7 @@ use lib.ListN.{getD, replicate}
 use lib.Dec.{eqb, leb}
 use Rattle.rules.specs.Names.{mostNumbers, becauseWon}
 use Rattle.rules.specs.Lists.{pick, sift, below, sum}
-use Rattle.rules.specs.Value.{ceilDiv, pound, dearest}
+use Rattle.rules.specs.Value.{ceilDiv, penny, dearest}
 use Rattle.arrays.specs.Sets.{fill}
 use Rattle.sheet.specs.declared.Size.{Size}
 use Rattle.sheet.specs.Sheet.{columns, limitAt, rowYear, rowPrice, sheetCost, inAuction, inTest, Ready}
@@ -16,7 +16,7 @@ use Rattle.sheet.specs.Sheet.{columns, limitAt, rowYear, rowPrice, sheetCost, i
 
 -- the value of bid k in year y at a clearing price
 unfoldable pub worthOf : (sheet : List ℕ) (k price y : ℕ) → ℕ
-worthOf sheet k price y = ceilDiv (sheetCost sheet k price y) pound
+worthOf sheet k price y = ceilDiv (sheetCost sheet k price y) penny
 
 -- bid k and year y, of a sheet that is ready; and what is answered of the bid's value there
 pub record Asked (sheet : List ℕ) (of : Size) (k y : ℕ) : Type 0 where

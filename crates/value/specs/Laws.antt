@@ -4,7 +4,7 @@ use Prim.Native.Nat.{ℕ, _+_, _-_, _*_, _≤_, _<_}
 use native.Mathlib.Omega.{arith}
 use native.Mathlib.Nat.{mul-le-mul, mul-le-mul-right}
 use Rattle.rules.specs.Names.{highestPrice, whole}
-use Rattle.rules.specs.Value.{ceilDiv, pound, exactParts, dearest}
+use Rattle.rules.specs.Value.{ceilDiv, penny, exactParts, dearest}
 use Rattle.value.specs.Ranges.{InRange}
 
 module _ (price reference energy share : ℕ) where
@@ -13,17 +13,17 @@ module _ (price reference energy share : ℕ) where
   exact = (price - reference) * energy * share
 
   abbrev value : ℕ
-  value = ceilDiv exact pound
+  value = ceilDiv exact penny
 
-  -- the value is the exact cost, and less than a pound more
-  pub covers : exact ≤ value * pound
+  -- the value is the exact cost, and less than a penny more
+  pub covers : exact ≤ value * penny
   covers = omega arith
 
-  pub close : value * pound < exact + pound
+  pub close : value * penny < exact + penny
   close = omega arith
 
-  -- and the only whole number of pounds that is
-  pub only : (v : ℕ) → exact ≤ v * pound → v * pound < exact + pound → v ≡ value
+  -- and the only whole number of pence that is
+  pub only : (v : ℕ) → exact ≤ v * penny → v * penny < exact + penny → v ≡ value
   only v p q = omega arith
 
   -- at or below the reference price it is 0
@@ -37,7 +37,7 @@ module _ (price reference energy share : ℕ) where
       omega (arith, mul-le-mul (mul-le-mul d (r .energy-ok)) (r .share-ok))
 
   -- a higher price costs no less
-  pub mono-price : (higher : ℕ) → price ≤ higher → value ≤ ceilDiv ((higher - reference) * energy * share) pound
+  pub mono-price : (higher : ℕ) → price ≤ higher → value ≤ ceilDiv ((higher - reference) * energy * share) penny
   mono-price higher h =
       let d : price - reference ≤ higher - reference = omega arith in
       omega (arith, mul-le-mul-right (energy * share) d)

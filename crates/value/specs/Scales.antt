@@ -3,11 +3,11 @@ use mathlib.Core.Path.{_≡_, sym, ap, _∙_}
 use Prim.Native.Nat.{ℕ, _+_, _-_, _*_, _/_, _<_}
 use native.Mathlib.Nat.{add-mul-div-right, div-div-eq-div-mul}
 use native.Mathlib.Omega.{arith}
-use Rattle.rules.specs.Value.{ceilDiv, pound}
+use Rattle.rules.specs.Value.{ceilDiv, penny}
 
--- "factors taken at their scales": tenths of a penny, hundredths of a MW, ten-thousandths; so many make a pound a MWh, a MW, one
+-- "factors taken at their scales": tenths of a penny, hundredths of a MW, ten-thousandths; so many make a penny a MWh, a MW, one
 abbrev pub priceScale : ℕ
-priceScale = 1000
+priceScale = 10
 
 abbrev pub loadScale : ℕ
 loadScale = 10000
@@ -40,7 +40,7 @@ line n a b ha hb e f = f ∙ ap (λ (x : ℕ). ceilDiv x b) e ∙ twice n ha hb
 module _ (n : ℕ) {price load capacity tlm rqm : ℕ} where
   -- the five lines below n
   pub lined : price ≡ ceilDiv n priceScale → load ≡ ceilDiv price loadScale → capacity ≡ ceilDiv load capacityScale → tlm ≡ ceilDiv capacity tlmScale
-      → rqm ≡ ceilDiv tlm rqmScale → rqm ≡ ceilDiv n pound
+      → rqm ≡ ceilDiv tlm rqmScale → rqm ≡ ceilDiv n penny
   lined p l c t r =
       let two = line n priceScale loadScale (omega arith) (omega arith) p l in
       let three = line n (priceScale * loadScale) capacityScale (omega arith) (omega arith) two c in

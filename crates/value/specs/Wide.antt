@@ -4,7 +4,7 @@ use Prim.Native.Nat.{ℕ, _+_, _-_, _*_, _/_, _%_, _≤_, _<_}
 use native.Mathlib.Nat.{div-add-mod', mul-add-div-right, div-lt-iff-lt-mul, mul-le-mul-left}
 use native.Mathlib.Omega.{arith}
 use Rattle.rules.specs.Value.{ceilDiv, mostShare}
-use Rattle.value.specs.Scales.{priceScale, loadScale, capacityScale}
+use Rattle.value.specs.Scales.{priceScale, loadScale, capacityScale, tlmScale}
 use Rattle.value.specs.declared.wide.Wide.{Wide}
 
 abbrev pub numberOf : Wide → ℕ
@@ -12,7 +12,7 @@ numberOf w = w .upper * w .column + w .lower
 
 -- how many units of a product's lower column make one of the upper, and the most that stands in the lower
 abbrev pub column : ℕ
-column = priceScale * loadScale * capacityScale
+column = priceScale * loadScale * capacityScale * tlmScale
 
 abbrev pub mostLower : ℕ
 mostLower = column * mostShare

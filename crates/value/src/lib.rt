@@ -1,4 +1,4 @@
-// The value of one bid in one year, in whole pounds, as a bookkeeper works it by pencil: the whole product, 10^17 parts to the pound, and below
+// The value of one bid in one year, in whole pence, as a bookkeeper works it by pencil: the whole product, 10^15 parts to the penny, and below
 // it a line for each scale, which divides the line above and rounds up. That this rounds the exact cost up once is `Scales.lined`.
 pub mod wide;
 
@@ -6,12 +6,12 @@ use wide::Wide;
 ghost use mathlib.Core.Path.{_≡_};
 ghost use Prim.Native.Nat.{_-_, _*_, _≤_, min};
 ghost use Rattle.rules.specs.Names.{highestPrice};
-ghost use Rattle.rules.specs.Value.{ceilDiv, pound, dearest};
+ghost use Rattle.rules.specs.Value.{ceilDiv, penny, dearest};
 ghost use Rattle.value.specs.Ranges.{InRange};
 ghost use Rattle.value.specs.Lines.{Worked};
 
-// "factors taken at their scales": so many units make a pound a MWh, a MW, one.
-pub const PRICE_SCALE: u64 = 1000;
+// "factors taken at their scales": so many units make a penny a MWh, a MW, one.
+pub const PRICE_SCALE: u64 = 10;
 
 pub const LOAD_SCALE: u64 = 10000;
 
@@ -21,14 +21,14 @@ pub const TLM_SCALE: u64 = 10000;
 
 pub const RQM_SCALE: u64 = 10000;
 
-// A valuation line by line: price less reference, the product, and a line for each scale, of which the last is the value. From the third the
+// A valuation line by line: price less reference, the product, and a line for each scale, of which the last is the value. From the fourth the
 // numbers fit one column.
 pub struct Valuation {
     pub margin: u64,
     pub product: Wide,
     pub by_price: Wide,
     pub by_load: Wide,
-    pub by_capacity: u64,
+    pub by_capacity: Wide,
     pub by_tlm: u64,
     pub by_rqm: u64,
 }
@@ -59,8 +59,8 @@ impl Valuation {
         let product = Wide::product(margin * energy, share);
         let by_price = product.over(PRICE_SCALE);
         let by_load = by_price.over(LOAD_SCALE);
-        let by_capacity = by_load.over(CAPACITY_SCALE).number();
-        let by_tlm = wide::over(by_capacity, TLM_SCALE);
+        let by_capacity = by_load.over(CAPACITY_SCALE);
+        let by_tlm = by_capacity.over(TLM_SCALE).number();
         let by_rqm = wide::over(by_tlm, RQM_SCALE);
         Self {
             margin,
@@ -77,7 +77,7 @@ impl Valuation {
 // The value of a bid in a year: the last line.
 pub fn value(price: u64, reference: u64, energy: u64, share: u64) -> u64
     requires { ⌜ InRange price reference energy share ⌝ }
-    ensures { λ r. ⌜ (r ≡ ceilDiv ((price - reference) * energy * share) pound) × (r ≤ dearest) ⌝ }
+    ensures { λ r. ⌜ (r ≡ ceilDiv ((price - reference) * energy * share) penny) × (r ≤ dearest) ⌝ }
 {
     let worked = Valuation::of(price, reference, energy, share);
     worked.by_rqm

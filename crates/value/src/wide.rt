@@ -5,8 +5,8 @@ ghost use Rattle.rules.specs.Value.{ceilDiv, mostShare};
 ghost use Rattle.value.specs.Scales.{widest};
 ghost use Rattle.value.specs.Wide.{mostLower, numberOf, Product, Over};
 
-// The upper column counts units of 10^9, the scales of price, load factor and capacity together: after their lines it counts ones.
-const COLUMN: u64 = 1000000000;
+// The upper column counts units of 10^11, the scales of price, load factor, capacity and 1 − TLM together: after their lines it counts ones.
+const COLUMN: u64 = 100000000000;
 
 pub struct Wide {
     pub upper: u64,
@@ -17,7 +17,7 @@ pub struct Wide {
 
 // One line: over a scale, rounded up.
 pub fn over(n: u64, scale: u64) -> u64
-    requires { ⌜ (0 < scale) × (scale ≤ widest) × (n < 2 ^ 63) ⌝ }
+    requires { ⌜ (0 < scale) × (scale ≤ widest) × (n ≤ mostLower) ⌝ }
     ensures { λ r. ⌜ r ≡ ceilDiv n scale ⌝ }
 {
     (n + (scale - 1)) / scale

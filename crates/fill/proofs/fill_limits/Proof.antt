@@ -1,14 +1,15 @@
--- `fill::fill_limits` meets its contract. After y turns the first y limits are the pot's budgets.
-use Prim.Native.Nat.{_≤_, _-_}
+-- `fill::fill_limits` meets its contract. After y turns the first y limits are the pot's budgets, in pence.
+use Prim.Native.Nat.{ℕ, _*_, _-_, _≤_}
 use native.Mathlib.Omega.{arith}
 use mathlib.Core.Path.{_≡_, refl, ap}
 use lib.ListN.{length, length-set}
 use borrow.Author.Needs.{needs}
 use denote.Ref.{now}
+use Rattle.rules.specs.Names.{pencePerPound}
 use Rattle.sheet.specs.Sheet.{sheetLength, entrantsAt}
 use Rattle.rows.specs.Rows.{roundIn}
 use Rattle.fill.specs.Fill.{LimitsRight, Rest}
-use Rattle.fill.proofs.Laws.{pot-room, limits-more, limits-all, rest-set}
+use Rattle.fill.proofs.Laws.{pot-room, budget-in, limits-more, limits-all, rest-set}
 use Rattle.fill.proofs.fill_limits.Statement.{statement}
 use Rattle.fill.proofs.fill_limits.Tie as tie
 
@@ -27,6 +28,12 @@ budget-requires c κs =
     let pre = c .before .before .before .before .pre in
     (omega (arith, pot-room _ (pre .0 .sound) _ (pre .1), ap length (c .before .before .pots .ensures)), c .loop-test .taken)
 
+mul-sheet : tie.Need-mul-sheet Inv-loop μ-loop
+mul-sheet c =
+    let pre = c .before .before .before .before .before .pre in
+    let most = budget-in _ _ _ (pre .0 .sound) (c .before .before .before .pots .ensures) (pre .1) (c .before .loop-test .taken) (c .budget .ensures) in
+    record { fits = omega (arith, most) }
+
 element-write-sheet : tie.Need-element-write-sheet Inv-loop μ-loop
 element-write-sheet c = omega (arith, c .before .loop-test .taken, c .before .before .before .before .before .pre .0 .sound .years-most)
 
@@ -38,8 +45,8 @@ loop-again c =
       omega arith,
       simp length-set (c .before .before .loop .inv .1),
       limits-more _ _ _ _ (c .before .before .loop .sheet) (omega (arith, c .before .before .loop .inv .1, c .before .loop-test .taken, small))
-          (c .before .before .loop .inv .2) (c .budget .ensures),
-      rest-set entrantsAt _ (now (a .sheet)) (c .before .before .loop .sheet) (c .budget .result)
+          (c .before .before .loop .inv .2) (ap (λ (x : ℕ). pencePerPound * x) (c .budget .ensures)),
+      rest-set entrantsAt _ (now (a .sheet)) (c .before .before .loop .sheet) (pencePerPound * c .budget .result)
           (omega (arith, c .before .loop-test .taken, small)) (c .before .before .loop .inv .3),
     )
 
@@ -53,5 +60,5 @@ returns c =
 
 pub fill-limits-spec : {M : Type 1} → statement M
 fill-limits-spec =
-    tie.close (tie.spec Inv-loop μ-loop (λ c κs. search needs) loop-holds budget-requires (λ c. search needs) element-write-sheet (λ c. search needs)
+    tie.close (tie.spec Inv-loop μ-loop (λ c κs. search needs) loop-holds budget-requires mul-sheet (λ c. search needs) element-write-sheet (λ c. search needs)
     (λ c. search needs) loop-again returns)

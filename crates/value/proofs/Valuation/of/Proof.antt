@@ -6,8 +6,8 @@ use native.Mathlib.Nat.{mul-le-mul}
 use native.Mathlib.Omega.{arith}
 use mir.Facts.{fits-below}
 use Rattle.rules.specs.Names.{highestPrice}
-use Rattle.rules.specs.Value.{ceilDiv, pound, dearest}
-use Rattle.value.specs.Scales.{tlmScale, rqmScale, lined}
+use Rattle.rules.specs.Value.{ceilDiv, penny, dearest}
+use Rattle.value.specs.Scales.{rqmScale, lined}
 use Rattle.value.specs.Wide.{numberOf}
 use Rattle.value.specs.Laws.{at-most}
 use Rattle.value.proofs.Valuation.of.Statement.{statement}
@@ -34,46 +34,56 @@ over-requires-3 c κs =
     let load = c .over2 .ensures in
     (omega arith, omega arith, omega (arith, product .columned, price .columned, load .columned), omega (arith, product .low, price .low, load .low))
 
-module _ (c : tie.After-over3) where
+over-requires-4 : tie.Need-over-requires-4
+over-requires-4 c κs =
+    let product = c .before .before .before .product .ensures in
+    let price = c .before .before .over .ensures in
+    let load = c .before .over2 .ensures in
+    let capacity = c .over3 .ensures in (
+      omega arith,
+      omega arith,
+      omega (arith, product .columned, price .columned, load .columned, capacity .columned),
+      omega (arith, product .low, price .low, load .low, capacity .low),
+    )
+
+module _ (c : tie.After-over4) where
   abbrev start : tie.Start
-  start = c .before .before .before .before .before
+  start = c .before .before .before .before .before .before
 
   abbrev exact : ℕ
   exact = (start .args .price - start .args .reference) * start .args .energy * start .args .share
 
-  product-is : numberOf (c .before .before .before .product .result) ≡ exact
+  product-is : numberOf (c .before .before .before .before .product .result) ≡ exact
   product-is =
-      let product = c .before .before .before .product .ensures .is in
-      product ∙ ap (λ (x : ℕ). x * start .args .energy * start .args .share) (c .before .before .before .before .margin .ensures)
+      let product = c .before .before .before .before .product .ensures .is in
+      product ∙ ap (λ (x : ℕ). x * start .args .energy * start .args .share) (c .before .before .before .before .before .margin .ensures)
 
-  -- the last two lines, below the number of the third
-  once : {tlm rqm : ℕ} → tlm ≡ ceilDiv (numberOf (c .over3 .result)) tlmScale → rqm ≡ ceilDiv tlm rqmScale → rqm ≡ ceilDiv exact pound
-  once t r = rw (← product-is) (lined _ (c .before .before .over .ensures .is) (c .before .over2 .ensures .is) (c .over3 .ensures .is) t r)
+  -- the last line, below the number of the fourth
+  once : {rqm : ℕ} → rqm ≡ ceilDiv (numberOf (c .over4 .result)) rqmScale → rqm ≡ ceilDiv exact penny
+  once r =
+      rw (← product-is)
+      (lined _ (c .before .before .before .over .ensures .is) (c .before .before .over2 .ensures .is) (c .before .over3 .ensures .is) (c .over4 .ensures .is) r)
 
-  small : ceilDiv (ceilDiv (numberOf (c .over3 .result)) tlmScale) rqmScale ≤ dearest
-  small = rw (once refl refl) (at-most _ _ _ _ (start .pre))
+  small : ceilDiv (numberOf (c .over4 .result)) rqmScale ≤ dearest
+  small = rw (once refl) (at-most _ _ _ _ (start .pre))
 
 number-requires : tie.Need-number-requires
 number-requires c κs = omega (arith, small c)
 
-over-requires-4 : tie.Need-over-requires-4
-over-requires-4 c κs = (omega arith, omega arith, omega (arith, small (c .before), c .number .ensures))
-
 over-requires-5 : tie.Need-over-requires-5
-over-requires-5 c κs = (omega arith, omega arith, omega (arith, small (c .before .before), c .before .number .ensures, c .over4 .ensures))
+over-requires-5 c κs = (omega arith, omega arith, omega (arith, small (c .before), c .number .ensures))
 
 returns : tie.Need-returns
 returns c =
-    let number = c .before .before .number .ensures in
-    let at = c .before .before .before in
-    let tlm = c .before .over4 .ensures in
-    let value = once at (tlm ∙ ap (λ (x : ℕ). ceilDiv x tlmScale) number) (c .over5 .ensures) in record {
-      margin-is = at .before .before .before .before .margin .ensures;
+    let number = c .before .number .ensures in
+    let at = c .before .before in
+    let value = once at (c .over5 .ensures ∙ ap (λ (x : ℕ). ceilDiv x rqmScale) number) in record {
+      margin-is = at .before .before .before .before .before .margin .ensures;
       product-is = product-is at;
-      price-line = at .before .before .over .ensures .is;
-      load-line = at .before .over2 .ensures .is;
-      capacity-line = number ∙ at .over3 .ensures .is;
-      tlm-line = tlm;
+      price-line = at .before .before .before .over .ensures .is;
+      load-line = at .before .before .over2 .ensures .is;
+      capacity-line = at .before .over3 .ensures .is;
+      tlm-line = number ∙ at .over4 .ensures .is;
       rqm-line = c .over5 .ensures;
       once = value;
       small = rw value (at-most _ _ _ _ (start at .pre));
@@ -81,5 +91,5 @@ returns c =
 
 pub of-spec : {M : Type 1} → statement M
 of-spec =
-    tie.close (tie.spec (λ c κs. search needs) mul-product (λ c κs. search needs) over-requires over-requires-2 over-requires-3 number-requires
-    over-requires-4 over-requires-5 returns)
+    tie.close (tie.spec (λ c κs. search needs) mul-product (λ c κs. search needs) over-requires over-requires-2 over-requires-3 over-requires-4 number-requires
+    over-requires-5 returns)

@@ -8,7 +8,7 @@ use Rattle.value.proofs.wide.Wide.over.Statement.{statement}
 use Rattle.value.proofs.wide.Wide.over.Tie as tie
 
 over-requires : tie.Need-over-requires
-over-requires c κs = (c .before .pre .0, c .before .pre .1, omega (arith, c .before .pre .3))
+over-requires c κs = (c .before .pre .0, c .before .pre .1, c .before .pre .3)
 
 returns : tie.Need-returns
 returns c =

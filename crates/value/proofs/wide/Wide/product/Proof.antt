@@ -8,8 +8,12 @@ use Rattle.value.specs.Wide.{column, mostLower}
 use Rattle.value.proofs.wide.Wide.product.Statement.{statement}
 use Rattle.value.proofs.wide.Wide.product.Tie as tie
 
-high : (c : tie.Start) → c .args .parts / column * c .args .share ≤ 18446744073 * mostShare
-high c = mul-le-mul {n₂ = 18446744073} (omega arith) (c .pre)
+-- the most units of the upper column in 64 bits
+abbrev mostUpper : ℕ
+mostUpper = 184467440
+
+high : (c : tie.Start) → c .args .parts / column * c .args .share ≤ mostUpper * mostShare
+high c = mul-le-mul {n₂ = mostUpper} (omega arith) (c .pre)
 
 low : (c : tie.Start) → c .args .parts % column * c .args .share ≤ mostLower
 low c = mul-le-mul {n₂ = column} (omega arith) (c .pre)
