@@ -12,6 +12,7 @@ import making
 import reading
 
 WORKED = os.path.join(here, '..', '..', 'crates', 'rules', 'specs', 'Worked.antt')
+MAKERS = ('times', 'counted', 'joined', 'nums')
 
 
 def numbers(data):
@@ -38,8 +39,9 @@ def main(seed, rounds, share):
         files.append(making.damage(rnd, file) if rnd.random() < share else file)
     source = open(WORKED, encoding='utf8').read()
     print(source[:source.index('-- numbers of w bytes each')].replace('Rattle.rules.specs', 'Rattle.rules.specs'))
-    unfolding = ' '.join(source[source.index('unfolding nums'):source.index('worked = (')].split())
-    unfolding = unfolding.replace('nums roundA tiedAt flexible result ', '')
+    # what the worked cases unfold, but for the makers of their files, which no row has
+    theorem = source.index('worked = (')
+    unfolding = ' '.join(w for w in source[source.rindex('unfolding', 0, theorem):theorem].split() if w not in MAKERS)
     for k, file in enumerate(files[:rounds]):
         answer, _ = reading.clear(file, bytes(4096))
         if answer[0] == 'cleared':

@@ -36,7 +36,10 @@ fn line(name: &[u8], n: u64) {
 // A number of pence, in pounds.
 fn money(name: &[u8], pence: u64) {
     word(name);
-    let places = Figure::money(pence / names::PENCE_PER_POUND, pence % names::PENCE_PER_POUND).places;
+    let places = Figure::money(
+        pence / names::PENCE_PER_POUND,
+        pence % names::PENCE_PER_POUND,
+    ).places;
     word(&places[MONEY_AT..]);
     word(b"\n");
 }

@@ -135,7 +135,11 @@ fn application_line(recs: &[u8], a: usize)
     field(b", first-year days ", x.days);
     field(b", draw ", x.draw);
     hundredths(b", ", x.capacity);
-    money(b" MW, declared cost ", application::declared_cost(recs, a), 0);
+    money(
+        b" MW, declared cost ",
+        application::declared_cost(recs, a),
+        0,
+    );
     word(b"\n");
 }
 

@@ -6,7 +6,7 @@ use Rattle.value.specs.Scales.{priceScale, loadScale, capacityScale, tlm
 use Rattle.value.specs.Wide.{numberOf}
 use Rattle.value.specs.declared.Valuation.{Valuation}
 
-pub record Worked (price reference energy share : ℕ) (v : Valuation) : Type 0 where
+pub record LineByLine (price reference energy share : ℕ) (v : Valuation) : Type 0 where
   pub margin-is : v .margin ≡ price - reference
   pub product-is : numberOf (v .product) ≡ (price - reference) * energy * share
   pub price-line : numberOf (v .«by_price») ≡ ceilDiv (numberOf (v .product)) priceScale

@@ -8,7 +8,7 @@ ghost use Prim.Native.Nat.{_-_, _*_, _≤_, min};
 ghost use Rattle.rules.specs.Names.{highestPrice};
 ghost use Rattle.rules.specs.Value.{ceilDiv, penny, dearest};
 ghost use Rattle.value.specs.Ranges.{InRange};
-ghost use Rattle.value.specs.Lines.{Worked};
+ghost use Rattle.value.specs.Lines.{LineByLine};
 
 // "factors taken at their scales": so many units make a penny a MWh, a MW, one.
 pub const PRICE_SCALE: u64 = 10;
@@ -53,7 +53,7 @@ impl Valuation {
     // Of a bid in a year, where energy is load factor × hours × capacity and share is (1 − TLM) × RQM.
     pub fn of(price: u64, reference: u64, energy: u64, share: u64) -> Self
         requires { ⌜ InRange price reference energy share ⌝ }
-        ensures { λ r. ⌜ Worked price reference energy share r ⌝ }
+        ensures { λ r. ⌜ LineByLine price reference energy share r ⌝ }
     {
         let margin = margin(price, reference);
         let product = Wide::product(margin * energy, share);
