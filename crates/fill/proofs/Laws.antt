@@ -104,8 +104,8 @@ pub budget-in : (R : Round) (p y : ℕ) {pots : List ℕ} {x : ℕ} → Sound R 
     → x ≤ highestBudget
 budget-in R p y S e h l q = rw (q, e) (S .budget-most p y h l)
 
-pub limits-more : (years : ℕ) (pots : List ℕ) (p y : ℕ) (s : List ℕ) {x : ℕ} → y < length s → LimitsRight years pots p y s → x ≡ pencePerPound * budgetAt years pots p y
-    → LimitsRight years pots p (y + 1) (set s y x)
+pub limits-more : (years : ℕ) (pots : List ℕ) (p y : ℕ) (s : List ℕ) {x : ℕ} → y < length s → LimitsRight years pots p y s
+    → x ≡ pencePerPound * budgetAt years pots p y → LimitsRight years pots p (y + 1) (set s y x)
 limits-more years pots p y s {x} h f e =
     and-next (λ k. getD (set s y x) k 0 ≡ pencePerPound * budgetAt years pots p k) y
     (λ j l. getD-set-other s y j x 0 (λ z. omega arith) ∙ f j l)

@@ -8,7 +8,8 @@ use native.Mathlib.Nat.{add-zero, zero-mul, mul-zero}
 use lib.ListN.{length, getD, List·getD-eq-default, getD-replicate}
 use lib.Dec.{eqb, ltb}
 use borrow.Author.Tests.{lt-ltb, ltb-true, ltb-false}
-use Rattle.rules.specs.Names.{mostYears, mostApps, mostDeliveries, highestPrice, highestBudget, whole, longYear, largestCapacity, mostNumbers, dayHours, pencePerPound}
+use Rattle.rules.specs.Names.{mostYears, mostApps, mostDeliveries, highestPrice, highestBudget, whole, longYear, largestCapacity, mostNumbers, dayHours}
+use Rattle.rules.specs.Names.{pencePerPound}
 use Rattle.rules.specs.Lists.{pick, sift, below}
 use Rattle.rules.specs.Bytes.{le}
 use Rattle.rules.specs.Value.{exactParts, hoursOf, penny, mostEnergy}

@@ -11,7 +11,8 @@ ghost use Prim.Native.Nat.{_<_};
 ghost use Rattle.rows.specs.Rows.{Held};
 ghost use Rattle.pencil.specs.Valued.{Placed};
 
-// The places of a figure before the longest number, which leaves none for a pound sign and pence. The sign is one character of two bytes.
+// The place from which a figure is printed: the longest number then fills its line. An amount starts a place earlier, since a pound sign is one
+// character of two bytes.
 const NUMBER_AT: usize = 5;
 
 const MONEY_AT: usize = 4;

@@ -8,10 +8,10 @@ const DIGITS: usize = 28;
 
 const GROUP: usize = 3;
 
-// The digits, a comma after each full group, a point with pence, and a pound sign.
+// The places of a figure: its digits, a comma after each full group, a point with pence, and a pound sign.
 pub const PLACES: usize = 42;
 
-// A pound sign, in UTF-8.
+// A pound sign in UTF-8.
 const SIGN: [u8; 2] = [0xC2, 0xA3];
 
 // What stands from a place on; the places before it are blank.
@@ -59,6 +59,7 @@ impl Figure {
         before(blank, n)
     }
 
+    // Pounds and the pence beside them, below a hundred: £1,302,174.00.
     pub fn money(pounds: u64, pence: u64) -> Self
         ensures { λ r. ⌜ Whole r ⌝ }
     {
