@@ -67,9 +67,9 @@ pot bids price parts budget = record {
 abbrev dearer : Pot
 dearer = pot (1 ∷ 0 ∷ []) (λ k. 10 + 10 * k) (λ k. 3) 6
 
--- one bid of 31 parts, which is 3 pence and a tenth
+-- one bid of 31 parts, which is 3 pence and a tenth, and a budget in which a pound fits
 abbrev tenth : Pot
-tenth = pot (0 ∷ []) (λ k. 1) (λ k. 31) 9
+tenth = pot (0 ∷ []) (λ k. 1) (λ k. 31) 100
 
 -- bids at 20, 10 and 30 in the order of the file, of which the first does not fit
 abbrev unordered : Pot

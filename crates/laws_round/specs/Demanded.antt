@@ -54,6 +54,8 @@ module _ (R : Round) (p : ℕ) (T U : ℕ → Told) (e : (a : ℕ) → a < R .n 
     not-below = λ y h. rw (cost-same y, f y h) (D .not-below y h);
     not-above = λ y h. rw (cost-same y, f y h, won-same) (D .not-above y h);
     turned-down = λ k i t. D .turned-down k i (rw (g k i) at t);
+    in-parts = D .in-parts;
+    in-pence = D .in-pence;
     unlooked = λ k i t.
         ⊎-elim (λ w. inl (rw won-same w)) (λ c. inr (c .0, c .1, rw (g (c .0) (c .1)) (c .2), c .3, c .4))
         (D .unlooked k i (rw (g k i) at t));

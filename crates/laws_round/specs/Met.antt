@@ -63,6 +63,8 @@ module _ (R : Round) (p : ℕ) (S : Sound R) (A : Auctioned (potOf R p)) where
     not-below = λ y l. rw (exact-told R p S A y, total-told R p S A y) (at-scale _ (penny-is R p) (demand .not-below y));
     not-above = λ y l. rw (exact-told R p S A y, total-told R p S A y, length-told R p S A) (both-scales _ _ _ (penny-is R p) (demand .not-above y));
     turned-down = λ k i t. demand .turned-down k (fell P k (reason P k) (reason-why P A k) t);
+    in-parts = penny-is R p;
+    in-pence = budget-is R p;
     unlooked = λ k i t.
         let n = bids-in R p k i .0 in
         ⊎-elim

@@ -9,7 +9,7 @@ use lib.Dec.{eqb, ltb}
 use Rattle.rules.specs.Lists.{pick, sift, below, sum}
 use Rattle.rules.specs.Value.{penny, pound}
 use Rattle.rules.specs.File.{Round, budgetAt}
-use Rattle.rules.specs.Names.{becauseWon}
+use Rattle.rules.specs.Names.{becauseWon, pencePerPound}
 use Rattle.rules.specs.Pot.{downs, auction}
 use Rattle.rules.specs.Round.{bidOf, rowFor, costOf, potOf}
 use Rattle.rules.specs.declared.Told.{Told}
@@ -48,6 +48,9 @@ pub record Third (R : Round) (p : ℕ) (T : ℕ → Told) (total why : ℕ → �
   -- every bid looked at and turned down would, added at its own price to all that had won by the end of its step, revalued, have cost in some year more
   -- than the budget less one penny for each bid counted
   pub turned-down : (k : ℕ) → In k (potOf R p .bids) → TurnedDown (why k) → Dear (potOf R p) k (auction (potOf R p))
+  -- where a penny is so many parts, and the budgets of the pot are the file's, in pence
+  pub in-parts : potOf R p .scale ≡ penny
+  pub in-pence : (y : ℕ) → y < R .y → potOf R p .budget y ≡ pencePerPound * budgetAt (R .y) (R .pots) p y
   -- the step that turned a bid down is one
   pub one-step : NoneTwice (downs (auction (potOf R p)))
   -- every bid never looked at belongs to an application that won, or to a delivery year in which a cheaper bid had been turned down
