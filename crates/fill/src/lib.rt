@@ -86,7 +86,7 @@ fn fill_limits(file: &[u8], sections: Sections, p: usize, sheet: &mut Sheet)
     let years = sections.years;
     let mut y: usize = 0;
     while y < years {
-        sheet[y] = names::PENCE_PER_POUND * pot::budget(recs, years, p, y);
+        sheet[y] = value::pence(pot::budget(recs, years, p, y));
         y += 1;
     }
 }

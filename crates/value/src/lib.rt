@@ -1,11 +1,12 @@
-// The value of one bid in one year, in whole pence, as a bookkeeper works it by pencil: the whole product, 10^15 parts to the penny, and below
-// it a line for each scale, which divides the line above and rounds up. That this rounds the exact cost up once is `Scales.lined`.
+// Money, in whole pence: a budget, and the value of one bid in one year, as a bookkeeper works it by pencil: the whole product, 10^15 parts to
+// the penny, and below it a line for each scale, which divides the line above and rounds up. That this rounds the exact cost up once is
+// `Scales.lined`.
 pub mod wide;
 
 use wide::Wide;
 ghost use mathlib.Core.Path.{_≡_};
 ghost use Prim.Native.Nat.{_-_, _*_, _≤_, min};
-ghost use Rattle.rules.specs.Names.{highestPrice};
+ghost use Rattle.rules.specs.Names.{pencePerPound, highestBudget, highestPrice};
 ghost use Rattle.rules.specs.Value.{ceilDiv, penny, dearest};
 ghost use Rattle.value.specs.Ranges.{InRange};
 ghost use Rattle.value.specs.Lines.{LineByLine};
@@ -31,6 +32,14 @@ pub struct Valuation {
     pub by_capacity: Wide,
     pub by_tlm: u64,
     pub by_rqm: u64,
+}
+
+// "Budgets in the file stay in pounds and are compared a hundredfold": a budget in pence.
+pub fn pence(budget: u64) -> u64
+    requires { ⌜ budget ≤ highestBudget ⌝ }
+    ensures { λ r. ⌜ r ≡ pencePerPound * budget ⌝ }
+{
+    names::PENCE_PER_POUND * budget
 }
 
 // Price less reference, which may fall below zero; it then counts as zero.

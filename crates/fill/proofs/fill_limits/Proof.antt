@@ -1,7 +1,7 @@
 -- `fill::fill_limits` meets its contract. After y turns the first y limits are the pot's budgets, in pence.
 use Prim.Native.Nat.{ℕ, _*_, _-_, _≤_}
 use native.Mathlib.Omega.{arith}
-use mathlib.Core.Path.{_≡_, refl, ap}
+use mathlib.Core.Path.{_≡_, refl, ap, _∙_}
 use lib.ListN.{length, length-set}
 use borrow.Author.Needs.{needs}
 use denote.Ref.{now}
@@ -28,26 +28,26 @@ budget-requires c κs =
     let pre = c .before .before .before .before .pre in
     (omega (arith, pot-room _ (pre .0 .sound) _ (pre .1), ap length (c .before .before .pots .ensures)), c .loop-test .taken)
 
-mul-sheet : tie.Need-mul-sheet Inv-loop μ-loop
-mul-sheet c =
+pence-requires : tie.Need-pence-requires Inv-loop μ-loop
+pence-requires c κs =
     let pre = c .before .before .before .before .before .pre in
-    let most = budget-in _ _ _ (pre .0 .sound) (c .before .before .before .pots .ensures) (pre .1) (c .before .loop-test .taken) (c .budget .ensures) in
-    record { fits = omega (arith, most) }
+    budget-in _ _ _ (pre .0 .sound) (c .before .before .before .pots .ensures) (pre .1) (c .before .loop-test .taken) (c .budget .ensures)
 
 element-write-sheet : tie.Need-element-write-sheet Inv-loop μ-loop
-element-write-sheet c = omega (arith, c .before .loop-test .taken, c .before .before .before .before .before .pre .0 .sound .years-most)
+element-write-sheet c = omega (arith, c .before .before .loop-test .taken, c .before .before .before .before .before .before .pre .0 .sound .years-most)
 
 loop-again : tie.Need-loop-again Inv-loop μ-loop
 loop-again c =
-    let pre = c .before .before .before .before .before .pre in
-    let a = c .before .before .before .before .before .args in
+    let pre = c .before .before .before .before .before .before .pre in
+    let a = c .before .before .before .before .before .before .args in
+    let loop = c .before .before .before .loop in
+    let taken = c .before .before .loop-test .taken in
     let small = pre .0 .sound .years-most in (
       omega arith,
-      simp length-set (c .before .before .loop .inv .1),
-      limits-more _ _ _ _ (c .before .before .loop .sheet) (omega (arith, c .before .before .loop .inv .1, c .before .loop-test .taken, small))
-          (c .before .before .loop .inv .2) (ap (λ (x : ℕ). pencePerPound * x) (c .budget .ensures)),
-      rest-set entrantsAt _ (now (a .sheet)) (c .before .before .loop .sheet) (pencePerPound * c .budget .result)
-          (omega (arith, c .before .loop-test .taken, small)) (c .before .before .loop .inv .3),
+      simp length-set (loop .inv .1),
+      limits-more _ _ _ _ (loop .sheet) (omega (arith, loop .inv .1, taken, small)) (loop .inv .2)
+          (c .pence .ensures ∙ ap (λ (x : ℕ). pencePerPound * x) (c .before .budget .ensures)),
+      rest-set entrantsAt _ (now (a .sheet)) (loop .sheet) (c .pence .result) (omega (arith, taken, small)) (loop .inv .3),
     )
 
 returns : tie.Need-returns Inv-loop μ-loop
@@ -60,5 +60,5 @@ returns c =
 
 pub fill-limits-spec : {M : Type 1} → statement M
 fill-limits-spec =
-    tie.close (tie.spec Inv-loop μ-loop (λ c κs. search needs) loop-holds budget-requires mul-sheet (λ c. search needs) element-write-sheet (λ c. search needs)
+    tie.close (tie.spec Inv-loop μ-loop (λ c κs. search needs) loop-holds budget-requires pence-requires (λ c. search needs) element-write-sheet (λ c. search needs)
     (λ c. search needs) loop-again returns)
