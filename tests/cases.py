@@ -109,8 +109,8 @@ def files():
 
 def pots():
     """Pots that reach what chance seldom does, beyond making.directed: ties over delivery years with valuation years behind them, chains
-    that another application breaks, automatic bids alone and in ties, winners at no cost, budgets of 0 and of exactly the total, and totals
-    within a pound of the budget."""
+    that another application breaks, automatic bids alone and in ties, winners at no cost, budgets of 0 and of exactly the total, totals
+    within a pound of the budget, and the greatest total."""
     def years(d, y, budgets, applications, bids, reference=0):
         figures = [(20000 if k < d else 0, reference, 10000) for k in range(y)]
         rows = [(0, start, 365, draw, capacity, 0) for start, draw, capacity in applications]
@@ -144,6 +144,10 @@ def pots():
     for n in range(1, 11):
         for budget in (44 * n // 100, 44 * n // 100 + 1):
             yield years(1, 1, (budget,), [(0, a, 1) for a in range(n)], [], reference=19995)
+    # the greatest total that there is: 64 applications of V5, with a budget of just that and a pound less
+    for budget in (843264000000, 843263999999):
+        yield making.round_file([(366, 1, 0)], [(budget,)], [(0, 10000, [(500000, 0, 10000)])],
+                                [(0, 0, 366, a, 300000, 0) for a in range(64)], [])
 
 
 def rounds():

@@ -494,8 +494,9 @@ static uint64_t result_needs(const struct round *round)
 /* "the exact cost in pounds is (price − reference in y) × load factor in y ×
  * hours × capacity × (1 − TLM in y) × RQM, factors taken at their scales."
  * "Price less reference may fall below zero; the cost is then zero."
- * "The value is the exact cost rounded up once to a whole penny."
- * "the exact cost is a whole number of parts, 10^15 to the penny" */
+ * "The value is the exact cost rounded up once", and since 02's CR 11 "up to a
+ * penny".  "the exact cost is a whole number of parts, 10^17 to the pound", so
+ * 10^15 to the penny. */
 uint64_t judge_value(uint32_t price, uint32_t reference, uint32_t load_factor,
                      uint32_t hours, uint32_t capacity, uint32_t tlm, uint32_t rqm)
 {
