@@ -32,9 +32,10 @@ uint64_t gustmirror_result_len(const uint8_t *file, uint64_t file_len);
  *
  * Numbers in the result are little-endian, without gaps: the count of pots (2 bytes), and for each pot its outcome (2; 0 administrative,
  * 1 auction, 2 a tie too wide), the clearing price of each delivery year (4; 4,294,967,295 for none) and the total of each year (8); the count of
- * applications (2), and for each won (2; 1 or 0), its bid (2; 65,534 automatic, 65,535 none), the reason of its automatic bid (2; 0 where it had
- * sealed bids) and the price paid (4; 0 if lost); the count of bids (2), and for each its reason (2). Prices are tenths of a penny per MWh,
- * totals pence. */
+ * applications (2), and for each won (2; 1 or 0), its bid (2; 65,535 none), its automatic reason (2; 0 where it had sealed bids, otherwise 6, 7 or
+ * 8) and the price paid (4; 0 if lost); the count of bids (2), and for each its reason (2). Reasons are 1 won; 2 turned down alone; 3 turned down
+ * in a tie; 4 not looked at, its application won; 5 not looked at, otherwise; 6 outcome 0; 7 outcome 2; 8 no sealed bid, outcome 1. Prices are
+ * tenths of a penny per MWh, totals pence. */
 uint64_t gustmirror_clear(const uint8_t *file, uint64_t file_len, uint8_t *result, uint64_t result_len);
 
 /* A refusal taken apart. */

@@ -109,8 +109,8 @@ def files():
 
 def pots():
     """Pots that reach what chance seldom does, beyond making.directed: ties over delivery years with valuation years behind them, chains
-    that another application breaks, automatic bids alone and in ties, winners at no cost, budgets of 0 and of exactly the total, totals
-    within a pound of the budget, and the greatest total."""
+    that another application breaks, silent applications alone, beside a bid and beside ties, winners at no cost, budgets of 0 and of
+    exactly the total, totals within a pound of the budget, and the greatest total."""
     def years(d, y, budgets, applications, bids, reference=0):
         figures = [(20000 if k < d else 0, reference, 10000) for k in range(y)]
         rows = [(0, start, 365, draw, capacity, 0) for start, draw, capacity in applications]
@@ -121,6 +121,8 @@ def pots():
             bids = [(a, a % d, 365, 100, 4000) for a in range(n)]
             for share in (1, 2, 3):
                 yield years(d, d + 1, (35040 * share,) * (d + 1), apps, bids)
+            # the last of them, whose draw is the lowest, is silent
+            yield years(d, d + 1, (35040 * 2,) * (d + 1), apps, bids[:-1])
     chain = [(0, 0, 365, 200 - 10 * i, 6000 + 10 * i) for i in range(3)]
     for other in (None, 6000, 6005, 6010, 6015, 6020, 7000):
         bids = chain + ([] if other is None else [(1, 0, 365, 100, other // 10 * 10)])
@@ -131,6 +133,10 @@ def pots():
         for budget in (0, 175199, 175200, 350400, 10 ** 6):
             yield years(1, 1, (budget,), [(0, a, 100) for a in range(n)], [])
             yield years(1, 1, (budget,), [(0, a, 100) for a in range(n)], [(0, 0, 365, 100, 20000)])
+    # more that are silent, beside the widest tie that is broken and beside one too wide
+    for n in (10, 11):
+        for more in (1, 2, 5):
+            yield years(1, 2, (35040 * 2, 35040 * 2), [(0, n + more - a, 100) for a in range(n + more)], [(a, 0, 365, 100, 4000) for a in range(n)])
     for price in (0, 10, 4990, 5000, 5010):
         yield years(1, 1, (0,), [(0, 0, 100), (0, 1, 100)], [(0, 0, 365, 100, price)], reference=5000)
         yield years(1, 1, (88,), [(0, 0, 100), (0, 1, 100)], [(0, 0, 365, 100, price), (1, 0, 365, 100, price)], reference=5000)
@@ -142,12 +148,16 @@ def pots():
             for budget in (1, 2, 3, 4, 6):
                 yield years(1, 1, (budget,), apps, bids, reference=5)
     for n in range(1, 11):
+        bids = [(a, 0, 365, 1, 20000) for a in range(n)]
         for budget in (44 * n // 100, 44 * n // 100 + 1):
             yield years(1, 1, (budget,), [(0, a, 1) for a in range(n)], [], reference=19995)
-    # the greatest total that there is: 64 applications of V5, with a budget of just that and a pound less
+            yield years(1, 1, (budget,), [(0, a, 1) for a in range(n)], bids, reference=19995)
+            yield years(1, 1, (budget,), [(0, a, 1) for a in range(n)], bids[1:], reference=19995)
+    # the greatest total that there is: 64 applications of V5, with a budget of just that and a pound less; all silent, all but one, and none
     for budget in (843264000000, 843263999999):
-        yield making.round_file([(366, 1, 0)], [(budget,)], [(0, 10000, [(500000, 0, 10000)])],
-                                [(0, 0, 366, a, 300000, 0) for a in range(64)], [])
+        for bidding in (0, 1, 64):
+            yield making.round_file([(366, 1, 0)], [(budget,)], [(0, 10000, [(500000, 0, 10000)])],
+                                    [(0, 0, 366, a, 300000, 0) for a in range(64)], [(a, 0, 366, 300000, 500000) for a in range(bidding)])
 
 
 def rounds():
@@ -166,6 +176,29 @@ def told(file):
     except reading.Refused as e:
         return 'refused %d at %d' % e.args
     return 'accepted %d %d %d %d %d %d' % (len(r.years), r.deliveries, len(r.pots), len(r.technologies), len(r.applications), len(r.bids))
+
+
+def silent(file):
+    """What each silent application of a round comes to: its pot's outcome and, in an auction, what stands beside it."""
+    try:
+        r = reading.read(file)
+    except reading.Refused:
+        return
+    pots, applications, reasons = reading.told(r)
+    in_pot = [r.technologies[a.technology].pot for a in r.applications]
+    bidding = {b.application for b in r.bids}
+    for a in set(range(len(r.applications))) - bidding:
+        others = [x for x in bidding if in_pot[x] == in_pot[a]]
+        yield 'outcome %d' % pots[in_pot[a]].outcome
+        if pots[in_pot[a]].outcome != 1:
+            continue
+        if not others:
+            yield 'no bid in the pot'
+        if any(applications[x].won for x in others):
+            yield 'a winner'
+        tied = [b.application for b, reason in zip(r.bids, reasons) if reason == 3 and b.application in others]
+        if tied and all(r.applications[a].draw < r.applications[x].draw for x in others):
+            yield 'a tie of higher draws'
 
 
 def write(name, cases):
@@ -189,5 +222,8 @@ if __name__ == '__main__':
     words = collections.Counter(' '.join(w for w in line.split() if w.isalpha()) + (' ' + line.split()[3] if line.startswith('bid') else '')
                                 for _, text in listings for line in text.splitlines())
     assert all(words['bid reason %d' % k] >= 20 for k in range(1, 8)) and words['pot tie'] >= 5 and len(listings) >= 400
+    beside = collections.Counter(x for f, _ in listings for x in silent(f))
+    assert len(beside) == 6 and min(beside.values()) >= 10
     print('%d rounds:' % len(listings), ', '.join('%s: %d' % x for x in sorted(words.items())))
+    print('silent applications:', ', '.join('%s: %d' % x for x in sorted(beside.items())))
     print('%d files:' % len(cases), ', '.join('%s: %d' % x for x in sorted(kinds.items())))

@@ -41,6 +41,11 @@ def pennies(budget):
     return one_year(budget, [(0, 100), (1, 100), (2, 100)], [(0, 100, 5990), (1, 100, 6000), (2, 100, 6010)])
 
 
+def two(budget, bidding):
+    """Two of 1.00 MW, each for 175,200 pounds at the administrative price. Those bidding bid that price, and the others are silent."""
+    return one_year(budget, [(0, 100), (1, 100)], [(a, 100, 20000) for a in bidding])
+
+
 def valued(capacity, price, reference, load, tlm, rqm, days):
     """One application whose value in year 0 is the total of the first test."""
     return round_file([(days, 1, tlm)], [(10 ** 12,)], [(0, rqm, [(price, reference, load)])], [(0, 0, days, 0, capacity, 0)], [])
@@ -49,23 +54,24 @@ def valued(capacity, price, reference, load, tlm, rqm, days):
 # the totals of the worked cases, year by year, in pence
 TOTALS = {'V1': [130217400], 'V2': [130347618], 'V3': [0], 'V4': [0], 'V5': [1317600000000],
           'Round A': [3504000, 7884000], 'A1': [10512000, 14892000], 'A2': [3504000, 7884000], 'A3': [35040000, 52560000],
-          'A4': [10512000, 14892000], 'T1': [10512000], 'T2': [7008000], 'F1': [5256876], 'Pennies': [15794280]}
+          'A4': [10512000, 14892000], 'T1': [10512000], 'T2': [7008000], 'F1': [5256876], 'Pennies': [15794280],
+          'Silence': [0], 'One bid': [17520000]}
 
 
 def worked():
-    """The worked cases of document 01 by name, and the one that only pennies let through."""
+    """The worked cases of document 01 by name, the one that only pennies let through, and two of silence in a pot that could pay for one."""
     return {
         'V1': valued(1000, 100000, 50000, 3000, 90, 10000, 365), 'V2': valued(1001, 100000, 50000, 3000, 90, 10000, 365),
         'V3': valued(1000, 40000, 50000, 3000, 90, 10000, 365), 'V4': valued(1000, 50000, 50000, 3000, 90, 10000, 365),
         'V5': valued(300000, 500000, 0, 10000, 0, 10000, 366),
         'Round A': round_a(), 'A1': round_a(105120, 148920), 'A2': round_a(105120, 148919), 'A3': round_a(350400, 525600),
         'A4': round_a(350400, 525599), 'T1': tied(105120), 'T2': tied(105119), 'F1': flexible(),
-        'Pennies': pennies(157943),
+        'Pennies': pennies(157943), 'Silence': two(200000, ()), 'One bid': two(200000, (0,)),
     }
 
 
 def directed():
-    """Rounds that reach what chance seldom does: ties of every width, over years, chains, automatic bids, budgets at the edge."""
+    """Rounds that reach what chance seldom does: ties of every width, over years, chains, silent applications, budgets at the edge."""
     files = []
     for n in range(2, 14):
         files.append(one_year(35040 * 2, [(i, 100) for i in range(n)], [(a, 100, 4000) for a in range(n)]))
@@ -75,8 +81,15 @@ def directed():
         files.append(one_year(60000, [(0, 200), (1, 100)], chain + [(1, 100, 7000)]))
         files.append(one_year(90000, [(0, 200), (1, 100)], chain[:2] + [(1, 100, 6010)]))
         files.append(one_year(90000, [(0, 200), (1, 100)], chain[:2] + [(1, 100, 6000)]))
-    for n in range(1, 12):
-        files.append(one_year(175200 * 3, [(i, 100) for i in range(n + 3)], []))
+    # two could be paid: a silent application, of the lowest draw, beside two that win, beside ties and beside ones too wide; the tie of ten
+    # stands in cases.py, since the checker, which computes these files, would not get through it
+    for n in (2, 3, 4, 5, 6, 7, 8, 9, 11, 12, 13):
+        files.append(one_year(175200 * 2, [(i, 100) for i in range(n + 1)], [(a, 100, 20000) for a in range(1, n + 1)]))
+    # silent alone, and beside a bid, with just enough for the first test and a pound less
+    for less in (0, 1):
+        for n in (1, 2, 12):
+            files.append(one_year(175200 * n - less, [(i, 100) for i in range(n)], []))
+        files.append(two(350400 - less, (1,)))
     files.append(one_year(0, [(0, 100)], [(0, 100, 0)]))
     files.append(one_year(0, [(0, 100)], [(0, 100, 10)]))
     files.append(one_year(0, [], []))
@@ -109,7 +122,7 @@ def make(rnd):
         for _ in range(rnd.choice([0, 1, 1, 2, 3])):
             year = rnd.randrange(start, d)
             days = min(first, rnd.choice([365, 100])) if year == start else rnd.choice([365, 100])
-            price = rnd.choice([3990, 4000, 4000, 4000, 4000, 4005, 4010, 5000, 6000, 7000])
+            price = rnd.choice([3990, 4000, 4000, 4000, 4000, 4005, 4010, 5000, 6000, 7000, technologies[t][2][year][0]])
             if price <= technologies[t][2][year][0] and all((b[0], b[4]) != (a, price) for b in bids):
                 bids.append((a, year, days, rnd.choice([capacity, capacity, 100]), price))
     rnd.shuffle(bids)

@@ -1,4 +1,5 @@
-"""Document 01 read a second time, in Python: tables, loops and a state that changes, and nothing shared with the definitions or the code.
+"""Document 01, with CR 8 and 11 of 02, read a second time, in Python: tables, loops and a state that changes, and nothing shared with the
+definitions or the code.
 
 read(file)            the tables of an accepted file, or Refused(number, offset)
 clear(file, lent)     ('cleared', length) or ('refused', number, offset), and what then stands in the lent bytes
@@ -16,7 +17,7 @@ Round = namedtuple('Round', 'years deliveries pots technologies applications bid
 Pot = namedtuple('Pot', 'outcome prices totals')
 Told = namedtuple('Told', 'won bid reason paid')
 
-NO_PRICE, AUTOMATIC, NO_BID = 4294967295, 65534, 65535
+NO_PRICE, NO_BID = 4294967295, 65535
 # the exact cost is a whole number of parts; values and totals are pence, and budgets stay in pounds
 PARTS_TO_THE_PENNY, PENCE_TO_THE_POUND = 10 ** 15, 100
 
@@ -139,7 +140,7 @@ def read(file):
 
 
 class Auction:
-    """The clearing of one pot. Bids are (name, Bid): the name of a sealed bid is its number, of an automatic one 'a' and its application's."""
+    """The clearing of one pot. Bids are (number, Bid); an application is silent where it has none."""
 
     def __init__(self, r, pot):
         self.r, self.budgets, self.last = r, r.pots[pot], len(r.years) - 1
@@ -171,24 +172,25 @@ class Auction:
             price[b.year] = b.price
         return self.totals(self.winners + new, lambda b: price[b.year])
 
-    def automatic(self, a):
+    def administrative(self, a):
+        """What the first test counts of an application: its own capacity, year and days, at its administrative price."""
         x = self.r.applications[a]
         return Bid(a, x.year, x.days, x.capacity, self.r.technologies[x.technology].admin[x.year])
 
     def lowest(self):
         """The live bids at the lowest live price."""
         won = {b.application for _, b in self.winners}
-        live = [x for x in self.all if x[0] not in self.marks and x[1].application not in won and x[1].year not in self.closed]
+        live = [x for x in self.sealed if x[0] not in self.marks and x[1].application not in won and x[1].year not in self.closed]
         return [x for x in live if x[1].price == min(b.price for _, b in live)]
 
     def win(self, new):
-        for name, b in new:
-            self.marks[name], self.price[b.year] = 1, b.price
+        for k, b in new:
+            self.marks[k], self.price[b.year] = 1, b.price
         self.winners = self.winners + new
 
-    def alone(self, name, b):
+    def alone(self, k, b):
         """2: a bid that was taken alone and does not fit, and the further looks."""
-        self.marks[name] = 2
+        self.marks[k] = 2
         while True:
             further = self.lowest()
             if len(further) != 1 or (further[0][1].application, further[0][1].year) != (b.application, b.year):
@@ -212,14 +214,13 @@ class Auction:
             if self.fits(totals) and (best is None or totals[self.last] >= best[0]):
                 best = (totals[self.last], some)
         self.win(best[1])
-        for name, b in taken:
-            if name not in self.marks:
-                self.marks[name] = 3
+        for k, b in taken:
+            if k not in self.marks:
+                self.marks[k] = 3
                 self.closed.add(b.year)
         return True
 
     def run(self):
-        self.all = self.sealed + [(('a', a), self.automatic(a)) for a in self.silent]
         while True:
             taken = self.lowest()
             if not taken:
@@ -232,35 +233,24 @@ class Auction:
                 return False
 
     def same(self, outcome, totals, reason, told):
-        """A pot of outcome 0 or 2: one reason for all its bids."""
+        """A pot of outcome 0 or 2: one reason for all its bids and for the silent."""
         pot = Pot(outcome, [NO_PRICE] * self.r.deliveries, totals)
         return pot, {a: told(a, reason if a in self.silent else 0) for a in self.own}, {k: reason for k, _ in self.sealed}
 
     def cleared(self):
-        """What is told of the pot, of its applications and of its sealed bids."""
-        autos = [(a, self.automatic(a)) for a in self.own]
-        totals = self.totals(autos, lambda b: b.price)
+        """What is told of the pot, of its applications and of its bids."""
+        counted = {a: self.administrative(a) for a in self.own}
+        totals = self.totals(counted.items(), lambda b: b.price)
         if self.fits(totals):
-            return self.same(0, totals, 6, lambda a, why: Told(1, NO_BID, why, self.automatic(a).price))
+            return self.same(0, totals, 6, lambda a, why: Told(1, NO_BID, why, counted[a].price))
         if not self.run():
             return self.same(2, [0] * len(self.r.years), 7, lambda a, why: Told(0, NO_BID, why, 0))
-        won = {b.application: (name, b) for name, b in self.winners}
-
-        def why(name, b):
-            return self.marks.get(name, 4 if b.application in won else 5)
-
-        applications = {}
-        for a in self.own:
-            auto = why(('a', a), self.automatic(a)) if a in self.silent else 0
-            if a in won:
-                name, b = won[a]
-                paid = min(self.price[b.year], self.technology(b).admin[b.year])
-                applications[a] = Told(1, name if isinstance(name, int) else AUTOMATIC, auto, paid)
-            else:
-                applications[a] = Told(0, NO_BID, auto, 0)
+        applications = {a: Told(0, NO_BID, 8 if a in self.silent else 0, 0) for a in self.own}
+        for k, b in self.winners:
+            applications[b.application] = Told(1, k, 0, min(self.price[b.year], self.technology(b).admin[b.year]))
         prices = [self.price.get(d, NO_PRICE) for d in range(self.r.deliveries)]
         pot = Pot(1, prices, self.totals(self.winners, lambda b: self.price[b.year]))
-        return pot, applications, {k: why(k, b) for k, b in self.sealed}
+        return pot, applications, {k: self.marks.get(k, 4 if applications[b.application].won else 5) for k, b in self.sealed}
 
 
 def told(r):
@@ -313,7 +303,7 @@ def listing(file):
             price = pot.prices[y] if y < len(pot.prices) else NO_PRICE
             lines.append('year %d price %s total %d' % (y, '-' if price == NO_PRICE else price, total))
     for a, t in enumerate(applications):
-        bid = {NO_BID: '-', AUTOMATIC: 'auto'}.get(t.bid, t.bid)
+        bid = '-' if t.bid == NO_BID else t.bid
         lines.append('application %d ' % a + ('won %d bid %s' % (t.paid, bid) if t.won else 'lost'))
     lines += ['bid %d reason %d' % x for x in enumerate(reasons)]
     return ''.join(line + '\n' for line in lines)

@@ -28,11 +28,18 @@ edited() {
         }' "$1"
 }
 
-# apply EDIT: makes one edit in the copy
+# apply EDIT: makes one edit in the copy, which may replace several texts
 apply() {
-    file=$(sed -n 's/^file: //p' "$1") old=$(sed -n 's/^old: //p' "$1") new=$(sed -n 's/^new: //p' "$1")
-    edited "$d/crates/rules/$file" "$old" "$new" >"$d/edited" || { echo "$1: its text is not there once"; exit 1; }
-    mv "$d/edited" "$d/crates/rules/$file"
+    while IFS= read -r line; do
+        case $line in
+        'file: '*) file=${line#file: } ;;
+        'old: '*) old=${line#old: } ;;
+        'new: '*)
+            edited "$d/crates/rules/$file" "$old" "${line#new: }" >"$d/edited" || { echo "$1: its text is not there once"; exit 1; }
+            mv "$d/edited" "$d/crates/rules/$file"
+            ;;
+        esac
+    done <"$1"
 }
 
 # refused: the laws that the check refused for themselves, not for a law that they cite; a row of small-pots by its number

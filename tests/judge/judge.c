@@ -1,6 +1,7 @@
-/* The judge: document 01 in plain C, its values to the penny.  Sentences of the
- * paper stand quoted in the comments; words like look, trial, winner, live,
- * closed are the paper's. */
+/* The judge: document 01 in plain C, with CR 8 and 11 of 02: silence is no bid,
+ * and values are to the penny.  Sentences of the papers stand quoted in the
+ * comments; words like look, trial, winner, live, closed are theirs.  An
+ * application is silent where it has no sealed bid. */
 #include "judge.h"
 
 #include <stdarg.h>
@@ -16,7 +17,6 @@ enum {
     MAX_TECHNOLOGIES = JUDGE_MAX_TECHNOLOGIES,
     MAX_APPLICATIONS = JUDGE_MAX_APPLICATIONS,
     MAX_BIDS = JUDGE_MAX_BIDS,
-    MAX_POT_BIDS = MAX_BIDS + MAX_APPLICATIONS, /* sealed and automatic */
     MAX_BIDS_OF_APPLICATION = 10,
     MAX_BIDS_IN_YEAR = 3,
     MAX_REMAINING = 10,
@@ -35,10 +35,10 @@ enum reason {
     NOT_LOOKED_AT_APPLICATION_WON = 4,
     NOT_LOOKED_AT_OTHERWISE = 5,
     IN_OUTCOME_0 = 6,
-    IN_OUTCOME_2 = 7
+    IN_OUTCOME_2 = 7,
+    SILENT_IN_OUTCOME_1 = 8
 };
 
-#define AUTOMATIC_BID 65534u
 #define NO_BID 65535u
 #define NO_PRICE 4294967295u
 
@@ -67,7 +67,7 @@ struct application {
 };
 
 struct bid {
-    uint32_t number; /* its number in the file, or AUTOMATIC_BID */
+    uint32_t number; /* its number in the file, or NO_BID */
     uint32_t application, year, days, capacity, price;
     uint64_t offset;
 };
@@ -628,13 +628,18 @@ static bool in_pot(const struct round *round, uint32_t application, unsigned pot
     return round->technologies[round->applications[application].technology].pot == pot;
 }
 
-/* "An application with no bid is given an automatic one: its own capacity,
- * year and days, at its administrative price." */
-static struct bid automatic_bid(const struct round *round, uint32_t number)
+static bool silent(const struct application *application)
+{
+    return application->sealed_bids == 0;
+}
+
+/* An application as if it bid for its own capacity, year and days, at its
+ * administrative price. */
+static struct bid at_administrative_price(const struct round *round, uint32_t number)
 {
     const struct application *application = &round->applications[number];
     struct bid bid = { 0 };
-    bid.number = AUTOMATIC_BID;
+    bid.number = NO_BID;
     bid.application = number;
     bid.year = application->year;
     bid.days = application->days;
@@ -645,14 +650,15 @@ static struct bid automatic_bid(const struct round *round, uint32_t number)
 
 /* ---- first test ---- */
 
-/* "all a pot's applications, at their administrative prices".  An application
- * at its administrative price is what its automatic bid would be. */
+/* "all a pot's applications, at their administrative prices".  Of a silent one
+ * 02's CR 8 says: "The first test counts it as before, and in outcome 0 it
+ * wins." */
 static struct row administrative_row(const struct round *round, unsigned pot)
 {
     struct row row = empty_row();
     for (unsigned i = 0; i < round->application_count; i++)
         if (in_pot(round, i, pot)) {
-            struct bid own = automatic_bid(round, i);
+            struct bid own = at_administrative_price(round, i);
             add_value(round, &own, own.price, &row);
         }
     return row;
@@ -676,10 +682,10 @@ static void set_reasons_of_pot(const struct round *round, unsigned pot, enum rea
             clearing->bid_reasons[i] = reason;
 }
 
-/* "automatic bid's reason 2 (0 where it had sealed bids)" */
+/* The automatic reason: "0 where it had sealed bids". */
 static uint32_t automatic_reason(const struct application *application, enum reason reason)
 {
-    return application->sealed_bids == 0 ? reason : 0;
+    return silent(application) ? reason : 0;
 }
 
 /* "In outcome 0 every clearing price is none, the totals are those at
@@ -696,7 +702,7 @@ static void all_win_at_administrative_prices(const struct round *round, unsigned
             result->won = 1;
             result->bid = NO_BID;
             result->automatic_reason = automatic_reason(&round->applications[i], IN_OUTCOME_0);
-            result->price = automatic_bid(round, i).price;
+            result->price = at_administrative_price(round, i).price;
         }
 }
 
@@ -707,8 +713,8 @@ struct auction {
     const struct round *round;
     const struct pot *pot;
     unsigned bid_count;
-    struct bid bids[MAX_POT_BIDS];
-    enum reason reasons[MAX_POT_BIDS];
+    struct bid bids[MAX_BIDS];
+    enum reason reasons[MAX_BIDS];
     bool application_won[MAX_APPLICATIONS];
     bool open[MAX_DELIVERY_YEARS];
     unsigned winner_count;
@@ -723,6 +729,7 @@ struct taken {
     unsigned bids[MAX_APPLICATIONS]; /* places in auction.bids */
 };
 
+/* CR 8: "an application without a sealed bid takes no part in the auction". */
 static void open_auction(const struct round *round, unsigned pot, struct auction *a)
 {
     memset(a, 0, sizeof *a);
@@ -734,9 +741,6 @@ static void open_auction(const struct round *round, unsigned pot, struct auction
     for (unsigned i = 0; i < round->bid_count; i++)
         if (in_pot(round, round->bids[i].application, pot))
             a->bids[a->bid_count++] = round->bids[i];
-    for (unsigned i = 0; i < round->application_count; i++)
-        if (in_pot(round, i, pot) && round->applications[i].sealed_bids == 0)
-            a->bids[a->bid_count++] = automatic_bid(round, i);
 }
 
 /* "Live bids are those not yet looked at, of an application that has not won,
@@ -811,13 +815,13 @@ static void count_end_of_chain(const struct auction *a, unsigned turned_down,
                                const struct taken *next)
 {
     const struct bid *bid = &a->bids[turned_down];
-    unsigned own = MAX_POT_BIDS;
+    unsigned own = MAX_BIDS;
     for (unsigned i = 0; i < a->bid_count; i++)
         if (live(a, i) && a->bids[i].application == bid->application
             && a->bids[i].year == bid->year
-            && (own == MAX_POT_BIDS || a->bids[i].price < a->bids[own].price))
+            && (own == MAX_BIDS || a->bids[i].price < a->bids[own].price))
             own = i;
-    if (own == MAX_POT_BIDS)
+    if (own == MAX_BIDS)
         judge_counts.chain_ended++;
     else if (a->bids[next->bids[0]].price == a->bids[own].price)
         judge_counts.chain_broken_same_price++;
@@ -963,10 +967,29 @@ static struct taken choose_combination(struct auction *a, const struct taken *re
 }
 
 #ifdef JUDGE_COUNT
+static bool silent_in_auction(const struct auction *a, unsigned application)
+{
+    return silent(&a->round->applications[application])
+        && in_pot(a->round, application, (unsigned)(a->pot - a->round->pots));
+}
+
+static bool lower_silent_draw(const struct auction *a, const struct taken *taken)
+{
+    for (unsigned s = 0; s < a->round->application_count; s++) {
+        bool lower = silent_in_auction(a, s);
+        for (unsigned i = 0; i < taken->count; i++)
+            lower = lower && a->round->applications[s].draw < draw_of(a, taken->bids[i]);
+        if (lower)
+            return true;
+    }
+    return false;
+}
+
 static void count_tie(const struct auction *a, const struct taken *taken, unsigned remaining)
 {
     judge_counts.tie[taken->count][remaining]++;
     judge_counts.tie_with_earlier_winners += a->winner_count > 0;
+    judge_counts.tie_beside_a_lower_silent_draw += lower_silent_draw(a, taken);
     for (unsigned i = 1; i < taken->count; i++)
         if (a->bids[taken->bids[i]].year != a->bids[taken->bids[0]].year) {
             judge_counts.tie_across_years++;
@@ -1050,8 +1073,7 @@ static struct application_result lost(const struct round *round, unsigned applic
 }
 
 /* "If more than 10 remain, outcome 2: no price, totals 0, no winner in this
- * pot."  "An application without sealed bids has automatic reason ... 7 in
- * outcome 2." */
+ * pot."  A silent application "keeps 7 in outcome 2". */
 static void none_wins(const struct round *round, unsigned pot, struct clearing *clearing)
 {
     struct row row = empty_row();
@@ -1087,6 +1109,26 @@ static void count_winner(const struct auction *a, const struct bid *bid)
         }
 }
 
+/* Silent ones that would win if they bid at their administrative price and were
+ * looked at last. */
+static void count_silent_that_would_fit(const struct auction *a)
+{
+    for (unsigned s = 0; s < a->round->application_count; s++) {
+        if (!silent_in_auction(a, s))
+            continue;
+        struct bid own = at_administrative_price(a->round, s);
+        uint32_t price = a->row.price[own.year];
+        bool last = price == NO_PRICE || price <= own.price;
+        if (!last || !a->open[own.year] || a->bid_count == MAX_BIDS)
+            continue;
+        struct auction with = *a;
+        struct taken taken = { 1, { with.bid_count } };
+        with.bids[with.bid_count++] = own;
+        struct row row = trial(&with, &taken);
+        judge_counts.silent_would_fit += trial_fits(&with, &row);
+    }
+}
+
 static void count_years_closed(const struct auction *a)
 {
     unsigned open = 0;
@@ -1107,21 +1149,16 @@ static void set_winner(const struct auction *a, const struct bid *bid, struct cl
     COUNT(count_winner(a, bid));
 }
 
+/* CR 8: a silent application "is lost with automatic reason 8 in outcome 1". */
 static void set_auction_result(const struct auction *a, unsigned pot, struct clearing *clearing)
 {
     set_pot_result(a->round, &clearing->pots[pot], AUCTION, &a->row);
-    COUNT(count_years_closed(a));
-    for (unsigned i = 0; i < a->bid_count; i++) {
-        const struct bid *bid = &a->bids[i];
-        enum reason reason = final_reason(a, i);
-        if (bid->number != AUTOMATIC_BID)
-            clearing->bid_reasons[bid->number] = reason;
-        if (!a->application_won[bid->application])
-            clearing->applications[bid->application] = lost(a->round, bid->application, reason);
-        else
-            clearing->applications[bid->application].automatic_reason =
-                automatic_reason(&a->round->applications[bid->application], reason);
-    }
+    COUNT(count_years_closed(a); count_silent_that_would_fit(a));
+    for (unsigned i = 0; i < a->bid_count; i++)
+        clearing->bid_reasons[a->bids[i].number] = final_reason(a, i);
+    for (unsigned i = 0; i < a->round->application_count; i++)
+        if (in_pot(a->round, i, pot))
+            clearing->applications[i] = lost(a->round, i, SILENT_IN_OUTCOME_1);
     for (unsigned i = 0; i < a->winner_count; i++)
         set_winner(a, &a->bids[a->winners[i]], clearing);
 }
@@ -1147,6 +1184,31 @@ static void clear_pot(const struct round *round, unsigned pot, struct clearing *
 }
 
 #ifdef JUDGE_COUNT
+static void count_silent(const struct round *round, unsigned pot, const struct clearing *clearing)
+{
+    enum outcome outcome = clearing->pots[pot].outcome;
+    unsigned silent_ones = 0, others = 0, winners = 0;
+    struct row row = empty_row(); /* of the others at their administrative prices */
+    for (unsigned i = 0; i < round->application_count; i++) {
+        if (!in_pot(round, i, pot))
+            continue;
+        const struct application_result *result = &clearing->applications[i];
+        struct bid own = at_administrative_price(round, i);
+        bool is_silent = silent(&round->applications[i]);
+        silent_ones += is_silent;
+        others += !is_silent;
+        winners += result->won;
+        judge_counts.silent_won_in_outcome_0 += is_silent && outcome == ADMINISTRATIVE && result->won;
+        if (!is_silent)
+            add_value(round, &own, own.price, &row);
+    }
+    judge_counts.silent_in_outcome_2 += outcome == TIE ? silent_ones : 0;
+    judge_counts.silent_beside_a_winner += outcome == AUCTION && winners > 0 ? silent_ones : 0;
+    judge_counts.auction_without_a_bid += outcome == AUCTION && others == 0;
+    judge_counts.constrained_by_the_silent +=
+        outcome != ADMINISTRATIVE && others > 0 && fits(round, &round->pots[pot], &row);
+}
+
 static void count_clearing(const struct round *round, const struct clearing *clearing)
 {
     for (unsigned p = 0; p < round->pot_count; p++) {
@@ -1165,11 +1227,14 @@ static void count_clearing(const struct round *round, const struct clearing *cle
         judge_counts.budget_0_auction += zero && result->outcome == AUCTION;
         judge_counts.budget_equals_total_administrative += equal && result->outcome == ADMINISTRATIVE;
         judge_counts.budget_equals_total_auction += equal && result->outcome == AUCTION;
+        count_silent(round, p, clearing);
     }
     for (unsigned i = 0; i < round->bid_count; i++)
         judge_counts.sealed_reason[clearing->bid_reasons[i]]++;
-    for (unsigned i = 0; i < round->application_count; i++)
+    for (unsigned i = 0; i < round->application_count; i++) {
         judge_counts.automatic_reason[clearing->applications[i].automatic_reason]++;
+        judge_counts.bid_65534 += clearing->applications[i].bid == 65534;
+    }
 }
 #endif
 
@@ -1203,9 +1268,9 @@ static void put_pots(const struct round *round, const struct clearing *clearing,
     }
 }
 
-/* "Applications: won 2 (1 or 0), bid 2 (65,534 automatic, 65,535 none),
- * automatic bid's reason 2 (0 where it had sealed bids), price paid 4 (0 if
- * lost)." */
+/* "Applications: won 2 (1 or 0), bid 2 (... 65,535 none), automatic bid's reason
+ * 2 (0 where it had sealed bids), price paid 4 (0 if lost)."  CR 8: "65,534 and
+ * `auto` are no longer written." */
 static void put_applications(const struct round *round, const struct clearing *clearing,
                              uint8_t **p)
 {
@@ -1300,7 +1365,7 @@ static void print_pot(struct listing *l, const struct round *round, unsigned pot
 }
 
 /* "An application line has its number and, if it won, the price paid and the
- * bid."  "no price or bid as `-`; an automatic bid as `auto`" */
+ * bid."  "no price or bid as `-`" */
 static void print_application(struct listing *l, unsigned number,
                               const struct application_result *result)
 {
@@ -1308,8 +1373,6 @@ static void print_application(struct listing *l, unsigned number,
         print(l, "application %u lost\n", number);
     else if (result->bid == NO_BID)
         print(l, "application %u won %u bid -\n", number, result->price);
-    else if (result->bid == AUTOMATIC_BID)
-        print(l, "application %u won %u bid auto\n", number, result->price);
     else
         print(l, "application %u won %u bid %u\n", number, result->price, result->bid);
 }

@@ -1,5 +1,6 @@
 /* A judge of the clearing: document 01 ("What the clearing build is and its
- * rules") read a second time, in plain C, apart from the crates. */
+ * rules") with CR 8 and 11 of 02, read a second time, in plain C, apart from the
+ * crates. */
 #ifndef JUDGE_H
 #define JUDGE_H
 
@@ -77,7 +78,14 @@ struct judge_counts {
     uint64_t count_low[5], count_high[5];      /* refusal 2 by section */
     uint64_t outcome[3];
     uint64_t outcome_of_empty_pot;
-    uint64_t sealed_reason[8], automatic_reason[8];
+    uint64_t sealed_reason[8], automatic_reason[9];
+    uint64_t bid_65534;                        /* of an application */
+    uint64_t auction_without_a_bid;            /* outcome 1 of a pot where all are silent */
+    uint64_t constrained_by_the_silent;        /* without them the first test would hold */
+    uint64_t silent_won_in_outcome_0;
+    uint64_t silent_beside_a_winner;           /* in outcome 1 */
+    uint64_t silent_would_fit;                 /* as a last bid at its administrative price */
+    uint64_t silent_in_outcome_2;
     uint64_t further_looks[4];                 /* looks of one chain; 3 = 3 or more */
     uint64_t chain_won_at[4];                  /* 0: none won */
     uint64_t chain_ended;                      /* no later bid of that application and year */
@@ -93,6 +101,7 @@ struct judge_counts {
     uint64_t tie_pounds_prefer_another;        /* though the one chosen fits in pounds too */
     uint64_t tie_none_remain;
     uint64_t tie_with_earlier_winners;
+    uint64_t tie_beside_a_lower_silent_draw;   /* than any taken */
     uint64_t zero_cost_winner;                 /* outcome 1 */
     uint64_t capped_winner;                    /* paid less than the clearing price */
     uint64_t capped_winner_other_cap_later;    /* and a later year's price differs */

@@ -72,13 +72,14 @@ struct plan {
     uint32_t common; /* the price many bid in a round of ties */
 };
 
-enum flavour { ORDINARY, CHAINS, TIES, WIDE_TIES, AUTOMATIC, ZERO_COST, MANY_POTS, BIG, PENNIES };
+enum flavour { ORDINARY, CHAINS, TIES, WIDE_TIES, SILENT, ZERO_COST, MANY_POTS, BIG, PENNIES };
 enum capacities { EQUAL, SMALL, ANY, SKEWED, CLOSE };
 
 /* What a flavour asks of the plan; percentages are chances per application. */
 struct style {
     unsigned delivery, valuation_only, pots, technologies, applications;
     unsigned no_bid, common_price, chain, further_bids;
+    unsigned dear;            /* one bid alone, at the administrative price */
     unsigned reference_above; /* chance per technology */
     unsigned same_technology; /* chance that technologies share prices */
     unsigned low_load;        /* chance per technology of values of a few pounds */
@@ -262,6 +263,15 @@ static uint32_t administrative_of(const struct plan *plan, unsigned application,
     return plan->technology[plan->application[application].technology].administrative[year];
 }
 
+/* What the first test counts of an application. */
+static struct plan_bid at_administrative_price(const struct plan *plan, unsigned application)
+{
+    const struct plan_application *own = &plan->application[application];
+    struct plan_bid bid = { application, own->year, own->days, own->capacity,
+                            administrative_of(plan, application, own->year) };
+    return bid;
+}
+
 static bool price_is_free(const struct plan *plan, const struct plan_bid *bid)
 {
     bool lower_in_year = false;
@@ -406,6 +416,10 @@ static void plan_bids(struct plan *plan, const struct style *style)
 {
     struct rng *rng = &plan->rng;
     for (unsigned i = 0; i < plan->applications; i++) {
+        if (rng_chance(rng, style->dear)) {
+            add_bid(plan, at_administrative_price(plan, i));
+            continue;
+        }
         if (rng_chance(rng, style->no_bid))
             continue;
         if (rng_chance(rng, style->chain))
@@ -426,10 +440,10 @@ static void plan_bids(struct plan *plan, const struct style *style)
 
 /* ---- budgets ---- */
 
-/* Sealed and automatic bids of one pot from the lowest price up. */
+/* The bids of one pot from the lowest price up. */
 struct stack {
     unsigned count;
-    struct plan_bid bid[MAX_B + MAX_N];
+    struct plan_bid bid[MAX_B];
 };
 
 static void put_on_stack(struct stack *stack, struct plan_bid bid)
@@ -440,14 +454,6 @@ static void put_on_stack(struct stack *stack, struct plan_bid bid)
         place--;
     }
     stack->bid[place] = bid;
-}
-
-static struct plan_bid own_bid(const struct plan *plan, unsigned application)
-{
-    const struct plan_application *own = &plan->application[application];
-    struct plan_bid bid = { application, own->year, own->days, own->capacity,
-                            administrative_of(plan, application, own->year) };
-    return bid;
 }
 
 static bool of_pot(const struct plan *plan, unsigned application, unsigned pot)
@@ -461,9 +467,6 @@ static void stack_of_pot(const struct plan *plan, unsigned pot, struct stack *st
     for (unsigned i = 0; i < plan->bids; i++)
         if (of_pot(plan, plan->bid[i].application, pot))
             put_on_stack(stack, plan->bid[i]);
-    for (unsigned i = 0; i < plan->applications; i++)
-        if (of_pot(plan, i, pot) && bids_of(plan, i, MAX_Y) == 0)
-            put_on_stack(stack, own_bid(plan, i));
 }
 
 static void add_cost(const struct plan *plan, const struct plan_bid *bid, uint32_t price,
@@ -597,14 +600,19 @@ static void vary_budget(struct plan *plan, uint64_t *budget)
     }
 }
 
+static void add_at_administrative_price(const struct plan *plan, unsigned application,
+                                        uint64_t *totals)
+{
+    struct plan_bid own = at_administrative_price(plan, application);
+    add_cost(plan, &own, own.price, totals);
+}
+
 static void administrative_totals(const struct plan *plan, unsigned pot, uint64_t *totals)
 {
     memset(totals, 0, MAX_Y * sizeof *totals);
     for (unsigned i = 0; i < plan->applications; i++)
-        if (of_pot(plan, i, pot)) {
-            struct plan_bid bid = own_bid(plan, i);
-            add_cost(plan, &bid, bid.price, totals);
-        }
+        if (of_pot(plan, i, pot))
+            add_at_administrative_price(plan, i, totals);
 }
 
 /* What some bids that would win together cost. */
@@ -635,6 +643,27 @@ static void plan_to_the_penny(struct plan *plan, const struct stack *stack, unsi
         one_pound_less(&budget[year]);
 }
 
+/* Room for some of the silent at their administrative prices, beside a choice of
+ * bids or beside all that bid, at their administrative prices as well: were
+ * silence a bid, some would win. */
+static void plan_beside_the_silent(struct plan *plan, unsigned pot, const struct stack *stack,
+                                   uint64_t *budget)
+{
+    struct rng *rng = &plan->rng;
+    struct choice choice;
+    uint64_t totals[MAX_Y] = { 0 };
+    bool all_that_bid = rng_chance(rng, 50);
+    if (!all_that_bid) {
+        choose_some(plan, stack, &choice);
+        choice_totals(plan, &choice, totals);
+    }
+    for (unsigned i = 0; i < plan->applications; i++)
+        if (of_pot(plan, i, pot)
+            && (bids_of(plan, i, MAX_Y) == 0 ? rng_chance(rng, 50) : all_that_bid))
+            add_at_administrative_price(plan, i, totals);
+    pounds_for(plan, totals, budget);
+}
+
 static void plan_year_by_year(struct plan *plan, const struct stack *stack, uint64_t *budget)
 {
     uint64_t other[MAX_Y];
@@ -655,7 +684,10 @@ static void plan_budget(struct plan *plan, unsigned pot, uint64_t *budget)
     unsigned binding = (unsigned)rng_below(rng, plan->years);
     stack_of_pot(plan, pot, &stack);
     plan_by_choice(plan, &stack, budget);
-    if (kind < 56) { /* what a choice costs, or near it */
+    if (kind < 45) { /* what a choice costs, or near it */
+        vary_budget(plan, budget);
+    } else if (kind < 53) {
+        plan_beside_the_silent(plan, pot, &stack, budget);
         vary_budget(plan, budget);
     } else if (kind < 60) {
         plan_to_the_penny(plan, &stack, binding, budget);
@@ -760,7 +792,8 @@ static struct style small_style(struct rng *rng)
     style.pots = 1;
     style.technologies = between(rng, 1, 3);
     style.applications = between(rng, 0, 7);
-    style.no_bid = 20;
+    style.no_bid = 15;
+    style.dear = 7;
     style.common_price = 20;
     style.chain = 15;
     style.further_bids = 3;
@@ -776,6 +809,7 @@ static void style_of_chains(struct rng *rng, struct style *style)
     style->chain = 75;
     style->common_price = 10;
     style->no_bid = 10;
+    style->dear = 3;
     style->further_bids = 1;
 }
 
@@ -784,6 +818,7 @@ static void style_of_ties(struct rng *rng, struct style *style)
     style->applications = between(rng, 2, 12);
     style->common_price = 85;
     style->no_bid = 5;
+    style->dear = 2;
     style->chain = 3;
     style->further_bids = 1;
     style->same_technology = 70;
@@ -839,9 +874,10 @@ static struct style style_of(enum flavour flavour, struct rng *rng)
     case WIDE_TIES:
         style_of_wide_ties(rng, &style);
         break;
-    case AUTOMATIC:
+    case SILENT:
         style.applications = between(rng, 1, rng_chance(rng, 15) ? 16 : 8);
-        style.no_bid = 70;
+        style.no_bid = 60;
+        style.dear = 25;
         style.same_technology = 60;
         break;
     case ZERO_COST:

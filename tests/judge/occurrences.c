@@ -36,6 +36,13 @@ static void occurs(const char *format, unsigned n, uint64_t of_rounds, uint64_t 
     must_occur(name, of_rounds, of_all);
 }
 
+static void cannot_occur(const char *format, unsigned n, uint64_t of_rounds, uint64_t of_all)
+{
+    char name[64];
+    snprintf(name, sizeof name, format, n);
+    must_not_occur(name, of_rounds, of_all);
+}
+
 static void occurs_in_section(const char *format, unsigned section, uint64_t of_rounds,
                               uint64_t of_all)
 {
@@ -117,11 +124,24 @@ static void print_reasons(void)
         occurs("sealed bid, reason %u", n, rounds.sealed_reason[n], all.sealed_reason[n]);
     occurs("automatic reason %u (had sealed bids)", 0, rounds.automatic_reason[0],
            all.automatic_reason[0]);
-    for (unsigned n = 1; n <= 7; n++)
-        if (n == 4) /* it is its application's only bid */
-            must_not_occur("automatic reason 4", rounds.automatic_reason[n], all.automatic_reason[n]);
-        else
-            occurs("automatic reason %u", n, rounds.automatic_reason[n], all.automatic_reason[n]);
+    /* a silent application has no bid that could win or be turned down */
+    for (unsigned n = 1; n <= 5; n++)
+        cannot_occur("automatic reason %u", n, rounds.automatic_reason[n], all.automatic_reason[n]);
+    for (unsigned n = 6; n <= 8; n++)
+        occurs("automatic reason %u", n, rounds.automatic_reason[n], all.automatic_reason[n]);
+    cannot_occur("bid %u of an application", 65534, rounds.bid_65534, all.bid_65534);
+}
+
+static void print_silent(void)
+{
+    printf("applications without a sealed bid\n");
+    OCCURS(silent_won_in_outcome_0);
+    OCCURS(silent_beside_a_winner);
+    OCCURS(silent_would_fit);
+    OCCURS(silent_in_outcome_2);
+    OCCURS(auction_without_a_bid);
+    OCCURS(constrained_by_the_silent);
+    OCCURS(tie_beside_a_lower_silent_draw);
 }
 
 static void print_chains(void)
@@ -196,6 +216,7 @@ unsigned print_occurrences(const struct judge_counts *of_rounds, const struct ju
     print_outcomes();
     print_pennies();
     print_reasons();
+    print_silent();
     print_chains();
     print_ties();
     return wrong;

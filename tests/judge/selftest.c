@@ -1,6 +1,6 @@
 /* The judge itself is held to all worked cases of document 01, in pence, to
- * totals within a penny of the budget, to every cut of round A and to the order
- * of the refusals. */
+ * totals within a penny of the budget, to what becomes of silence, to every cut
+ * of round A and to the order of the refusals. */
 #include "judge.h"
 #include "make.h"
 
@@ -171,6 +171,7 @@ static void value_in_a_round(uint32_t capacity, uint32_t price, uint32_t referen
         assert(get(result, 2) == 1 && get(result + 2, 2) == less);
         assert(get(result + 8, 8) == (less ? 0 : value));
         assert(get(result + 18, 2) == 1u - less);
+        assert(get(result + 22, 2) == (less ? 8 : 6));
     }
 }
 
@@ -421,7 +422,7 @@ static void tie_closest_in_pence(void)
 }
 
 /* 64 applications of V5 have the greatest total there is: exactly their budget,
- * and a pound more than it. */
+ * and a pound more than it.  Bids at the administrative price have it too. */
 static void greatest_total(void)
 {
     const uint64_t total = 84326400000000u, pounds = total / JUDGE_PENCE_TO_THE_POUND;
@@ -442,32 +443,175 @@ static void greatest_total(void)
             add_application(&f, 0, i, 300000);
             set(&f, start + 4, 2, 366);
         }
-        add(&f, 2, 0);
+        add(&f, 2, JUDGE_MAX_APPLICATIONS);
+        for (unsigned i = 0; i < JUDGE_MAX_APPLICATIONS; i++) {
+            size_t start = f.len;
+            add_bid(&f, i, 0, 300000, 500000);
+            set(&f, start + 4, 2, 366);
+        }
         assert(judge_clear(f.bytes, f.len, result, sizeof result) == 0);
         assert(get(result + 2, 2) == (less ? 2 : 0));
         assert(get(result + 8, 8) == (less ? 0 : total));
     }
 }
 
-/* ---- beyond the worked cases: automatic bids, wide ties, valuation-only ---- */
+/* ---- silence ---- */
 
-static void automatic_bids(void)
+static void gives(const struct round_file *f, const uint8_t *expected, size_t len)
 {
-    struct round_file f = start_of_year_0_alone(175200);
+    uint8_t result[JUDGE_MAX_RESULT];
+    assert(judge_result_len(f->bytes, f->len) == len);
+    assert(judge_clear(f->bytes, f->len, result, len) == 0);
+    for (size_t i = 0; i < len; i++)
+        if (result[i] != expected[i]) {
+            fprintf(stderr, "byte %zu: expected %u, got %u\n", i, expected[i], result[i]);
+            assert(!"result");
+        }
+}
+
+/* Two of 1.00 MW: one alone would fit 200,000 at the administrative 20,000, and
+ * 350,400 both. */
+static struct round_file two_applications(uint64_t budget)
+{
+    struct round_file f = start_of_year_0_alone(budget);
     add(&f, 2, 2);
-    add_application(&f, 0, 9, 100);
-    add_application(&f, 0, 8, 200);
+    add_application(&f, 0, 0, 100);
+    add_application(&f, 0, 1, 100);
+    return f;
+}
+
+static void all_silent(void)
+{
+    static const uint8_t expected[] = {
+        1, 0,
+        1, 0, 0xFF, 0xFF, 0xFF, 0xFF, 0, 0, 0, 0, 0, 0, 0, 0,
+        2, 0,
+        0, 0, 0xFF, 0xFF, 8, 0, 0, 0, 0, 0,
+        0, 0, 0xFF, 0xFF, 8, 0, 0, 0, 0, 0,
+        0, 0,
+    };
+    struct round_file f = two_applications(200000);
     add(&f, 2, 0);
+    gives(&f, expected, sizeof expected);
+    lists(&f,
+          "pot 0 auction\n"
+          "year 0 price - total 0\n"
+          "application 0 lost\n"
+          "application 1 lost\n");
+}
+
+/* The lower draw of the silent one is of no help to it. */
+static void silent_beside_a_winner(void)
+{
+    static const uint8_t expected[] = {
+        1, 0,
+        1, 0, 0x20, 0x4E, 0, 0, 0x80, 0x55, 0x0B, 0x01, 0, 0, 0, 0,
+        2, 0,
+        0, 0, 0xFF, 0xFF, 8, 0, 0, 0, 0, 0,
+        1, 0, 0, 0, 0, 0, 0x20, 0x4E, 0, 0,
+        1, 0, 1, 0,
+    };
+    struct round_file f = two_applications(200000);
+    add(&f, 2, 1);
+    add_bid(&f, 1, 0, 100, 20000);
+    gives(&f, expected, sizeof expected);
     lists(&f,
           "pot 0 auction\n"
           "year 0 price 20000 total 17520000\n"
-          "application 0 won 20000 bid auto\n"
-          "application 1 lost\n");
-    uint8_t result[64];
-    assert(judge_clear(f.bytes, f.len, result, sizeof result) == 0);
-    assert(get(result + 18 + 2, 2) == 65534 && get(result + 18 + 4, 2) == 1);
-    assert(get(result + 28 + 2, 2) == 65535 && get(result + 28 + 4, 2) == 3);
+          "application 0 lost\n"
+          "application 1 won 20000 bid 0\n"
+          "bid 0 reason 1\n");
 }
+
+static void silent_in_outcome_0(void)
+{
+    static const uint8_t expected[] = {
+        1, 0,
+        0, 0, 0xFF, 0xFF, 0xFF, 0xFF, 0, 0xAB, 0x16, 0x02, 0, 0, 0, 0,
+        2, 0,
+        1, 0, 0xFF, 0xFF, 0, 0, 0x20, 0x4E, 0, 0,
+        1, 0, 0xFF, 0xFF, 6, 0, 0x20, 0x4E, 0, 0,
+        1, 0, 6, 0,
+    };
+    struct round_file f = two_applications(350400);
+    add(&f, 2, 1);
+    add_bid(&f, 0, 0, 100, 4000);
+    gives(&f, expected, sizeof expected);
+    lists(&f,
+          "pot 0 administrative\n"
+          "year 0 price - total 35040000\n"
+          "application 0 won 20000 bid -\n"
+          "application 1 won 20000 bid -\n"
+          "bid 0 reason 6\n");
+}
+
+/* The silent one counts in the first test: its pound is the one that fails. */
+static void silent_makes_the_first_test_fail(void)
+{
+    struct round_file f = two_applications(350399);
+    add(&f, 2, 1);
+    add_bid(&f, 0, 0, 100, 4000);
+    lists(&f,
+          "pot 0 auction\n"
+          "year 0 price 4000 total 3504000\n"
+          "application 0 won 4000 bid 0\n"
+          "application 1 lost\n"
+          "bid 0 reason 1\n");
+}
+
+/* Tied at the administrative price, and a silent application with the lowest
+ * draw.  One fits, so that all tied remain. */
+static struct round_file tied_and_one_silent(unsigned tied)
+{
+    struct round_file f = start_of_year_0_alone(200000);
+    add(&f, 2, tied + 1);
+    for (unsigned i = 0; i <= tied; i++)
+        add_application(&f, 0, 100 - i, 100);
+    add(&f, 2, tied);
+    for (unsigned i = 0; i < tied; i++)
+        add_bid(&f, i, 0, 100, 20000);
+    return f;
+}
+
+static size_t put_application(uint8_t *p, unsigned won, unsigned bid, unsigned reason, unsigned price)
+{
+    const uint8_t record[10] = { (uint8_t)won, 0, (uint8_t)bid, (uint8_t)(bid >> 8), (uint8_t)reason, 0,
+                                 (uint8_t)price, (uint8_t)(price >> 8), 0, 0 };
+    memcpy(p, record, sizeof record);
+    return sizeof record;
+}
+
+/* A silent application is none of those that remain in a tie: ten are chosen
+ * from, and eleven are outcome 2. */
+static void silent_beside_a_tie(void)
+{
+    static const uint8_t tenth_wins[] = {
+        1, 0, 1, 0, 0x20, 0x4E, 0, 0, 0x80, 0x55, 0x0B, 0x01, 0, 0, 0, 0
+    };
+    static const uint8_t none_wins[] = {
+        1, 0, 2, 0, 0xFF, 0xFF, 0xFF, 0xFF, 0, 0, 0, 0, 0, 0, 0, 0
+    };
+    for (unsigned tied = 10; tied <= 11; tied++) {
+        struct round_file f = tied_and_one_silent(tied);
+        uint8_t expected[JUDGE_MAX_RESULT] = { 0 };
+        bool wide = tied > 10;
+        size_t len = sizeof none_wins;
+        memcpy(expected, wide ? none_wins : tenth_wins, len);
+        expected[len] = (uint8_t)(tied + 1);
+        len += 2;
+        for (unsigned i = 0; i < tied; i++)
+            len += i == 9 && !wide ? put_application(expected + len, 1, 9, 0, 20000)
+                                   : put_application(expected + len, 0, 65535, 0, 0);
+        len += put_application(expected + len, 0, 65535, wide ? 7 : 8, 0);
+        expected[len] = (uint8_t)tied;
+        len += 2;
+        for (unsigned i = 0; i < tied; i++, len += 2)
+            expected[len] = wide ? 7 : i == 9 ? 1 : 3;
+        gives(&f, expected, len);
+    }
+}
+
+/* ---- beyond the worked cases: wide ties, valuation-only ---- */
 
 static struct round_file tied_at_4000(unsigned applications)
 {
@@ -630,7 +774,11 @@ int main(void)
     tie_at_a_penny();
     tie_closest_in_pence();
     greatest_total();
-    automatic_bids();
+    all_silent();
+    silent_beside_a_winner();
+    silent_in_outcome_0();
+    silent_makes_the_first_test_fail();
+    silent_beside_a_tie();
     widest_ties();
     valuation_only_year();
     refusals_of_round_a();
