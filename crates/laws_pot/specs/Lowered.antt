@@ -20,7 +20,7 @@ use Rattle.laws_pot.specs.Tie.{combination-in, best-same}
 abbrev pub priced : Pot → (ℕ → ℕ) → Pot
 priced P pr = record {
   bids = P .bids;
-  autos = P .autos;
+  apps = P .apps;
   years = P .years;
   scale = P .scale;
   app = P .app;
@@ -30,6 +30,8 @@ priced P pr = record {
   budget = P .budget;
   draw = P .draw;
   admin = P .admin;
+  adminPrice = P .adminPrice;
+  adminCost = P .adminCost;
 }
 
 pub record Lowered (P : Pot) (b : ℕ) (pr : ℕ → ℕ) : Type 0 where

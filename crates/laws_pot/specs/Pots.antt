@@ -51,7 +51,7 @@ module _ (P : Pot) where
 abbrev pot : (bids : List ℕ) (price parts : ℕ → ℕ) (budget : ℕ) → Pot
 pot bids price parts budget = record {
   bids = bids;
-  autos = [];
+  apps = [];
   years = 1;
   scale = 10;
   app = λ k. k;
@@ -61,6 +61,8 @@ pot bids price parts budget = record {
   budget = λ y. budget;
   draw = λ k. k;
   admin = λ k. 100;
+  adminPrice = λ a. 100;
+  adminCost = λ a y. 0;
 }
 
 -- two bids at 10 and 20, of 3 parts each: the second fits alone, but not beside the first at its price

@@ -7,10 +7,11 @@ use mathlib.Core.List.{List, [], _∷_, _++_, map}
 use native.Mathlib.Omega.{arith}
 use lib.ListN.{length}
 use lib.Dec.{ltb}
-use Rattle.rules.specs.Names.{auctioned, tooWide, widestTie, becauseWon, downAlone, downTied, unlookedWon, unlookedElse, becauseTooWide}
+use Rattle.rules.specs.Names.{administrative, auctioned, tooWide, widestTie, becauseWon, downAlone, downTied, unlookedWon, unlookedElse}
+use Rattle.rules.specs.Names.{becauseTooWide, becauseSilent}
 use Rattle.rules.specs.Lists.{memb}
 use Rattle.rules.specs.Pot.{Pot, Event, Trace, winners, downs, seen, mark, fits, taken, down, follows, remaining, tied, alone, lost, look, auction, wideEnd}
-use Rattle.rules.specs.Pot.{adminFits, by, outcome, unlookedReason, auctionReason, reason}
+use Rattle.rules.specs.Pot.{adminFits, by, outcome, unlookedReason, auctionReason, reason, silent, automaticReason}
 use Rattle.laws_pot.specs.Lists.{case, clash, In, memb-in, in-memb, in-none, in-left, in-right, in-cases}
 use Rattle.laws_pot.specs.Runs.{next, auction-keeps}
 
@@ -141,6 +142,19 @@ module _ (P : Pot) where
       case (adminFits P) (λ t. rw t (λ e. absurd (omega arith)))
       (λ t. case (wideEnd (auction P)) (λ u. rw (t, u) (λ e. absurd (omega arith))) (λ u. rw (t, u) (λ e. record { not-administrative = t; not-wide = u })))
 
+  -- and of the other two outcomes
+  pub administrative-is : outcome P ≡ administrative → adminFits P ≡ true
+  unfolding outcome
+  administrative-is =
+      case (adminFits P) (λ t e. t)
+      (λ t. case (wideEnd (auction P)) (λ u. rw (t, u) (λ e. absurd (omega arith))) (λ u. rw (t, u) (λ e. absurd (omega arith))))
+
+  pub wide-is : outcome P ≡ tooWide → (adminFits P ≡ false) × (wideEnd (auction P) ≡ true)
+  unfolding outcome
+  wide-is =
+      case (adminFits P) (λ t. rw t (λ e. absurd (omega arith)))
+      (λ t. case (wideEnd (auction P)) (λ u e. (t, u)) (λ u. rw (t, u) (λ e. absurd (omega arith))))
+
   pub by-auction : Auctioned → {A : Type 0} (x y z : A) → by P x y z ≡ y
   by-auction A x y z = rw (A .not-administrative, A .not-wide)
 
@@ -156,3 +170,9 @@ module _ (P : Pot) where
   pub reason-most : (k : ℕ) → reason P k ≤ becauseTooWide
   unfolding reason
   reason-most k = by-all (λ (n : ℕ). n ≤ becauseTooWide) _ _ _ (λ t. omega arith) (λ t u. omega (arith, why-most k _ (why k))) (omega arith)
+
+  pub automatic-most : (a : ℕ) → automaticReason P a ≤ becauseSilent
+  unfolding automaticReason
+  automatic-most a =
+      case (silent P a) (λ t. rw t (by-all (λ (n : ℕ). n ≤ becauseSilent) _ _ _ (λ u. omega arith) (λ u v. omega arith) (omega arith)))
+      (λ t. rw t (omega arith))

@@ -1,24 +1,23 @@
 -- "Two accepted files with equal counts that differ only in declared costs, and in budgets, technologies, applications and bids of other pots, each pot's
 -- records at the same places, give one pot the same outcome, prices, totals and reasons." Assumes nothing.
-use Prim.Native.Nat.{ℕ, _+_, _-_, _*_, _≤_, _<_}
-use mathlib.Core.Path.{_≡_, refl, sym, ap, ap₂, _∙_}
-use mathlib.Core.Bool.{Bool, true, not, _&&_, _||_}
+use Prim.Native.Nat.{ℕ, _+_, _*_, _≤_, _<_}
+use mathlib.Core.Path.{_≡_, sym, ap, ap₂, _∙_}
 use mathlib.Core.Logic.{_↔_}
-use mathlib.Core.List.{List, [], _∷_, map}
 use native.Mathlib.Omega.{arith}
+use native.Mathlib.Decide.{decLt}
 use lib.Dec.{eqb, ltb}
-use borrow.Author.Tests.{eqb-true, eqb-false, eq-eqb, ne-eqb, ltb-true, lt-ltb}
+use borrow.Author.Tests.{eqb-true, eqb-false, eq-eqb, ne-eqb, ltb-true}
 use Rattle.rules.specs.Names.{pencePerPound, potWidth, techWidth, appWidth, bidWidth}
-use Rattle.rules.specs.Lists.{pick, memb, sift, below}
+use Rattle.rules.specs.Lists.{pick, sift, below}
 use Rattle.rules.specs.Bytes.{le}
 use Rattle.rules.specs.File.{Round, App, Bid, techAt, appAt, bidAt}
 use Rattle.rules.specs.Pot.{Pot, outcome, priceIn, totalIn, reason}
-use Rattle.rules.specs.Round.{blank, techOf, automatic, bidOf, mine, silent, enters, rowFor, assemble, budgetOf, potOf}
-use Rattle.rules.specs.Result.{potFor, potAt, toldIn, appTold}
-use Rattle.laws_pot.specs.Lists.{case, clash, In, here, there, below-in, sift-same}
+use Rattle.rules.specs.Round.{blank, techOf, atAdminPrice, mine, appMine, rowFor, assemble, budgetOf, potOf}
+use Rattle.rules.specs.Result.{potAt, toldIn, appTold}
+use Rattle.laws_pot.specs.Lists.{case, sift-same}
 use Rattle.laws_reading.specs.Alike.{Same, le-same}
 use Rattle.laws_reading.specs.Reading.{Sound, app-tech, app-year}
-use Rattle.laws_round.specs.Bids.{appPot, bidPot, bid-own, bid-auto, mine-own, mine-auto, mine-out, Kind, own, auto, out, kind, Mine, mine-is}
+use Rattle.laws_round.specs.Bids.{appPot, bidPot, mine-own, mine-out, mine-in, app-mine, app-out, app-in, Mine, mine-is, app-mine-is}
 
 -- the bytes of an application before its declared cost
 abbrev pub undeclared : ℕ
@@ -46,10 +45,6 @@ pub record DifferElsewhere (p : ℕ) (f g : Round) : Type 0 where
 eqb-same : (a b p : ℕ) → (a ≡ p) ↔ (b ≡ p) → eqb a p ≡ eqb b p
 eqb-same a b p h =
     case (eqb a p) (λ t. t ∙ sym (eq-eqb b p (h .0 (eqb-true a p t)))) (λ t. t ∙ sym (ne-eqb b p (λ e. eqb-false a p t (h .1 e))))
-
-memb-same : (a : ℕ) (u v : ℕ → ℕ) (l : List ℕ) → ((k : ℕ) → In k l → eqb a (u k) ≡ eqb a (v k)) → memb a (map u l) ≡ memb a (map v l)
-memb-same a u v [] h = refl
-memb-same a u v (x ∷ l) h = rw (h x (here refl), memb-same a u v l (λ k i. h k (there i)))
 
 module _ (p : ℕ) (f g : Round) (F : Sound f) (A : DifferElsewhere p f g) where
   -- ---- one application of the pot
@@ -93,15 +88,16 @@ module _ (p : ℕ) (f g : Round) (F : Sound f) (A : DifferElsewhere p f g) where
     admin-same : (y : ℕ) → y < f .y → techOf f (appAt (f .apps) a) .admin y ≡ techOf g (appAt (g .apps) a) .admin y
     admin-same y l = tech-le 4 (4 + 10 * y) (omega arith)
 
-    auto-same : automatic f a ≡ automatic g a
-    unfolding automatic
-    auto-same =
+    -- what the first test needs of it
+    at-admin-price-same : atAdminPrice f a ≡ atAdminPrice g a
+    unfolding atAdminPrice
+    at-admin-price-same =
         let e = app-same in
         let q = admin-same (appAt (f .apps) a .year) (omega (arith, app-year f F a h, F .few))
         ∙ ap (λ (x : App). techOf g (appAt (g .apps) a) .admin (x .year)) e in
         λ i. record { app = a; year = e i .year; days = e i .days; capacity = e i .capacity; price = q i }
 
-  -- the row of a bid of the pot
+  -- the row of a bid of the pot, or of an application at its administrative price
   row-same : (x : Bid) → Mine f p x → rowFor f x ≡ rowFor g x
   unfolding rowFor
   row-same x M =
@@ -119,9 +115,9 @@ module _ (p : ℕ) (f g : Round) (F : Sound f) (A : DifferElsewhere p f g) where
         load = λ y. figure (x .app) h m 2 12 y (omega arith) i;
       }
 
-  -- ---- the bids
-  sealed-same : (k : ℕ) → k < f .b → bidPot f k ≡ p → bidAt (f .bids) k ≡ bidAt (g .bids) k
-  sealed-same k h m =
+  -- ---- the bids, and the applications
+  bid-same : (k : ℕ) → k < f .b → bidPot f k ≡ p → bidAt (f .bids) k ≡ bidAt (g .bids) k
+  bid-same k h m =
       λ i. record {
         app = first i;
         year = bid-le 2 2 (omega arith) i;
@@ -138,81 +134,45 @@ module _ (p : ℕ) (f g : Round) (F : Sound f) (A : DifferElsewhere p f g) where
       first = le-same 2 (f .bids) (g .bids) (k * bidWidth) bidWidth (k * bidWidth) (A .bids k h m) (omega arith) (omega arith)
 
   mine-same : (k : ℕ) → mine f p k ≡ mine g p k
-  mine-same k = go (kind f k)
+  mine-same k = go (decLt k (f .b))
     where
-      go : Kind f k → mine f p k ≡ mine g p k
-      go (own h) = mine-own f k p h ∙ eqb-same _ _ p (A .bid-places k h) ∙ sym (mine-own g k p (omega (arith, A .count-b)))
-      go (auto h l) =
-          mine-auto f k p h l
-          ∙ eqb-same _ _ p (A .app-places (k - f .b) (omega arith))
-          ∙ ap (λ (b : ℕ). eqb (appPot g (k - b)) p) (A .count-b)
-          ∙ sym (mine-auto g k p (omega (arith, A .count-b)) (omega (arith, A .count-b, A .count-n)))
-      go (out h) = mine-out f k p h ∙ sym (mine-out g k p (omega (arith, A .count-b, A .count-n)))
+      go : Dec (k < f .b) → mine f p k ≡ mine g p k
+      go (yes h) = mine-own f p k h ∙ eqb-same _ _ p (A .bid-places k h) ∙ sym (mine-own g p k (omega (arith, A .count-b)))
+      go (no h) = mine-out f p k (omega arith) ∙ sym (mine-out g p k (omega (arith, A .count-b)))
 
-  bid-same : (k : ℕ) → mine f p k ≡ true → bidOf f k ≡ bidOf g k
-  bid-same k t = go (kind f k)
+  app-mine-same : (a : ℕ) → appMine f p a ≡ appMine g p a
+  app-mine-same a = go (decLt a (f .n))
     where
-      go : Kind f k → bidOf f k ≡ bidOf g k
-      go (own h) = bid-own f k h ∙ sealed-same k h (eqb-true _ p (sym (mine-own f k p h) ∙ t)) ∙ sym (bid-own g k (omega (arith, A .count-b)))
-      go (auto h l) =
-          bid-auto f k h
-          ∙ auto-same (k - f .b) (omega arith) (eqb-true _ p (sym (mine-auto f k p h l) ∙ t))
-          ∙ ap (λ (b : ℕ). automatic g (k - b)) (A .count-b)
-          ∙ sym (bid-auto g k (omega (arith, A .count-b)))
-      go (out h) = clash t (mine-out f k p h)
-
-  silent-same : (a : ℕ) → a < f .n → appPot f a ≡ p → silent f a ≡ silent g a
-  unfolding silent
-  silent-same a h m =
-      ap not (memb-same a (λ k. bidAt (f .bids) k .app) (λ k. bidAt (g .bids) k .app) (below (f .b)) (λ k i. one k (below-in k (f .b) i))
-      ∙ ap (λ (n : ℕ). memb a (map (λ k. bidAt (g .bids) k .app) (below n))) (A .count-b))
-    where
-      same : (k : ℕ) → k < f .b → bidPot f k ≡ p → bidAt (f .bids) k .app ≡ bidAt (g .bids) k .app
-      same k l q = ap (λ (x : Bid). x .app) (sealed-same k l q)
-
-      one : (k : ℕ) → k < f .b → eqb a (bidAt (f .bids) k .app) ≡ eqb a (bidAt (g .bids) k .app)
-      one k l =
-          case (eqb a (bidAt (f .bids) k .app))
-          (λ t. let e = eqb-true a _ t in t ∙ sym (eq-eqb a _ (e ∙ same k l (ap (appPot f) (sym e) ∙ m))))
-          (λ t. t ∙ sym (ne-eqb a _ (λ e. eqb-false a _ t (e ∙ sym (same k l (A .bid-places k l .1 (ap (appPot g) (sym e) ∙ A .app-places a h .0 m)))))))
-
-  enters-same : (k : ℕ) → mine f p k ≡ true → enters f k ≡ enters g k
-  unfolding enters
-  enters-same k t = go (kind f k)
-    where
-      go : Kind f k → (ltb k (f .b) || silent f (k - f .b)) ≡ (ltb k (g .b) || silent g (k - g .b))
-      go (own h) = rw (lt-ltb k (f .b) h, lt-ltb k (g .b) (omega (arith, A .count-b)))
-      go (auto h l) =
-          ap₂ _||_ (ap (λ (b : ℕ). ltb k b) (A .count-b))
-          (silent-same (k - f .b) (omega arith) (eqb-true _ p (sym (mine-auto f k p h l) ∙ t)) ∙ ap (λ (b : ℕ). silent g (k - b)) (A .count-b))
-      go (out h) = clash t (mine-out f k p h)
+      go : Dec (a < f .n) → appMine f p a ≡ appMine g p a
+      go (yes h) = app-mine f p a h ∙ eqb-same _ _ p (A .app-places a h) ∙ sym (app-mine g p a (omega (arith, A .count-n)))
+      go (no h) = app-out f p a (omega arith) ∙ sym (app-out g p a (omega (arith, A .count-n)))
 
   -- ---- the pot
   pub pot-same : potOf f p ≡ potOf g p
   unfolding potOf
-  pot-same = λ i. assemble (A .years i) (A .count-y i) (bids i) (autos i) (λ k. rows k i) (λ y. budget y i)
+  pot-same = λ i. assemble (A .years i) (A .count-y i) (bids i) (apps i) (λ k. rows k i) (λ a. own a i) (λ y. budget y i)
     where
-      all : f .b + f .n ≡ g .b + g .n
-      all = ap₂ _+_ (A .count-b) (A .count-n)
+      bids : sift (mine f p) (below (f .b)) ≡ sift (mine g p) (below (g .b))
+      bids = sift-same (mine f p) (mine g p) (below (f .b)) (λ k i. mine-same k) ∙ ap (λ (n : ℕ). sift (mine g p) (below n)) (A .count-b)
 
-      both : (u v : ℕ → Bool) → ((k : ℕ) → mine f p k ≡ true → u k ≡ v k)
-          → sift (λ k. mine f p k && u k) (below (f .b + f .n)) ≡ sift (λ k. mine g p k && v k) (below (g .b + g .n))
-      both u v h =
-          sift-same (λ k. mine f p k && u k) (λ k. mine g p k && v k) (below (f .b + f .n))
-          (λ k i. case (mine f p k) (λ t. rw (sym (mine-same k) ∙ t, t) (h k t)) (λ t. rw (sym (mine-same k) ∙ t, t)))
-          ∙ ap (λ (n : ℕ). sift (λ k. mine g p k && v k) (below n)) all
+      apps : sift (appMine f p) (below (f .n)) ≡ sift (appMine g p) (below (g .n))
+      apps = sift-same (appMine f p) (appMine g p) (below (f .n)) (λ a i. app-mine-same a) ∙ ap (λ (n : ℕ). sift (appMine g p) (below n)) (A .count-n)
 
-      bids : sift (λ k. mine f p k && enters f k) (below (f .b + f .n)) ≡ sift (λ k. mine g p k && enters g k) (below (g .b + g .n))
-      bids = both (enters f) (enters g) enters-same
-
-      autos : sift (λ k. mine f p k && not (ltb k (f .b))) (below (f .b + f .n)) ≡ sift (λ k. mine g p k && not (ltb k (g .b))) (below (g .b + g .n))
-      autos = both (λ k. not (ltb k (f .b))) (λ k. not (ltb k (g .b))) (λ k t. ap (λ (b : ℕ). not (ltb k b)) (A .count-b))
-
-      rows : (k : ℕ) → pick (mine f p k) (rowFor f (bidOf f k)) blank ≡ pick (mine g p k) (rowFor g (bidOf g k)) blank
+      rows : (k : ℕ) → pick (mine f p k) (rowFor f (bidAt (f .bids) k)) blank ≡ pick (mine g p k) (rowFor g (bidAt (g .bids) k)) blank
       rows k =
           case (mine f p k)
-          (λ t. rw (sym (mine-same k) ∙ t, t) (row-same (bidOf f k) (mine-is f F p k t) ∙ ap (rowFor g) (bid-same k t)))
+          (λ t.
+          let z = mine-in f p k t in
+          rw (sym (mine-same k) ∙ t, t) (row-same (bidAt (f .bids) k) (mine-is f F p k t) ∙ ap (rowFor g) (bid-same k (z .0) (z .1))))
           (λ t. rw (sym (mine-same k) ∙ t, t))
+
+      own : (a : ℕ) → pick (appMine f p a) (rowFor f (atAdminPrice f a)) blank ≡ pick (appMine g p a) (rowFor g (atAdminPrice g a)) blank
+      own a =
+          case (appMine f p a)
+          (λ t.
+          let z = app-in f p a t in
+          rw (sym (app-mine-same a) ∙ t, t) (row-same (atAdminPrice f a) (app-mine-is f F p a t) ∙ ap (rowFor g) (at-admin-price-same a (z .0) (z .1))))
+          (λ t. rw (sym (app-mine-same a) ∙ t, t))
 
       budget : (y : ℕ) → budgetOf f p y ≡ budgetOf g p y
       budget y =
@@ -240,13 +200,6 @@ apart p f g F A =
       outcome = ap outcome P;
       prices = λ d. ap (λ (x : Pot). priceIn x d) P;
       totals = λ y. ap (λ (x : Pot). totalIn x y) P;
-      apps = λ a h m.
-          let n = A .app-places a h .0 m in
-          let Q : potFor f a ≡ potFor g a = ap (potOf f) m ∙ P ∙ ap (potOf g) (sym n) in
-          λ i. toldIn (A .count-b i) (silent-same p f g F A a h m i) (Q i) a;
-      bids = λ k h m.
-          let n = A .bid-places k h .0 m in
-          let x : potAt f k ≡ potOf f p = ap (λ (b : Bid). potFor f (b .app)) (bid-own f k h) ∙ ap (potOf f) m in
-          let y : potAt g k ≡ potOf g p = ap (λ (b : Bid). potFor g (b .app)) (bid-own g k (omega (arith, A .count-b))) ∙ ap (potOf g) n in
-          ap (λ (q : Pot). reason q k) (x ∙ P ∙ sym y);
+      apps = λ a h m. ap (λ (q : Pot). toldIn q a) (ap (potOf f) m ∙ P ∙ ap (potOf g) (sym (A .app-places a h .0 m)));
+      bids = λ k h m. ap (λ (q : Pot). reason q k) (ap (potOf f) m ∙ P ∙ ap (potOf g) (sym (A .bid-places k h .0 m)));
     }

@@ -1,29 +1,27 @@
 -- The result's records carry the trace: each winner once, at the price paid, where there was an auction. Assumes nothing.
-use Prim.Native.Nat.{ℕ, _+_, min}
+use Prim.Native.Nat.{ℕ, min}
 use mathlib.Core.Path.{_≡_, refl, sym, ap, _∙_}
 use mathlib.Core.Bool.{Bool, true, false, _&&_}
 use mathlib.Core.List.{List, [], _∷_}
 use native.Mathlib.Omega.{arith}
 use lib.ListN.{length}
-use lib.Dec.{eqb, ltb}
-use borrow.Author.Tests.{eqb-true, eqb-false, eq-eqb, lt-ltb, le-ltb}
-use Rattle.rules.specs.Names.{automaticBid, noReason}
+use lib.Dec.{eqb}
+use borrow.Author.Tests.{eqb-true, eqb-false, eq-eqb}
 use Rattle.rules.specs.Lists.{pick, memb, sift, below, sum}
 use Rattle.rules.specs.Value.{exactParts}
-use Rattle.rules.specs.File.{Round, yearAt}
-use Rattle.rules.specs.Pot.{Pot, winners, auction, totalIn, paid, clearing, tally, exact, total, counted, reason, winnersOf}
-use Rattle.rules.specs.Round.{bidOf, mine, silent, rowFor, energyOf, costOf, potOf}
+use Rattle.rules.specs.File.{Round, yearAt, bidAt}
+use Rattle.rules.specs.Pot.{Pot, winners, auction, totalIn, paid, clearing, tally, exact, total, counted, automaticReason, winnersOf}
+use Rattle.rules.specs.Round.{mine, rowFor, energyOf, costOf, potOf}
 use Rattle.rules.specs.Result.{told, toldIn, appTold}
 use Rattle.rules.specs.declared.Told.{Told}
-use Rattle.laws_pot.specs.Lists.{case, clash, and-true, In, here, there, memb-in, in-memb, in-none, in-one, in-below, sift-in, in-sift, sift-both, sift-same}
+use Rattle.laws_pot.specs.Lists.{case, and-true, In, here, there, memb-in, in-memb, in-none, in-one, in-below, sift-in, in-sift, sift-both, sift-same}
 use Rattle.laws_reading.specs.Reading.{Sound}
 use Rattle.laws_pot.specs.Runs.{won-seen}
 use Rattle.laws_pot.specs.Once.{NoneTwice, often, often-sift, seen-mine, single}
-use Rattle.laws_round.specs.Bids.{appPot, Mine, mine-is, mine-out, auto-app, Kind, own, auto, out, kind, bids-in, bids-once, app-is, admin-is, cost-is}
-use Rattle.laws_round.specs.Bids.{differ, lawful}
+use Rattle.laws_round.specs.Bids.{appPot, Mine, mine-is, bids-in, bids-once, app-is, admin-is, cost-is, differ, lawful}
 use Rattle.laws_pot.specs.Reasons.{Auctioned, by-auction}
 use Rattle.laws_pot.specs.Sums.{sum-same, sum-ones, sum-sift, sum-parts}
-use Rattle.laws_round.specs.Third.{wonApps, bidTold, costTold, exactTold}
+use Rattle.laws_round.specs.Third.{wonApps, costTold, exactTold}
 
 -- a list of numbers that are all equal, none twice, is empty or one number
 pub data Short : List ℕ → Type 0 where
@@ -79,57 +77,41 @@ module _ (R : Round) (p : ℕ) (S : Sound R) where
       (λ t. rw t (case (eqb (P .app k) a) (λ u. rw u) (λ u. rw u))))
 
   -- a bid of the pot is of an application in the file and in the pot
-  pub bid-mine : (w : ℕ) → In w (P .bids) → Mine R p (bidOf R w) × (P .app w ≡ bidOf R w .app) × (mine R p w ≡ true)
-  bid-mine w i = let m = bids-in R p w i .0 in (mine-is R S p w m, app-is R p w m, m)
-
-  -- the number told of a winner is that of its bid
-  number : (a w : ℕ) → mine R p w ≡ true → bidOf R w .app ≡ a
-      → pick (ltb (pick (ltb w (R .b)) w automaticBid) (R .b)) (pick (ltb w (R .b)) w automaticBid) (R .b + a) ≡ w
-  number a w m e = go (kind R w)
-    where
-      go : Kind R w → pick (ltb (pick (ltb w (R .b)) w automaticBid) (R .b)) (pick (ltb w (R .b)) w automaticBid) (R .b + a) ≡ w
-      go (own h) = let t = lt-ltb w (R .b) h in rw (t, t)
-      go (auto h l) = rw (le-ltb w (R .b) h, le-ltb automaticBid (R .b) (omega (arith, S .bids-few))) (omega (arith, auto-app R w h))
-      go (out h) = clash m (mine-out R w p h)
+  pub bid-mine : (w : ℕ) → In w (P .bids) → Mine R p (bidAt (R .bids) w) × (P .app w ≡ bidAt (R .bids) w .app) × (mine R p w ≡ true)
+  bid-mine w i = let m = bids-in R p w i in (mine-is R S p w m, app-is R p w m, m)
 
   -- the price that is capped again is the same
   capped : (w : ℕ) → mine R p w ≡ true → (y : ℕ)
-      → costOf (R .years) (rowFor R (bidOf R w)) (paid P w) y ≡ P .cost w (clearing P (winners (auction P)) (P .yr w)) y
+      → costOf (R .years) (rowFor R (bidAt (R .bids) w)) (paid P w) y ≡ P .cost w (clearing P (winners (auction P)) (P .yr w)) y
   unfolding paid costOf
   capped w m y =
       let c = clearing P (winners (auction P)) (P .yr w) in
-      let r = rowFor R (bidOf R w) in
+      let r = rowFor R (bidAt (R .bids) w) in
       let e : min (min c (P .admin w)) (r .admin) ≡ min c (r .admin) = omega (arith, admin-is R p w m) in
       ap (λ (x : ℕ). exactParts x (r .reference y) (r .load y) (energyOf (R .years) (r .bid) y) (yearAt (R .years) y .tlm) (r .rqm)) e
       ∙ sym (cost-is R p w m c y)
 
   -- a winner is among those of its application
-  among : (w : ℕ) → In w (winners (auction P)) → In w (winnersOf P (bidOf R w .app))
+  among : (w : ℕ) → In w (winners (auction P)) → In w (winnersOf P (bidAt (R .bids) w .app))
   unfolding winnersOf
-  among w i = in-sift (λ v. eqb (P .app v) (bidOf R w .app) && memb v (winners (auction P)))
+  among w i = in-sift (λ v. eqb (P .app v) (bidAt (R .bids) w .app) && memb v (winners (auction P)))
       (won-in w i) (rw (eq-eqb _ _ (bid-mine w (won-in w i) .1), in-memb i))
 
   module _ (A : Auctioned P) where
     -- what is told of an application of the pot
-    abbrev autoIs : ℕ → ℕ
-    autoIs a = pick (silent R a) (reason P (R .b + a)) noReason
-
-    pub told-is : (a : ℕ) → appPot R a ≡ p → {l : List ℕ} → winnersOf P a ≡ l → appTold R a ≡ told (R .b) P (autoIs a) l
+    pub told-is : (a : ℕ) → appPot R a ≡ p → {l : List ℕ} → winnersOf P a ≡ l → appTold R a ≡ told P (automaticReason P a) l
     unfolding appTold toldIn
-    told-is a e q = ap (λ (q : ℕ). toldIn (R .b) (silent R a) (potOf R q) a) e ∙ by-auction P A _ _ _ ∙ ap (told (R .b) P (autoIs a)) q
+    told-is a e q = ap (λ (q : ℕ). toldIn (potOf R q) a) e ∙ by-auction P A _ _ _ ∙ ap (told P (automaticReason P a)) q
 
     -- an application's one winner is the bid told with it
-    sole-told : (a w : ℕ) → appPot R a ≡ p → winnersOf P a ≡ w ∷ [] → bidTold R p (appTold R) a ≡ w
-    unfolding bidTold told
-    sole-told a w e q =
-        let i = of a w (rw q (here refl)) in
-        let z = bid-mine w (i .0) in
-        rw (ap (λ (x : Told). x .bid) (told-is a e q)) (number a w (z .2) (sym (z .1) ∙ i .1))
+    sole-told : (a w : ℕ) → appPot R a ≡ p → winnersOf P a ≡ w ∷ [] → appTold R a .bid ≡ w
+    unfolding told
+    sole-told a w e q = ap (λ (x : Told). x .bid) (told-is a e q)
 
     -- each of the pot's winners is told once
-    carried : (f F : ℕ → ℕ) → ((a w : ℕ) → mine R p w ≡ true → bidTold R p (appTold R) a ≡ w → appTold R a .paid ≡ paid P w → f a ≡ F w)
+    carried : (f F : ℕ → ℕ) → ((a w : ℕ) → mine R p w ≡ true → appTold R a .bid ≡ w → appTold R a .paid ≡ paid P w → f a ≡ F w)
         → sum f (wonApps R p (appTold R)) ≡ sum F won
-    unfolding wonApps bidTold told sum
+    unfolding wonApps told sum
     carried f F h =
         sum-sift f (λ a. eqb (appPot R a) p && eqb (appTold R a .won) 1) (below (R .n))
         ∙ sum-same _ _ (below (R .n)) (λ a i. each a ∙ ap (sum F) (sym (won-of a)))
@@ -171,33 +153,34 @@ module _ (R : Round) (p : ℕ) (S : Sound R) where
     total-told y = by-auction P A _ _ _
 
     -- a winner's application is told as won
-    pub won-told : (w : ℕ) → In w (winners (auction P)) → In (bidOf R w .app) (wonApps R p (appTold R))
+    pub won-told : (w : ℕ) → In w (winners (auction P)) → In (bidAt (R .bids) w .app) (wonApps R p (appTold R))
     unfolding wonApps told winnersOf
     won-told w i =
-        in-sift (λ a. eqb (appPot R a) p && eqb (appTold R a .won) 1) (in-below (bidOf R w .app) (R .n) (z .0 .app))
-        (rw (eq-eqb (appPot R (bidOf R w .app)) p (z .0 .pot)) (go (z .0 .pot) (winners-short (bidOf R w .app)) refl))
+        in-sift (λ a. eqb (appPot R a) p && eqb (appTold R a .won) 1) (in-below (bidAt (R .bids) w .app) (R .n) (z .0 .app))
+        (rw (eq-eqb (appPot R (bidAt (R .bids) w .app)) p (z .0 .pot)) (go (z .0 .pot) (winners-short (bidAt (R .bids) w .app)) refl))
       where
-        z : Mine R p (bidOf R w) × (P .app w ≡ bidOf R w .app) × (mine R p w ≡ true)
+        z : Mine R p (bidAt (R .bids) w) × (P .app w ≡ bidAt (R .bids) w .app) × (mine R p w ≡ true)
         z = bid-mine w (won-in w i)
 
-        go : appPot R (bidOf R w .app) ≡ p → {l : List ℕ} → Short l → winnersOf P (bidOf R w .app) ≡ l → eqb (appTold R (bidOf R w .app) .won) 1 ≡ true
+        go : appPot R (bidAt (R .bids) w .app) ≡ p → {l : List ℕ} → Short l → winnersOf P (bidAt (R .bids) w .app) ≡ l
+            → eqb (appTold R (bidAt (R .bids) w .app) .won) 1 ≡ true
         go q nobody e = in-none (rw e at (among w i))
-        go q (one v) e = eq-eqb _ 1 (ap (λ (x : Told). x .won) (told-is (bidOf R w .app) q e))
+        go q (one v) e = eq-eqb _ 1 (ap (λ (x : Told). x .won) (told-is (bidAt (R .bids) w .app) q e))
 
     -- its bid is the one told with its application
-    pub bid-told : (w : ℕ) → In w (winners (auction P)) → bidTold R p (appTold R) (bidOf R w .app) ≡ w
+    pub bid-told : (w : ℕ) → In w (winners (auction P)) → appTold R (bidAt (R .bids) w .app) .bid ≡ w
     unfolding winnersOf
-    bid-told w i = go (winners-short (bidOf R w .app)) refl
+    bid-told w i = go (winners-short (bidAt (R .bids) w .app)) refl
       where
-        z : Mine R p (bidOf R w) × (P .app w ≡ bidOf R w .app) × (mine R p w ≡ true)
+        z : Mine R p (bidAt (R .bids) w) × (P .app w ≡ bidAt (R .bids) w .app) × (mine R p w ≡ true)
         z = bid-mine w (won-in w i)
 
-        go : {l : List ℕ} → Short l → winnersOf P (bidOf R w .app) ≡ l → bidTold R p (appTold R) (bidOf R w .app) ≡ w
+        go : {l : List ℕ} → Short l → winnersOf P (bidAt (R .bids) w .app) ≡ l → appTold R (bidAt (R .bids) w .app) .bid ≡ w
         go nobody e = in-none (rw e at (among w i))
-        go (one v) e = sole-told (bidOf R w .app) v (z .0 .pot) e ∙ sym (in-one (rw e at (among w i)))
+        go (one v) e = sole-told (bidAt (R .bids) w .app) v (z .0 .pot) e ∙ sym (in-one (rw e at (among w i)))
 
     -- an application told as won has a winner, which is the bid told with it
-    pub winner-of : (a : ℕ) → In a (wonApps R p (appTold R)) → (w : ℕ) × In w (winners (auction P)) × (bidTold R p (appTold R) a ≡ w) × (bidOf R w .app ≡ a)
+    pub winner-of : (a : ℕ) → In a (wonApps R p (appTold R)) → (w : ℕ) × In w (winners (auction P)) × (appTold R a .bid ≡ w) × (bidAt (R .bids) w .app ≡ a)
     unfolding wonApps told
     winner-of a i = go (winners-short a) refl
       where
@@ -210,6 +193,6 @@ module _ (R : Round) (p : ℕ) (S : Sound R) where
         pot : appPot R a ≡ p
         pot = eqb-true _ p (q .0)
 
-        go : {l : List ℕ} → Short l → winnersOf P a ≡ l → (w : ℕ) × In w (winners (auction P)) × (bidTold R p (appTold R) a ≡ w) × (bidOf R w .app ≡ a)
+        go : {l : List ℕ} → Short l → winnersOf P a ≡ l → (w : ℕ) × In w (winners (auction P)) × (appTold R a .bid ≡ w) × (bidAt (R .bids) w .app ≡ a)
         go nobody e = let z : _≡_ {A = ℕ} 0 1 = sym (ap (λ (x : Told). x .won) (told-is a pot e)) ∙ eqb-true _ 1 (q .1) in absurd (omega arith)
         go (one w) e = let m = of a w (rw e (here refl)) in (w, m .2, sole-told a w pot e, sym (bid-mine w (m .0) .1) ∙ m .1)

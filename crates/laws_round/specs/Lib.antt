@@ -9,4 +9,6 @@ pub mod Apart
 pub mod Undeclared
 pub mod Answers
 pub mod Demanded
+pub mod First
+pub mod Silent
 pub mod Theorems

@@ -5,9 +5,9 @@ use native.Mathlib.Omega.{arith}
 use mathlib.Core.Logic.{inl, inr, ⊎-elim}
 use Rattle.rules.specs.Names.{becauseWon, pencePerPound}
 use Rattle.rules.specs.Value.{penny, pound}
-use Rattle.rules.specs.File.{Round}
+use Rattle.rules.specs.File.{Round, bidAt}
 use Rattle.rules.specs.Pot.{Pot, winners, downs, auction, totalIn, reason}
-use Rattle.rules.specs.Round.{bidOf, potOf}
+use Rattle.rules.specs.Round.{potOf}
 use Rattle.rules.specs.Result.{appTold}
 use Rattle.laws_pot.specs.Lists.{clash, In, memb-in, in-memb, map-in}
 use Rattle.laws_reading.specs.Reading.{Sound}
@@ -66,17 +66,17 @@ module _ (R : Round) (p : ℕ) (S : Sound R) (A : Auctioned (potOf R p)) where
     in-parts = penny-is R p;
     in-pence = budget-is R p;
     unlooked = λ k i t.
-        let n = bids-in R p k i .0 in
+        let n = bids-in R p k i in
         ⊎-elim
         (λ h.
         let r = map-in (P .app) (winners (auction P)) (memb-in _ _ h) in
         let z = bid-mine R p S (r .0) (won-in R p S (r .0) (r .1)) in
-        let e : bidOf R k .app ≡ bidOf R (r .0) .app = sym (app-is R p k n) ∙ r .2 ∙ z .1 in
+        let e : bidAt (R .bids) k .app ≡ bidAt (R .bids) (r .0) .app = sym (app-is R p k n) ∙ r .2 ∙ z .1 in
         inl (rw e (won-told R p S A (r .0) (r .1))))
         (λ h.
         let c = h .0 in
         let j = down-in c (h .1) in
-        let m = bids-in R p c j .0 in
+        let m = bids-in R p c j in
         inr (c, j, down-told c (h .1), sym (yr-is R p c m) ∙ h .2 ∙ yr-is R p k n, rw (price-is R p c m, price-is R p k n) at (h .3)))
         (demand .unlooked k i (rested P k (reason P k) (reason-why P A k) t));
     one-step = downs-once P (bids-once R p);

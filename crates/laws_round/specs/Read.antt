@@ -5,7 +5,7 @@ use mathlib.Core.List.{List, _++_}
 use native.Mathlib.Omega.{arith}
 use native.Mathlib.Nat.{zero-add}
 use lib.ListN.{length}
-use Rattle.rules.specs.Names.{countWidth, highestPrice, noBid, becauseTooWide}
+use Rattle.rules.specs.Names.{countWidth, highestPrice, noBid, becauseSilent}
 use Rattle.rules.specs.Bytes.{le, bytes, each}
 use Rattle.rules.specs.File.{Round}
 use Rattle.rules.specs.Pot.{Pot, outcome, priceIn, totalIn, reason}
@@ -67,7 +67,7 @@ module _ (R : Round) (s : List ℕ) where
     pub app : (a : ℕ) → a < R .n → toldAt a ≡ appTold R a
     pub bid : (k : ℕ) → k < R .b → reasonAt k ≡ reason (potAt R k) k
 
-told-read : (s : List ℕ) (at : ℕ) (x : Told) → At s at (appBytes x) → x .won ≤ 1 → x .bid ≤ noBid → x .reason ≤ becauseTooWide → x .paid ≤ highestPrice
+told-read : (s : List ℕ) (at : ℕ) (x : Told) → At s at (appBytes x) → x .won ≤ 1 → x .bid ≤ noBid → x .reason ≤ becauseSilent → x .paid ≤ highestPrice
     → record { won = le 2 s at; bid = le 2 s (at + 2); reason = le 2 s (at + 4); paid = le 4 s (at + 6) } ≡ x
 unfolding appBytes
 told-read s at x A b0 b1 b2 b3 = λ i. record { won = e0 i; bid = e1 i; reason = e2 i; paid = e3 i }

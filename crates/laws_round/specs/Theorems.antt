@@ -1,13 +1,14 @@
--- The theorems, each under the sentence of document 01 that it answers. `clearOf file lent` is the answer to a file, and what then stands in the lent
--- bytes; a file is
--- cleared where that answer is no refusal. Assumes nothing.
+-- The theorems, each under the sentence of the papers that it answers. `clearOf file lent` is the answer to a file, and what then stands in the lent
+-- bytes; a file is cleared where that answer is no refusal. Assumes nothing.
 use Prim.Native.Nat.{ℕ, _+_, _≤_, _<_}
-use mathlib.Core.Path.{_≡_}
+use mathlib.Core.Path.{_≡_, _∙_}
 use mathlib.Core.Bool.{false}
+use mathlib.Core.Logic.{_↔_}
 use mathlib.Core.List.{List, map}
 use lib.ListN.{length, take, drop}
-use Rattle.rules.specs.Names.{auctioned}
-use Rattle.rules.specs.File.{Round, roundOf}
+use borrow.Author.Tests.{eq-eqb}
+use Rattle.rules.specs.Names.{administrative, auctioned, noReason}
+use Rattle.rules.specs.File.{Round, roundOf, bidAt}
 use Rattle.rules.specs.Pot.{Pot, winners, live, auction, wideEnd}
 use Rattle.rules.specs.Round.{potOf}
 use Rattle.rules.specs.Result.{needed, refusedAs, clearOf}
@@ -18,15 +19,19 @@ use Rattle.laws_round.specs.Undeclared.{SaveCosts, same-clearing}
 use Rattle.laws_pot.specs.Mono.{Lawful}
 use Rattle.laws_pot.specs.Runs as runs
 use Rattle.laws_pot.specs.Once as once
-use Rattle.laws_round.specs.Bids.{bids-once, differ, lawful}
+use Rattle.laws_round.specs.Bids.{bidPot, mine-own, mine-in, bids-in, in-bids, bids-once, differ, lawful}
 use Rattle.laws_round.specs.Apart.{DifferElsewhere}
 use Rattle.laws_round.specs.Third.{Third}
-use Rattle.laws_round.specs.Read.{outcomeAt, totalAt, toldAt}
+use Rattle.laws_round.specs.Read.{outcomeAt, totalAt, toldAt, reasonAt}
 use Rattle.laws_pot.specs.Lowered.{priced, Lowered}
 use Rattle.laws_pot.specs.Lower.{still-wins}
 use Rattle.laws_round.specs.Answers as answers
 use Rattle.laws_round.specs.Demanded as demanded
-use Rattle.laws_round.specs.Demanded.{whyAt, SameRecords}
+use Rattle.laws_round.specs.Demanded.{SameRecords}
+use Rattle.laws_round.specs.First as first
+use Rattle.laws_round.specs.First.{FitsFirst}
+use Rattle.laws_round.specs.Silent as silent
+use Rattle.laws_round.specs.Silent.{Unheard, SilentTold}
 
 abbrev pub IsCleared : (file lent : List ℕ) → Type 0
 IsCleared file lent = refusedAs (clearOf file lent .answer) ≡ 0
@@ -35,8 +40,34 @@ IsCleared file lent = refusedAs (clearOf file lent .answer) ≡ 0
 pub third-demand : (file lent : List ℕ) → IsCleared file lent
     → let R = roundOf file in
     let s = clearOf file lent .exit in
-    (p : ℕ) → p < R .p → outcomeAt R s p ≡ auctioned → Third R p (toldAt R s) (totalAt R s p) (whyAt R s)
+    (p : ℕ) → p < R .p → outcomeAt R s p ≡ auctioned → Third R p (toldAt R s) (totalAt R s p) (reasonAt R s)
 third-demand = demanded.demand-3
+
+-- "an application without a sealed bid takes no part in the auction" (02, CR 8): the auction's bids are the file's sealed bids of the pot
+pub auction-bids : (R : Round) (p k : ℕ) → In k (potOf R p .bids) ↔ ((k < R .b) × (bidPot R k ≡ p))
+auction-bids R p k = (λ i. mine-in R p k (bids-in R p k i), λ z. in-bids R p k (mine-own R p k (z .0) ∙ eq-eqb _ p (z .1)))
+
+-- "If all a pot's applications, at their administrative prices, fit its budget in every year, all win at those prices (outcome 0)", and only then; "The first
+-- test counts it as before" (02, CR 8): an application without a sealed bid is one of them
+pub first-test : (file lent : List ℕ) → IsCleared file lent
+    → let R = roundOf file in
+    let s = clearOf file lent .exit in
+    (p : ℕ) → p < R .p → (outcomeAt R s p ≡ administrative) ↔ FitsFirst R p
+first-test = first.first-test
+
+-- "it is lost with automatic reason 8 in outcome 1, and keeps 7 in outcome 2 .. and in outcome 0 it wins" (02, CR 8), as the result's own bytes tell it
+pub silent-told : (file lent : List ℕ) → IsCleared file lent
+    → let R = roundOf file in
+    let s = clearOf file lent .exit in
+    (a : ℕ) → a < R .n → Unheard R a → SilentTold R s a
+silent-told = silent.silent-told
+
+-- "0 where it had sealed bids", whatever the outcome
+pub heard-told : (file lent : List ℕ) → IsCleared file lent
+    → let R = roundOf file in
+    let s = clearOf file lent .exit in
+    (k : ℕ) → k < R .b → toldAt R s (bidAt (R .bids) k .app) .reason ≡ noReason
+heard-told = silent.heard-told
 
 -- "Two accepted files with equal counts that differ only in declared costs, and in budgets, technologies, applications and bids of other pots, each pot's
 -- records at the same places, give one pot the same outcome, prices, totals and reasons."

@@ -5,13 +5,13 @@ use mathlib.Core.Bool.{_&&_}
 use mathlib.Core.Logic.{_⊎_}
 use mathlib.Core.List.{List}
 use lib.ListN.{length}
-use lib.Dec.{eqb, ltb}
-use Rattle.rules.specs.Lists.{pick, sift, below, sum}
+use lib.Dec.{eqb}
+use Rattle.rules.specs.Lists.{sift, below, sum}
 use Rattle.rules.specs.Value.{penny, pound}
-use Rattle.rules.specs.File.{Round, budgetAt}
+use Rattle.rules.specs.File.{Round, budgetAt, bidAt}
 use Rattle.rules.specs.Names.{becauseWon, pencePerPound}
 use Rattle.rules.specs.Pot.{downs, auction}
-use Rattle.rules.specs.Round.{bidOf, rowFor, costOf, potOf}
+use Rattle.rules.specs.Round.{rowFor, costOf, potOf}
 use Rattle.rules.specs.declared.Told.{Told}
 use Rattle.laws_pot.specs.Lists.{In}
 use Rattle.laws_round.specs.Bids.{appPot}
@@ -24,13 +24,9 @@ module _ (R : Round) (p : ℕ) (T : ℕ → Told) where
   unfoldable pub wonApps : List ℕ
   wonApps = sift (λ a. eqb (appPot R a) p && eqb (T a .won) 1) (below (R .n))
 
-  -- the bid that is told with it: a sealed bid's number, or else that of the application's automatic bid
-  unfoldable pub bidTold : ℕ → ℕ
-  bidTold a = pick (ltb (T a .bid) (R .b)) (T a .bid) (R .b + a)
-
-  -- the exact cost in parts, in year y, of an application told as won, at the price told as paid
+  -- the exact cost in parts, in year y, of an application told as won: of the bid told with it, at the price told as paid
   unfoldable pub costTold : (y a : ℕ) → ℕ
-  costTold y a = costOf (R .years) (rowFor R (bidOf R (bidTold a))) (T a .paid) y
+  costTold y a = costOf (R .years) (rowFor R (bidAt (R .bids) (T a .bid))) (T a .paid) y
 
   -- and of all of them
   abbrev pub exactTold : (y : ℕ) → ℕ
@@ -55,12 +51,13 @@ pub record Third (R : Round) (p : ℕ) (T : ℕ → Told) (total why : ℕ → �
   pub one-step : NoneTwice (downs (auction (potOf R p)))
   -- every bid never looked at belongs to an application that won, or to a delivery year in which a cheaper bid had been turned down
   pub unlooked : (k : ℕ) → In k (potOf R p .bids) → Unlooked (why k)
-      → In (bidOf R k .app) (wonApps R p T)
-      ⊎ ((c : ℕ) × In c (potOf R p .bids) × TurnedDown (why c) × (bidOf R c .year ≡ bidOf R k .year) × (bidOf R c .price < bidOf R k .price))
+      → In (bidAt (R .bids) k .app) (wonApps R p T)
+      ⊎ ((c : ℕ) × In c (potOf R p .bids) × TurnedDown (why c)
+      × (bidAt (R .bids) c .year ≡ bidAt (R .bids) k .year) × (bidAt (R .bids) c .price < bidAt (R .bids) k .price))
   -- every bid of the pot is told as one of the three: won, turned down, not looked at; no reason says two of them (`one-fate`)
   pub fate : (k : ℕ) → In k (potOf R p .bids) → Fate (why k)
   -- a bid told as won is the bid told with its application, which is told as won
-  pub winner : (k : ℕ) → In k (potOf R p .bids) → why k ≡ becauseWon → In (bidOf R k .app) (wonApps R p T) × (bidTold R p T (bidOf R k .app) ≡ k)
+  pub winner : (k : ℕ) → In k (potOf R p .bids) → why k ≡ becauseWon → In (bidAt (R .bids) k .app) (wonApps R p T) × (T (bidAt (R .bids) k .app) .bid ≡ k)
   -- and the other way round
   pub won-by : (a : ℕ) → In a (wonApps R p T)
-      → In (bidTold R p T a) (potOf R p .bids) × (why (bidTold R p T a) ≡ becauseWon) × (bidOf R (bidTold R p T a) .app ≡ a)
+      → In (T a .bid) (potOf R p .bids) × (why (T a .bid) ≡ becauseWon) × (bidAt (R .bids) (T a .bid) .app ≡ a)

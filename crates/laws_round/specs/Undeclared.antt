@@ -2,7 +2,7 @@
 -- nothing.
 use Prim.Native.Nat.{ℕ, _+_, _-_, _*_, _≤_, _<_, min}
 use mathlib.Core.Path.{_≡_, refl, sym, ap, ap₂, _∙_}
-use mathlib.Core.Bool.{not, _&&_}
+use mathlib.Core.Bool.{_&&_}
 use mathlib.Core.List.{List, _++_}
 use native.Mathlib.Omega.{arith}
 use native.Mathlib.Decide.{decLe, decLt, ℕ-discrete}
@@ -17,7 +17,7 @@ use Rattle.rules.specs.File.{endAt}
 use Rattle.rules.specs.Refusals.{orElse, orFault, scan, countFault, recordFault, section, appFault, sevenOf, eightOf, nineOf}
 use Rattle.rules.specs.Refusals.{bidFault, elevenOf, judged, reading}
 use Rattle.rules.specs.Pot.{reason}
-use Rattle.rules.specs.Round.{blank, assemble, automatic, bidOf, mine, silent, enters, rowFor, budgetOf, potOf}
+use Rattle.rules.specs.Round.{blank, assemble, atAdminPrice, mine, appMine, rowFor, budgetOf, potOf}
 use Rattle.rules.specs.Result.{toldIn, appTold, appBytes, potBytes, bidBytes, potsPart, appsPart, bidsPart, resultBytes, needed, answerTo, answerOf, after}
 use Rattle.rules.specs.Result.{clearOf}
 use Rattle.rules.specs.declared.Reading.{Reading}
@@ -99,9 +99,9 @@ module _ (R : Round) (m : List ℕ) (e : (a : ℕ) → appAt (R .apps) a ≡ app
   unfolding bidFault eightOf nineOf
   bid-fault i = ap (λ (x : ℕ). orFault x (orFault (eightOf R i) (nineOf R i))) (seven i)
 
-  auto : (a : ℕ) → automatic R a ≡ automatic Q a
-  unfolding automatic
-  auto a = λ j. record {
+  at-admin-price : (a : ℕ) → atAdminPrice R a ≡ atAdminPrice Q a
+  unfolding atAdminPrice
+  at-admin-price a = λ j. record {
     app = a;
     year = e a j .year;
     days = e a j .days;
@@ -109,44 +109,48 @@ module _ (R : Round) (m : List ℕ) (e : (a : ℕ) → appAt (R .apps) a ≡ app
     price = techAt (R .y) (R .techs) (e a j .tech) .admin (e a j .year);
   }
 
-  bid : (k : ℕ) → bidOf R k ≡ bidOf Q k
-  unfolding bidOf
-  bid k = ap (λ (x : Bid). pick (ltb k (R .b)) (bidAt (R .bids) k) x) (auto (k - R .b))
+  row : (x : Bid) → rowFor R x ≡ rowFor Q x
+  unfolding rowFor
+  row x = λ j.
+      let t = techAt (R .y) (R .techs) (e (x .app) j .tech) in
+      record {
+        bid = x;
+        draw = e (x .app) j .draw;
+        admin = t .admin (x .year);
+        rqm = t .rqm;
+        reference = λ y. pick (ltb y (R .y)) (t .reference y) 0;
+        load = λ y. pick (ltb y (R .y)) (t .load y) 0;
+      }
 
   its : (p k : ℕ) → mine R p k ≡ mine Q p k
   unfolding mine
-  its p k = λ j. ltb k (R .b + R .n) && eqb (techAt (R .y) (R .techs) (e (bid k j .app) j .tech) .pot) p
+  its p k = λ j. ltb k (R .b) && eqb (techAt (R .y) (R .techs) (e (bidAt (R .bids) k .app) j .tech) .pot) p
+
+  its-app : (p a : ℕ) → appMine R p a ≡ appMine Q p a
+  unfolding appMine
+  its-app p a = λ j. ltb a (R .n) && eqb (techAt (R .y) (R .techs) (e a j .tech) .pot) p
 
   pot : (p : ℕ) → potOf R p ≡ potOf Q p
-  unfolding potOf enters silent rowFor
+  unfolding potOf
   pot p = λ j.
-      assemble (R .years) (R .y) (sift (λ k. its p k j && enters R k) (below (R .b + R .n))) (sift (λ k. its p k j && not (ltb k (R .b))) (below (R .b + R .n)))
-      (λ k. pick (its p k j)
-      (record {
-        bid = bid k j;
-        draw = e (bid k j .app) j .draw;
-        admin = techAt (R .y) (R .techs) (e (bid k j .app) j .tech) .admin (bid k j .year);
-        rqm = techAt (R .y) (R .techs) (e (bid k j .app) j .tech) .rqm;
-        reference = λ y. pick (ltb y (R .y)) (techAt (R .y) (R .techs) (e (bid k j .app) j .tech) .reference y) 0;
-        load = λ y. pick (ltb y (R .y)) (techAt (R .y) (R .techs) (e (bid k j .app) j .tech) .load y) 0;
-      })
-      blank)
+      assemble (R .years) (R .y) (sift (λ k. its p k j) (below (R .b))) (sift (λ a. its-app p a j) (below (R .n)))
+      (λ k. pick (its p k j) (row (bidAt (R .bids) k) j) blank)
+      (λ a. pick (its-app p a j) (own a j) blank)
       (budgetOf R p)
+    where
+      own : (a : ℕ) → rowFor R (atAdminPrice R a) ≡ rowFor Q (atAdminPrice Q a)
+      own a = row (atAdminPrice R a) ∙ ap (rowFor Q) (at-admin-price a)
 
   -- the pot of application a
   its-pot : (a : ℕ) → potOf R (techAt (R .y) (R .techs) (appAt (R .apps) a .tech) .pot) ≡ potOf Q (techAt (R .y) (R .techs) (appAt m a .tech) .pot)
   its-pot a = λ j. pot (techAt (R .y) (R .techs) (e a j .tech) .pot) j
 
   result : resultBytes R ≡ resultBytes Q
-  unfolding resultBytes potsPart appsPart bidsPart appTold silent bidBytes
+  unfolding resultBytes potsPart appsPart bidsPart appTold bidBytes
   result = λ j.
       ((bytes countWidth (R .p) ++ each (λ p. potBytes (R .d) (R .y) (pot p j)) (R .p))
-      ++ (bytes countWidth (R .n) ++ each (λ a. appBytes (toldIn (R .b) (silent R a) (its-pot a j) a)) (R .n)))
-      ++ (bytes countWidth (R .b) ++ each (λ k. bytes 2 (reason (bid-pot k j) k)) (R .b))
-    where
-      bid-pot : (k : ℕ) → potOf R (techAt (R .y) (R .techs) (appAt (R .apps) (bidOf R k .app) .tech) .pot)
-          ≡ potOf Q (techAt (R .y) (R .techs) (appAt m (bidOf Q k .app) .tech) .pot)
-      bid-pot k = λ j. pot (techAt (R .y) (R .techs) (e (bid k j .app) j .tech) .pot) j
+      ++ (bytes countWidth (R .n) ++ each (λ a. appBytes (toldIn (its-pot a j) a)) (R .n)))
+      ++ (bytes countWidth (R .b) ++ each (λ k. bytes 2 (reason (its-pot (bidAt (R .bids) k .app) j) k)) (R .b))
 
 -- a section is the same where its count, the room of its records and what is wrong with each are
 section-same : (s t : List ℕ) (at low high w : ℕ) (l m : List ℕ) (f g : ℕ → ℕ) (q r : Reading) → length s ≡ length t → le countWidth s at ≡ le countWidth t at

@@ -6,7 +6,7 @@ use mathlib.Core.Path.{_≡_, refl}
 use mathlib.Core.List.{List, [], _∷_, _++_}
 use native.Mathlib.Decide.{decLe, decLt, ℕ-discrete}
 use lib.Dec.{eqb, ltb}
-use Rattle.rules.specs.Names.{administrative, auctioned, noPrice, automaticBid, noBid}
+use Rattle.rules.specs.Names.{administrative, auctioned, noPrice, noBid}
 use Rattle.rules.specs.Lists.{pick, given, both, when, never, one-more, every, howMany, sum}
 use Rattle.rules.specs.Bytes.{le, bytes, each}
 use Rattle.rules.specs.Value.{exactParts, hoursOf}
@@ -15,8 +15,8 @@ use Rattle.rules.specs.Refusals.{orElse, orFault, scan, countFault, reco
 use Rattle.rules.specs.Refusals.{nineOf, bidFault, elevenOf, judged, reading}
 use Rattle.rules.specs.Pot.{Pot, winners, downs, seen, closed, hanging, wideEnd, mark, best, value, priceFrom, tally, within, live, least, lowest}
 use Rattle.rules.specs.Pot.{taken, follows, remaining, rank, combination, chosen, choose, tied, alone, lost, look, run, auction, adminTotal, adminFits}
-use Rattle.rules.specs.Pot.{outcome, priceIn, totalIn, paid, unlookedReason, auctionReason, reason, winnersOf}
-use Rattle.rules.specs.Round.{energyOf, costOf, assemble, automatic, bidOf, mine, silent, enters, rowFor, potOf}
+use Rattle.rules.specs.Pot.{outcome, priceIn, totalIn, paid, unlookedReason, auctionReason, reason, silent, automaticReason, winnersOf}
+use Rattle.rules.specs.Round.{energyOf, costOf, assemble, atAdminPrice, mine, appMine, rowFor, potOf}
 use Rattle.rules.specs.Result.{told, toldIn, appTold, potAt}
 use Rattle.rules.specs.Worked.{nums, joined, counted, roundA, silence}
 use Rattle.rules.specs.declared.Reading.{Reading}
@@ -46,9 +46,8 @@ outcomeWord o = pick (eqb o administrative) (ascii "administrative") (pick (eqb 
 unfoldable pub priceWord : ℕ → List ℕ
 priceWord p = pick (eqb p noPrice) (ascii "-") (decimal p)
 
--- "an automatic bid as `auto`"
 unfoldable pub bidWord : ℕ → List ℕ
-bidWord b = pick (eqb b automaticBid) (ascii "auto") (pick (eqb b noBid) (ascii "-") (decimal b))
+bidWord b = pick (eqb b noBid) (ascii "-") (decimal b)
 
 -- ---- the lines
 
@@ -133,9 +132,9 @@ pub listed :
     ++ ascii "bid 2 reason 6\n"))))))))
     × (listingOf silence ≡
     ascii "pot 0 auction\n"
-    ++ (ascii "year 0 price 20000 total 17520000\n"
+    ++ (ascii "year 0 price - total 0\n"
     ++ (ascii "application 0 lost\n"
-    ++ ascii "application 1 won 20000 bid auto\n")))
+    ++ ascii "application 1 lost\n")))
     × (listingOf (2 ∷ []) ≡ ascii "refused 1 at 0\n")
     -- numbers of every digit, and the least of two digits
     × (decimal 9876543210 ≡ ascii "9876543210")
@@ -145,5 +144,5 @@ unfolding decimalIn decimal outcomeWord priceWord bidWord potLine yearLine wonLi
     sections roundOf sectionsOf orElse orFault scan countFault recordFault section yearFault potFault techFault appFault sevenOf eightOf nineOf bidFault
     elevenOf judged reading winners downs seen closed hanging wideEnd mark best value priceFrom tally within live least lowest taken follows remaining rank
     combination chosen choose tied alone lost look run auction adminTotal adminFits outcome priceIn totalIn paid unlookedReason auctionReason reason
-    winnersOf energyOf costOf assemble automatic bidOf mine silent enters rowFor potOf told toldIn appTold decLe decLt ℕ-discrete
+    silent automaticReason winnersOf energyOf costOf assemble atAdminPrice mine appMine rowFor potOf told toldIn appTold decLe decLt ℕ-discrete
 listed = (refl, refl, refl, refl, refl, refl)

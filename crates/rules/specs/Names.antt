@@ -64,10 +64,6 @@ mostApps = 64
 abbrev pub mostBids : ℕ
 mostBids = 256
 
--- the numbers of bids: the file's own, and after them the automatic bid of each application
-abbrev pub mostNumbers : ℕ
-mostNumbers = mostBids + mostApps
-
 -- "each after its 2-byte count"
 abbrev pub countWidth : ℕ
 countWidth = 2
@@ -161,12 +157,9 @@ widestTie = 10
 
 -- ---- "The result and its listing"
 
--- "4,294,967,295 for none", "65,534 automatic, 65,535 none"
+-- "4,294,967,295 for none", "65,535 none"
 abbrev pub noPrice : ℕ
 noPrice = 4294967295
-
-abbrev pub automaticBid : ℕ
-automaticBid = 65534
 
 abbrev pub noBid : ℕ
 noBid = 65535
@@ -196,3 +189,7 @@ becauseAdministrative = 6
 
 abbrev pub becauseTooWide : ℕ
 becauseTooWide = 7
+
+-- "it is lost with automatic reason 8 in outcome 1" (02, CR 8)
+abbrev pub becauseSilent : ℕ
+becauseSilent = 8

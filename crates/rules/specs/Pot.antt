@@ -7,16 +7,17 @@ use mathlib.Core.List.{List, [], _∷_, _++_, map}
 use lib.Dec.{eqb, leb, ltb}
 use lib.ListN.{length}
 use Rattle.rules.specs.Names.{administrative, auctioned, tooWide, widestTie, noPrice, noReason, becauseWon, downAlone, downTied, unlookedWon}
-use Rattle.rules.specs.Names.{unlookedElse, becauseAdministrative, becauseTooWide}
+use Rattle.rules.specs.Names.{unlookedElse, becauseAdministrative, becauseTooWide, becauseSilent}
 use Rattle.rules.specs.Value.{ceilDiv}
 use Rattle.rules.specs.Lists.{pick, memb, sift, sum}
 
--- "Pots are cleared apart": what the clearing of one pot reads. `bids` are the numbers of the bids of its auction, `autos` those of the automatic bids of all
--- its applications; years are numbered below `years`; `cost b p y` is the exact cost in parts of bid b in year y where the clearing price of its start
--- year is p, with `scale` parts to the penny; `budget y` is in pence; `admin` is the administrative price of its technology in its start year.
+-- "Pots are cleared apart": what the clearing of one pot reads. `bids` are the numbers of its sealed bids, `apps` those of its applications; years are numbered
+-- below `years`; `cost b p y` is the exact cost in parts of bid b in year y where the clearing price of its start year is p, with `scale` parts to the penny;
+-- `budget y` is in pence; `admin` is the administrative price of a bid's technology in its start year. Of application a `adminPrice` is its administrative
+-- price, and `adminCost a y` the exact cost in parts of its own capacity, year and days at that price.
 pub record Pot : Type 0 where
   pub bids : List ℕ
-  pub autos : List ℕ
+  pub apps : List ℕ
   pub years : ℕ
   pub scale : ℕ
   pub app : ℕ → ℕ
@@ -26,6 +27,8 @@ pub record Pot : Type 0 where
   pub budget : ℕ → ℕ
   pub draw : ℕ → ℕ
   pub admin : ℕ → ℕ
+  pub adminPrice : ℕ → ℕ
+  pub adminCost : ℕ → ℕ → ℕ
 
 -- What a step did: the bids that it let win, those that it turned down and the reason that they are given, the years that it closed, and the year that it
 -- left open though it turned a bid down there, since the next look is at the same application's next bid (2); whether more bids remained than are searched (3)
@@ -227,9 +230,9 @@ module _ (P : Pot) where
 
   -- ---- the first test, and what is told of the pot
 
-  -- "all a pot's applications, at their administrative prices": an automatic bid carries that price
+  -- "all a pot's applications, at their administrative prices": with or without a sealed bid, for "The first test counts it as before" (02, CR 8)
   unfoldable pub adminTotal : ℕ → ℕ
-  adminTotal y = sum (λ b. value b (P .price b) y) (P .autos)
+  adminTotal y = sum (λ a. ceilDiv (P .adminCost a y) (P .scale)) (P .apps)
 
   unfoldable pub adminFits : Bool
   adminFits = within adminTotal (P .years)
@@ -264,6 +267,14 @@ module _ (P : Pot) where
   -- "6 outcome 0; 7 outcome 2"
   unfoldable pub reason : ℕ → ℕ
   reason b = by becauseAdministrative (auctionReason auction b) becauseTooWide
+
+  -- "an application without a sealed bid" (02, CR 8): none of the pot's bids is its own
+  unfoldable pub silent : ℕ → Bool
+  silent a = not (memb a (map (P .app) (P .bids)))
+
+  -- "it is lost with automatic reason 8 in outcome 1, and keeps 7 in outcome 2" (02, CR 8); "automatic reason 6 in outcome 0"; "0 where it had sealed bids"
+  unfoldable pub automaticReason : ℕ → ℕ
+  automaticReason a = pick (silent a) (by becauseAdministrative becauseSilent becauseTooWide) noReason
 
   -- the winning bids of application a: one at the most
   unfoldable pub winnersOf : ℕ → List ℕ

@@ -1,16 +1,15 @@
 -- "The result and its listing": the result's records and bytes, and clearing as a function of a file and the lent bytes. Assumes nothing.
 use Prim.Native.Nat.{ℕ, _+_, _*_}
-use mathlib.Core.Bool.{Bool}
 use mathlib.Core.List.{List, [], _∷_, _++_}
 use lib.ListN.{length}
 use lib.Dec.{ltb}
-use Rattle.rules.specs.Names.{resultShort, countWidth, automaticBid, noBid, noReason}
+use Rattle.rules.specs.Names.{resultShort, countWidth, noBid}
 use Rattle.rules.specs.Lists.{pick}
 use Rattle.rules.specs.Bytes.{bytes, each, onto}
-use Rattle.rules.specs.File.{Round, roundOf, appAt}
+use Rattle.rules.specs.File.{Round, roundOf, appAt, bidAt}
 use Rattle.rules.specs.Refusals.{reading}
-use Rattle.rules.specs.Pot.{Pot, by, outcome, priceIn, totalIn, paid, reason, winnersOf}
-use Rattle.rules.specs.Round.{techOf, bidOf, silent, potOf}
+use Rattle.rules.specs.Pot.{Pot, by, outcome, priceIn, totalIn, paid, reason, automaticReason, winnersOf}
+use Rattle.rules.specs.Round.{techOf, potOf}
 use Rattle.rules.specs.declared.Told.{Told}
 use Rattle.rules.specs.declared.Reading.{Reading}
 use Rattle.rules.specs.declared.Reading.the-variants as r
@@ -19,21 +18,20 @@ use Rattle.rules.specs.declared.Answer.the-variants.{Cleared, Refused}
 
 -- ---- the records
 
--- "Applications: won 2 (1 or 0), bid 2 (65,534 automatic, 65,535 none), automatic bid's reason 2 (0 where it had sealed bids), price paid 4 (0 if lost)":
--- `Told`. What is told of an application whose winners in outcome 1 are these, and whose automatic bid's reason is told as `auto`, where there are b sealed
--- bids
-unfoldable pub told : (b : ℕ) → Pot → (auto : ℕ) → List ℕ → Told
-told b P auto [] = record { won = 0; bid = noBid; reason = auto; paid = 0 }
-told b P auto (w ∷ ws) = record { won = 1; bid = pick (ltb w b) w automaticBid; reason = auto; paid = paid P w }
+-- "Applications: won 2 (1 or 0), bid 2 (.. 65,535 none), automatic bid's reason 2 (0 where it had sealed bids), price paid 4 (0 if lost)": `Told`; "65,534 and
+-- `auto` are no longer written" (02, CR 8). What is told of an application whose winners in outcome 1 are these, and whose automatic reason is `why`
+unfoldable pub told : Pot → (why : ℕ) → List ℕ → Told
+told P why [] = record { won = 0; bid = noBid; reason = why; paid = 0 }
+told P why (w ∷ ws) = record { won = 1; bid = w; reason = why; paid = paid P w }
 
 -- "each application has won with bid 65,535 and its administrative price" in outcome 0; "no winner in this pot" in outcome 2
-unfoldable pub toldIn : (b : ℕ) (silent : Bool) → Pot → (a : ℕ) → Told
-toldIn b silent P a =
-    let auto = pick silent (reason P (b + a)) noReason in
+unfoldable pub toldIn : Pot → (a : ℕ) → Told
+toldIn P a =
+    let why = automaticReason P a in
     by P
-    (record { won = 1; bid = noBid; reason = auto; paid = P .price (b + a) })
-    (told b P auto (winnersOf P a))
-    (record { won = 0; bid = noBid; reason = auto; paid = 0 })
+    (record { won = 1; bid = noBid; reason = why; paid = P .adminPrice a })
+    (told P why (winnersOf P a))
+    (record { won = 0; bid = noBid; reason = why; paid = 0 })
 
 unfoldable pub appBytes : Told → List ℕ
 appBytes a = ((bytes 2 (a .won) ++ bytes 2 (a .bid)) ++ bytes 2 (a .reason)) ++ bytes 4 (a .paid)
@@ -48,10 +46,10 @@ module _ (R : Round) where
   potFor a = potOf R (techOf R (appAt (R .apps) a) .pot)
 
   abbrev pub potAt : ℕ → Pot
-  potAt k = potFor (bidOf R k .app)
+  potAt k = potFor (bidAt (R .bids) k .app)
 
   unfoldable pub appTold : ℕ → Told
-  appTold a = toldIn (R .b) (silent R a) (potFor a) a
+  appTold a = toldIn (potFor a) a
 
   -- "Bids: reason 2"
   unfoldable pub bidBytes : ℕ → List ℕ

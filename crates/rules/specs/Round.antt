@@ -1,15 +1,16 @@
 -- The pots of a round file. Assumes nothing.
-use Prim.Native.Nat.{ℕ, _+_, _-_, _*_, min}
-use mathlib.Core.Bool.{Bool, not, _&&_, _||_}
-use mathlib.Core.List.{List, map}
+use Prim.Native.Nat.{ℕ, _*_, min}
+use mathlib.Core.Bool.{Bool, _&&_}
+use mathlib.Core.List.{List}
 use lib.Dec.{eqb, ltb}
-use Rattle.rules.specs.Lists.{pick, memb, sift, below}
+use Rattle.rules.specs.Lists.{pick, sift, below}
 use Rattle.rules.specs.Names.{pencePerPound}
 use Rattle.rules.specs.Value.{exactParts, hoursOf, penny}
 use Rattle.rules.specs.File.{Round, Tech, App, Bid, yearAt, budgetAt, techAt, appAt, bidAt}
 use Rattle.rules.specs.Pot.{Pot}
 
--- what the clearing reads of one bid: its own fields, the draw of its application, and the figures of its technology in the years of the file
+-- what the clearing reads of one bid, or of an application at its administrative price: its own fields, the draw of its application, and the figures of its
+-- technology in the years of the file
 pub record Row : Type 0 where
   pub bid : Bid
   pub draw : ℕ
@@ -18,7 +19,7 @@ pub record Row : Type 0 where
   pub reference : ℕ → ℕ
   pub load : ℕ → ℕ
 
--- another pot's bid is blank: nothing of it can be read, so that pots are cleared apart by definition
+-- another pot's row is blank: nothing of it can be read, so that pots are cleared apart by definition
 abbrev pub blank : Row
 blank = record { bid = record { app = 0; year = 0; days = 0; capacity = 0; price = 0 }; draw = 0; admin = 0; rqm = 0; reference = λ y. 0; load = λ y. 0 }
 
@@ -30,11 +31,11 @@ energyOf years b y = hoursOf y (b .year) (b .days) (yearAt years y .days) * b .c
 unfoldable pub costOf : (years : List ℕ) → Row → (price y : ℕ) → ℕ
 costOf years r price y = exactParts (min price (r .admin)) (r .reference y) (r .load y) (energyOf years (r .bid) y) (yearAt years y .tlm) (r .rqm)
 
--- a pot of y years from the numbers of its bids, their rows and its budgets in pence
-unfoldable pub assemble : (years : List ℕ) (y : ℕ) (bids autos : List ℕ) → (ℕ → Row) → (ℕ → ℕ) → Pot
-assemble years y bids autos row budget = record {
+-- a pot of y years from the numbers of its bids and of its applications, their rows, and its budgets in pence
+unfoldable pub assemble : (years : List ℕ) (y : ℕ) (bids apps : List ℕ) → (row atAdmin : ℕ → Row) → (ℕ → ℕ) → Pot
+assemble years y bids apps row atAdmin budget = record {
   bids = bids;
-  autos = autos;
+  apps = apps;
   years = y;
   scale = penny;
   app = λ k. row k .bid .app;
@@ -44,32 +45,26 @@ assemble years y bids autos row budget = record {
   budget = budget;
   draw = λ k. row k .draw;
   admin = λ k. row k .admin;
+  adminPrice = λ a. atAdmin a .admin;
+  adminCost = λ a y. costOf years (atAdmin a) (atAdmin a .admin) y;
 }
 
 module _ (R : Round) where
   abbrev pub techOf : App → Tech
   techOf a = techAt (R .y) (R .techs) (a .tech)
 
-  -- "an automatic one: its own capacity, year and days, at its administrative price"
-  unfoldable pub automatic : ℕ → Bid
-  automatic a =
+  -- what the first test needs of an application, in the fields of a bid: its own capacity, year and days, at its administrative price
+  unfoldable pub atAdminPrice : ℕ → Bid
+  atAdminPrice a =
       let x = appAt (R .apps) a in
       record { app = a; year = x .year; days = x .days; capacity = x .capacity; price = techOf x .admin (x .year) }
 
-  -- the bids by number: the file's own, and after them the automatic bid of each application
-  unfoldable pub bidOf : ℕ → Bid
-  bidOf k = pick (ltb k (R .b)) (bidAt (R .bids) k) (automatic (k - R .b))
-
-  -- does bid k stand in pot p?
+  -- does bid k stand in pot p? does application a?
   unfoldable pub mine : (p k : ℕ) → Bool
-  mine p k = ltb k (R .b + R .n) && eqb (techOf (appAt (R .apps) (bidOf k .app)) .pot) p
+  mine p k = ltb k (R .b) && eqb (techOf (appAt (R .apps) (bidAt (R .bids) k .app)) .pot) p
 
-  -- "An application with no bid is given an automatic one"
-  unfoldable pub silent : ℕ → Bool
-  silent a = not (memb a (map (λ k. bidAt (R .bids) k .app) (below (R .b))))
-
-  unfoldable pub enters : ℕ → Bool
-  enters k = ltb k (R .b) || silent (k - R .b)
+  unfoldable pub appMine : (p a : ℕ) → Bool
+  appMine p a = ltb a (R .n) && eqb (techOf (appAt (R .apps) a) .pot) p
 
   -- the row of a bid. A year that the file does not have has no figures, so that a row says nothing of bytes outside its technology's record
   unfoldable pub rowFor : Bid → Row
@@ -88,9 +83,10 @@ module _ (R : Round) where
   abbrev pub budgetOf : (p y : ℕ) → ℕ
   budgetOf p y = pick (ltb y (R .y)) (pencePerPound * budgetAt (R .y) (R .pots) p y) 0
 
-  -- "Pots are cleared apart"
+  -- "Pots are cleared apart"; "an application without a sealed bid takes no part in the auction" (02, CR 8): the auction's bids are the file's
   unfoldable pub potOf : ℕ → Pot
   potOf p =
-      assemble (R .years) (R .y) (sift (λ k. mine p k && enters k) (below (R .b + R .n))) (sift (λ k. mine p k && not (ltb k (R .b))) (below (R .b + R .n)))
-      (λ k. pick (mine p k) (rowFor (bidOf k)) blank)
+      assemble (R .years) (R .y) (sift (mine p) (below (R .b))) (sift (appMine p) (below (R .n)))
+      (λ k. pick (mine p k) (rowFor (bidAt (R .bids) k)) blank)
+      (λ a. pick (appMine p a) (rowFor (atAdminPrice a)) blank)
       (budgetOf p)

@@ -14,8 +14,8 @@ use Rattle.rules.specs.Refusals.{orElse, orFault, scan, countFault, reco
 use Rattle.rules.specs.Refusals.{nineOf, bidFault, elevenOf, judged, reading, refusal, place}
 use Rattle.rules.specs.Pot.{winners, downs, seen, closed, hanging, wideEnd, mark, best, value, priceFrom, tally, within, live, least, lowest, taken}
 use Rattle.rules.specs.Pot.{follows, remaining, rank, combination, chosen, choose, tied, alone, lost, look, run, auction, adminTotal, adminFits, outcome}
-use Rattle.rules.specs.Pot.{priceIn, totalIn, paid, unlookedReason, auctionReason, reason, winnersOf}
-use Rattle.rules.specs.Round.{energyOf, costOf, assemble, automatic, bidOf, mine, silent, enters, rowFor, potOf}
+use Rattle.rules.specs.Pot.{priceIn, totalIn, paid, unlookedReason, auctionReason, reason, silent, automaticReason, winnersOf}
+use Rattle.rules.specs.Round.{energyOf, costOf, assemble, atAdminPrice, mine, appMine, rowFor, potOf}
 use Rattle.rules.specs.Result.{told, toldIn, appTold, appBytes, potBytes, bidBytes, potsPart, appsPart, bidsPart, resultBytes, needed, answerTo, answerOf}
 use Rattle.rules.specs.Result.{after, clearOf, refusedAs, refusedAt, codeOf, lengthTo, lengthOf}
 use Rattle.rules.specs.declared.Answer.the-variants.{Cleared, Refused}
@@ -149,14 +149,14 @@ Marked =
     -- V1 to V5; V2's exact cost, 130,347,617.4 pence
     × Gives (valued 1000 100000 50000 3000 90 10000 365) (worth 100000 130217400)
     × Gives (valued 1001 100000 50000 3000 90 10000 365) (worth 100000 130347618)
-    × (potOf (roundOf (valued 1001 100000 50000 3000 90 10000 365)) 0 .cost 0 100000 0 ≡ 1303476174 * 10 ^ 14)
+    × (potOf (roundOf (valued 1001 100000 50000 3000 90 10000 365)) 0 .adminCost 0 0 ≡ 1303476174 * 10 ^ 14)
     × Gives (valued 1000 40000 50000 3000 90 10000 365) (worth 40000 0)
     × Gives (valued 1000 50000 50000 3000 90 10000 365) (worth 50000 0)
     × Gives (valued 300000 500000 0 10000 0 10000 366) (worth 500000 1317600000000)
 
 -- ---- rows of our own, for what the marked ones leave open
 
--- two applications without a bid: the automatic bids tie, and the lower draw wins
+-- two applications without a sealed bid, which the first test counts
 abbrev pub silence : List ℕ
 silence = single 200000 (app 0 1 100 ∷ app 0 0 100 ∷ []) []
 
@@ -172,8 +172,13 @@ Own =
     × Gives (file (year ∷ year ∷ []) (budgets (100000 ∷ 100000 ∷ []) ∷ []) (tech 0 10000 (figures ∷ figuresWith 5000 0 10000 ∷ []) ∷ []) (app 0 0 100 ∷ [])
     (bid 0 0 100 6000 ∷ []))
     (result (potTold 1 (6000 ∷ noPrice ∷ []) (5256000 ∷ 5256000 ∷ []) ∷ []) (line 1 0 6000 ∷ []) (1 ∷ []))
-    -- two applications without a bid
-    × Gives silence (result (potTold 1 (20000 ∷ []) (17520000 ∷ []) ∷ []) (lineWith 0 65535 3 0 ∷ lineWith 1 65534 1 20000 ∷ []) [])
+    -- no sealed bid at all (02, CR 8): both are lost with automatic reason 8, and no price is set; and one bid, which wins: the other application has 8
+    × Gives silence (result (potTold 1 (noPrice ∷ []) (0 ∷ []) ∷ []) (lineWith 0 65535 8 0 ∷ lineWith 0 65535 8 0 ∷ []) [])
+    × Gives (single 200000 (app 0 1 100 ∷ app 0 0 100 ∷ []) (bid 0 0 100 20000 ∷ []))
+    (result (potTold 1 (20000 ∷ []) (17520000 ∷ []) ∷ []) (line 1 0 20000 ∷ lineWith 0 65535 8 0 ∷ []) (1 ∷ []))
+    -- and within the budget, where the application without a bid wins too
+    × Gives (single 350400 (app 0 1 100 ∷ app 0 0 100 ∷ []) (bid 0 0 100 20000 ∷ []))
+    (result (potTold 0 (noPrice ∷ []) (35040000 ∷ []) ∷ []) (line 1 65535 20000 ∷ lineWith 1 65535 6 20000 ∷ []) (6 ∷ []))
     -- two winners whose values are no whole pence: each is rounded up, not their sum
     × Gives (file (yearWith 365 1 90 ∷ []) (budgets (2606954 ∷ []) ∷ []) (tech 0 10000 (figuresWith 500000 50000 3000 ∷ []) ∷ []) (app 0 0 1001 ∷
     app 0 1 1001 ∷ []) (bid 0 0 1001 100000 ∷ bid 1 0 1001 100000 ∷ []))
@@ -316,13 +321,13 @@ unfolding times counted joined nums given both when never one-more every howMany
     eightOf nineOf bidFault elevenOf judged reading winners downs
     seen closed hanging wideEnd mark best value priceFrom tally within live least lowest taken follows remaining rank combination chosen choose tied alone lost
     look run auction adminTotal adminFits outcome priceIn totalIn paid unlookedReason auctionReason
-    reason winnersOf energyOf costOf assemble automatic bidOf mine
-    silent enters rowFor potOf told toldIn appTold appBytes potBytes bidBytes potsPart appsPart bidsPart resultBytes needed answerTo answerOf after clearOf
+    reason silent automaticReason winnersOf energyOf costOf assemble atAdminPrice mine
+    appMine rowFor potOf told toldIn appTold appBytes potBytes bidBytes potsPart appsPart bidsPart resultBytes needed answerTo answerOf after clearOf
     refusal place refusedAs refusedAt codeOf lengthTo lengthOf decLe decLt ℕ-discrete
 worked = (
   (refl, refl, refl, refl, refl, refl, refl, refl, refl, refl, refl, refl, refl, refl),
   (
-    (refl, refl, refl, refl, refl, refl, refl, refl, refl, refl, refl, refl, refl, refl),
+    (refl, refl, refl, refl, refl, refl, refl, refl, refl, refl, refl, refl, refl, refl, refl, refl),
     (
       (
         (refl, refl, refl),
