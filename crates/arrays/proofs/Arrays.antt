@@ -11,7 +11,7 @@ use lib.Seq.{getD-set-same, getD-set-other}
 use native.Mathlib.Decide.{decLt}
 use lib.Dec.{eqb, ltb}
 use borrow.Author.Tests.{eqb-true, eqb-false, eq-eqb, ne-eqb, lt-ltb, le-ltb}
-use Rattle.rules.specs.Names.{mostNumbers}
+use Rattle.rules.specs.Names.{mostBids}
 use Rattle.rules.specs.Lists.{pick, memb, sift, below}
 use Rattle.laws_pot.specs.Lists.{case, clash, memb-in, in-memb, in-sift, sift-in, sift-same, in-below, below-in}
 use Rattle.arrays.specs.Sets.{fill, placed, none, built, members}
@@ -109,11 +109,11 @@ placed-fill l f g at zero h = let e : at ≡ at + 0 = omega arith in ap (fill l 
 placed-fill l f g at (suc n) h = rw (placed-fill l f g at n (λ k i. h k (omega arith)), h n (omega arith), add-suc at n)
 
 -- a set has the members that its test says
-pub members-built : (f : ℕ → Bool) (n : ℕ) → n ≤ mostNumbers → members (built f n) n ≡ sift f (below n)
+pub members-built : (f : ℕ → Bool) (n : ℕ) → n ≤ mostBids → members (built f n) n ≡ sift f (below n)
 unfolding members
 members-built f n h = sift-same (λ i. getD (built f n) i false) f (below n) (λ k i. fill-at none f n k false (size h) (below-in k n i))
   where
-    size : n ≤ mostNumbers → n ≤ length none
+    size : n ≤ mostBids → n ≤ length none
     size h = unfold none in h
 
 -- where no number is above q, no place is

@@ -3,7 +3,7 @@ use Prim.Native.Nat.{ℕ, zero, suc, _+_}
 use mathlib.Core.Bool.{Bool, false, not, _&&_}
 use mathlib.Core.List.{List, [], _∷_}
 use lib.ListN.{getD, set, replicate}
-use Rattle.rules.specs.Names.{mostNumbers}
+use Rattle.rules.specs.Names.{mostBids}
 use Rattle.rules.specs.Lists.{sift, below}
 
 -- an array whose first n places have been filled, each by its number
@@ -18,7 +18,7 @@ placed f l at (suc k) = set (placed f l at k) (at + k) (f k)
 
 -- the set of none, and the set of those below n that pass a test
 unfoldable pub none : List Bool
-none = replicate mostNumbers false
+none = replicate mostBids false
 
 abbrev pub built : (ℕ → Bool) → ℕ → List Bool
 built f n = fill none f n

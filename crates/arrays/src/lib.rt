@@ -3,13 +3,13 @@ ghost use mathlib.Core.Path.{_≡_};
 ghost use mathlib.Core.Bool.{not, _&&_};
 ghost use Prim.Native.Nat.{_≤_, _<_};
 ghost use lib.ListN.{length};
-ghost use Rattle.rules.specs.Names.{mostNumbers};
+ghost use Rattle.rules.specs.Names.{mostBids};
 ghost use Rattle.arrays.specs.Sets.{built, members, without};
-use names::NUMBERS;
+use names::BIDS;
 
 // How many bids a set has.
-pub fn count(set: [bool; NUMBERS], bids: usize) -> usize
-    requires { ⌜ bids ≤ mostNumbers ⌝ }
+pub fn count(set: [bool; BIDS], bids: usize) -> usize
+    requires { ⌜ bids ≤ mostBids ⌝ }
     ensures { λ r. ⌜ r ≡ length (members set bids) ⌝ }
 {
     let mut count: usize = 0;
@@ -31,11 +31,11 @@ fn stays(within: bool, out: bool) -> bool
 }
 
 // A set without the bids of another.
-pub fn others(set: [bool; NUMBERS], out: [bool; NUMBERS], bids: usize) -> [bool; NUMBERS]
-    requires { ⌜ bids ≤ mostNumbers ⌝ }
+pub fn others(set: [bool; BIDS], out: [bool; BIDS], bids: usize) -> [bool; BIDS]
+    requires { ⌜ bids ≤ mostBids ⌝ }
     ensures { λ r. ⌜ r ≡ built (without set out) bids ⌝ }
 {
-    let mut rest = [false; NUMBERS];
+    let mut rest = [false; BIDS];
     let mut k: usize = 0;
     while k < bids {
         rest[k] = stays(set[k], out[k]);

@@ -7,12 +7,12 @@ use native.Mathlib.Omega.{arith}
 use native.Mathlib.Numerals.{add-one}
 use lib.ListN.{getD, set}
 use borrow.Author.Tests.{eq-eqb, ne-eqb, lt-ltb, le-ltb}
-use Rattle.rules.specs.Names.{noBid, becauseWon, mostNumbers}
+use Rattle.rules.specs.Names.{noBid, becauseWon, mostBids}
 use Rattle.rules.specs.declared.Told.{Told}
 use Rattle.sheet.specs.declared.Size.{Size}
-use Rattle.sheet.specs.Sheet.{Ready, entrantAt, rowApp, rowYear, rowPrice, rowAdmin}
+use Rattle.sheet.specs.Sheet.{Ready, entrantAt, adminAt, rowApp, rowYear, rowAdmin}
 use Rattle.sheet.proofs.Entrants.{entrant-small, entrants-few}
-use Rattle.auction.specs.Numbers.{reasonBy, reasonAt, reasonsOf, winningOf, atAdmin, bidBy, toldBy}
+use Rattle.auction.specs.Numbers.{reasonBy, reasonAt, reasonsOf, automaticsOf, winningOf, atAdmin, toldBy}
 
 -- ---- reasons
 
@@ -34,6 +34,13 @@ pub reason-next : (sheet marks : List ℕ) (won : List Bool) (j : ℕ) {l : List
 unfolding reasonsOf reasonAt
 reason-next sheet marks won j {k = k} e q p h = rw (add-one j, h, p, e, q)
 
+-- ---- automatic reasons
+
+pub automatic-next : (sheet : List ℕ) (why j : ℕ) {l : List ℕ} {k a : ℕ} → l ≡ automaticsOf sheet why j → k ≡ entrantAt sheet j → a ≡ rowApp sheet k
+    → set l a 0 ≡ automaticsOf sheet why (j + 1)
+unfolding automaticsOf
+automatic-next sheet why j e q p = rw (add-one j, p, e, q)
+
 -- ---- winning bids
 
 pub winning-hit : (sheet marks : List ℕ) (k : ℕ) {l : List ℕ} {a : ℕ} → l ≡ winningOf sheet marks k → a ≡ rowApp sheet k → getD marks k 0 ≡ becauseWon
@@ -48,28 +55,20 @@ winning-miss sheet marks k e h = rw (add-one k, ne-eqb (getD marks k 0) becauseW
 
 -- ---- what is told of an application
 
-pub bid-sealed : (of : Size) (w : ℕ) → w < of .sealed → w ≡ bidBy of w
-unfolding bidBy
-bid-sealed of w h = rw (lt-ltb w (of .sealed) h)
-
-pub bid-auto : (of : Size) (w : ℕ) → of .sealed ≤ w → 65534 ≡ bidBy of w
-unfolding bidBy
-bid-auto of w h = rw (le-ltb w (of .sealed) h)
-
-module _ (sheet : List ℕ) (of : Size) (prices : List ℕ) (a w auto : ℕ) where
-  pub told-bid : {bid paid d admin : ℕ} → w < of .bids → bid ≡ bidBy of w → d ≡ rowYear sheet w → admin ≡ rowAdmin sheet w
+module _ (sheet : List ℕ) (of : Size) (prices : List ℕ) (a w why : ℕ) where
+  pub told-bid : {paid d admin : ℕ} → w < of .bids → d ≡ rowYear sheet w → admin ≡ rowAdmin sheet w
       → paid ≡ min (getD prices d 0) admin
-      → _≡_ {A = Told} (record { won = 1; bid = bid; reason = auto; paid = paid }) (toldBy sheet of prices a w auto)
+      → _≡_ {A = Told} (record { won = 1; bid = w; reason = why; paid = paid }) (toldBy sheet of prices a w why)
   unfolding toldBy
-  told-bid h eb ed ea ep = rw (lt-ltb w (of .bids) h, eb, ep, ed, ea)
+  told-bid h ed ea ep = rw (lt-ltb w (of .bids) h, ep, ed, ea)
 
-  pub told-admin : {paid : ℕ} → of .bids ≤ w → w ≡ atAdmin → paid ≡ rowPrice sheet (of .sealed + a)
-      → _≡_ {A = Told} (record { won = 1; bid = noBid; reason = auto; paid = paid }) (toldBy sheet of prices a w auto)
+  pub told-admin : {paid : ℕ} → of .bids ≤ w → w ≡ atAdmin → paid ≡ adminAt sheet a
+      → _≡_ {A = Told} (record { won = 1; bid = noBid; reason = why; paid = paid }) (toldBy sheet of prices a w why)
   unfolding toldBy
   told-admin h e p = rw (le-ltb w (of .bids) h, eq-eqb w atAdmin e, p)
 
   pub told-lost : of .bids ≤ w → (w ≡ atAdmin → ⊥)
-      → _≡_ {A = Told} (record { won = 0; bid = noBid; reason = auto; paid = 0 }) (toldBy sheet of prices a w auto)
+      → _≡_ {A = Told} (record { won = 0; bid = noBid; reason = why; paid = 0 }) (toldBy sheet of prices a w why)
   unfolding toldBy
   told-lost h n = rw (le-ltb w (of .bids) h, ne-eqb w atAdmin n)
 
@@ -81,10 +80,10 @@ app-below sheet of k ok h e = omega (arith, ok .app k h)
 pub year-below : (sheet : List ℕ) (of : Size) (k : ℕ) {d : ℕ} → Ready sheet of → k < of .bids → d ≡ rowYear sheet k → d < 4
 year-below sheet of k ok h e = omega (arith, ok .year k h)
 
-pub row-there : (sheet : List ℕ) (of : Size) (k : ℕ) → Ready sheet of → k < of .bids → k < mostNumbers
+pub row-there : (sheet : List ℕ) (of : Size) (k : ℕ) → Ready sheet of → k < of .bids → k < mostBids
 row-there sheet of k ok h = omega (arith, ok .few)
 
-pub entrant-there : (sheet : List ℕ) (of : Size) (j : ℕ) → Ready sheet of → j < of .entered → j < mostNumbers
+pub entrant-there : (sheet : List ℕ) (of : Size) (j : ℕ) → Ready sheet of → j < of .entered → j < mostBids
 entrant-there sheet of j ok h = omega (arith, entrants-few ok, ok .few)
 
 pub entrant-below : (sheet : List ℕ) (of : Size) (j : ℕ) {k : ℕ} → Ready sheet of → j < of .entered → k ≡ entrantAt sheet j → k < of .bids

@@ -1,25 +1,26 @@
 -- However a pot ended, what is told from its arrays is what the rules tell of it. Assumes nothing.
-use Prim.Native.Nat.{ℕ, _+_, _-_, _≤_, _<_, min}
-use mathlib.Core.Path.{_≡_, refl, sym, ap, _∙_}
-use mathlib.Core.Bool.{Bool, true, false, _&&_}
+use Prim.Native.Nat.{ℕ, _≤_, _<_, min}
+use mathlib.Core.Path.{_≡_, refl, sym, ap, ap₂, _∙_}
+use mathlib.Core.Bool.{Bool, true, false, not, _&&_}
 use mathlib.Core.List.{List, [], _∷_, map}
 use native.Mathlib.Omega.{arith}
 use lib.ListN.{length, getD, replicate}
 use lib.Dec.{eqb, ltb}
 use borrow.Author.Tests.{lt-ltb, le-ltb, ne-eqb}
-use Rattle.rules.specs.Names.{mostNumbers, mostApps, mostDeliveries, noPrice, noBid, noReason, becauseWon, becauseAdministrative, becauseTooWide}
+use Rattle.rules.specs.Names.{mostBids, mostApps, mostDeliveries, noPrice, noBid, noReason, becauseWon, becauseAdministrative, becauseTooWide}
+use Rattle.rules.specs.Names.{becauseSilent}
 use Rattle.rules.specs.Lists.{pick, memb, sift, below}
 use Rattle.rules.specs.Pot.{Pot, winners, seen, priceFrom, clearing, total, auction, wideEnd, adminFits, winnersOf}
-use Rattle.rules.specs.Pot.{outcome, priceIn, totalIn, paid, unlookedReason, auctionReason, reason}
+use Rattle.rules.specs.Pot.{by, outcome, priceIn, totalIn, paid, unlookedReason, auctionReason, reason, silent, automaticReason}
 use Rattle.rules.specs.Result.{told, toldIn}
 use Rattle.result.specs.Tells.{untold}
 use Rattle.rules.specs.declared.Told.{Told}
 use Rattle.laws_pot.specs.Lists.{case, clash, In, here, memb-in, sift-in, sift-same, sift-both, below-in}
 use Rattle.sheet.specs.declared.Size.{Size}
-use Rattle.sheet.specs.Sheet.{rowApp, rowYear, rowAdmin, rowPrice, inAuction, entrants, potIn, Ready}
+use Rattle.sheet.specs.Sheet.{adminAt, rowApp, rowYear, rowAdmin, inAuction, entrantAt, entrants, potIn, Ready}
 use Rattle.sheet.proofs.Entrants.{entrant-small}
 use Rattle.arrays.proofs.Arrays.{at-start, fill-each, repeated}
-use Rattle.totals.specs.Totals.{totalOf, filled, rowFits, autoTotal}
+use Rattle.totals.specs.Totals.{totalOf, filled, rowFits, adminTotalOf}
 use Rattle.totals.proofs.Link as link
 use Rattle.ties.proofs.Sums.{price-won}
 use Rattle.pot.specs.declared.PotState.{PotState}
@@ -28,9 +29,9 @@ use Rattle.pot.specs.Rep.{Rep, Stands}
 use Rattle.pot.proofs.Sums.{sum-total}
 use Rattle.pot.proofs.Link as held
 use Rattle.auction.specs.declared.End.{End}
-use Rattle.auction.specs.Cleared.{Numbered, ClearedAs, EndedAs}
-use Rattle.auction.specs.Numbers.{reasonBy, reasonAt, reasonsOf, winningOf, atAdmin, bidBy, toldBy, noApps, appsOf, flatOf, soldOf}
-use Rattle.auction.proofs.Places.{row-each, reasons-at, bidOr, wonFor, winning-at}
+use Rattle.auction.specs.Cleared.{ClearedAs, EndedAs}
+use Rattle.auction.specs.Numbers.{reasonBy, reasonAt, reasonsOf, automaticsOf, winningOf, atAdmin, toldBy, noApps, appsOf, flatOf, soldOf}
+use Rattle.auction.proofs.Places.{row-each, reasons-at, automatics-at, bidOr, wonFor, winning-at}
 
 module _ (sheet : List ℕ) (of : Size) (ok : Ready sheet of) where
   abbrev P : Pot
@@ -41,10 +42,6 @@ module _ (sheet : List ℕ) (of : Size) (ok : Ready sheet of) where
 
   bid-lt : (k : ℕ) → In k (P .bids) → k < of .bids
   bid-lt = link.bid-lt sheet of ok
-
-  -- the reason of the automatic bid of application a, as it is told
-  abbrev auto : (a : ℕ) → Bool → ℕ
-  auto a silent = pick silent (reason P (of .sealed + a)) noReason
 
   -- ---- outcome 1
   module _ (s : PotState) (R : Rep P (auction P) s) where
@@ -91,10 +88,10 @@ module _ (sheet : List ℕ) (of : Size) (ok : Ready sheet of) where
         opened = unfold paid potIn in refl
 
     -- what is told of an application whose winners are listed
-    told-by : (a auto : ℕ) (l : List ℕ) → winnersOf P a ≡ l → toldBy sheet of (s .prices) a (bidOr l) auto ≡ told (of .sealed) P auto l
-    unfolding toldBy told bidBy
-    told-by a auto [] e = rw (le-ltb noBid (of .bids) (omega (arith, ok .few)))
-    told-by a auto (w ∷ l) e =
+    told-by : (a why : ℕ) (l : List ℕ) → winnersOf P a ≡ l → toldBy sheet of (s .prices) a (bidOr l) why ≡ told P why l
+    unfolding toldBy told
+    told-by a why [] e = rw (le-ltb noBid (of .bids) (omega (arith, ok .few)))
+    told-by a why (w ∷ l) e =
         let z = its w l e in
         rw (lt-ltb w (of .bids) (bid-lt w (z .0)), paid-told w (z .0) (z .1))
       where
@@ -142,9 +139,11 @@ module _ (sheet : List ℕ) (of : Size) (ok : Ready sheet of) where
           ap (λ (l : List ℕ). getD l y 0) (Q .row)
           ∙ row-each (yearSum (s .sums)) (totalIn P) (of .years) (ok .years) (λ z g. total-told Q z g ∙ (unfold totalIn in rw (t, u))) y;
       reason = λ k i. reason-told k i ∙ (unfold reason in rw (t, u));
-      app = λ a silent h.
-          ap (λ (w : ℕ). toldBy sheet of (s .prices) a w (auto a silent)) (winning-told a h) ∙ told-by a (auto a silent) (winnersOf P a) refl
+      app = λ a h.
+          ap (λ (w : ℕ). toldBy sheet of (s .prices) a w (automaticReason P a)) (winning-told a (omega (arith, ok .apps)))
+          ∙ told-by a (automaticReason P a) (winnersOf P a) refl
           ∙ (unfold toldIn in rw (t, u));
+      silent = rw (t, u);
     }
 
   -- ---- outcomes 0 and 2
@@ -153,11 +152,11 @@ module _ (sheet : List ℕ) (of : Size) (ok : Ready sheet of) where
 
   -- all bids have one mark, which is a reason
   flat-reason : (mark k : ℕ) → (mark ≡ noReason → ⊥) → In k (P .bids)
-      → reasonAt sheet (replicate mostNumbers mark) (replicate mostApps false) k ≡ mark
+      → reasonAt sheet (replicate mostBids mark) (replicate mostApps false) k ≡ mark
   unfolding reasonAt reasonBy
-  flat-reason mark k n i = rw (at-start mostNumbers k mark 0 (link.small sheet of ok k (bid-lt k i)), ne-eqb mark noReason n)
+  flat-reason mark k n i = rw (at-start mostBids k mark 0 (link.small sheet of ok k (bid-lt k i)), ne-eqb mark noReason n)
 
-  won-admin : (a x : ℕ) → toldBy sheet of none a atAdmin x ≡ record { won = 1; bid = noBid; reason = x; paid = rowPrice sheet (of .sealed + a) }
+  won-admin : (a x : ℕ) → toldBy sheet of none a atAdmin x ≡ record { won = 1; bid = noBid; reason = x; paid = adminAt sheet a }
   unfolding toldBy
   won-admin a x = rw (le-ltb atAdmin (of .bids) (ok .few))
 
@@ -165,7 +164,7 @@ module _ (sheet : List ℕ) (of : Size) (ok : Ready sheet of) where
   unfolding toldBy
   lost a x = rw (le-ltb noBid (of .bids) (omega (arith, ok .few)))
 
-  admin : adminFits P ≡ true → {totals : List ℕ} → totals ≡ filled (λ z. autoTotal sheet (of .sealed) z (of .bids)) (of .years)
+  admin : adminFits P ≡ true → {totals : List ℕ} → totals ≡ filled (λ z. adminTotalOf sheet z (of .applications)) (of .years)
       → EndedAs sheet of (flatOf 0 totals becauseAdministrative atAdmin)
   unfolding flatOf
   admin t {totals} e = record {
@@ -173,12 +172,14 @@ module _ (sheet : List ℕ) (of : Size) (ok : Ready sheet of) where
     price = λ d h. at-start mostDeliveries d noPrice 0 h ∙ (unfold priceIn in rw t);
     total = λ y.
         ap (λ (l : List ℕ). getD l y 0) e
-        ∙ row-each (λ z. autoTotal sheet (of .sealed) z (of .bids)) (totalIn P) (of .years) (ok .years)
+        ∙ row-each (λ z. adminTotalOf sheet z (of .applications)) (totalIn P) (of .years) (ok .years)
         (λ z g. link.admin-total-is sheet of ok z g ∙ (unfold totalIn in rw t)) y;
     reason = λ k i. flat-reason becauseAdministrative k (λ e. omega arith) i ∙ (unfold reason in rw t);
-    app =
-        λ a silent h. ap (λ (w : ℕ). toldBy sheet of none a w (auto a silent)) (at-start mostApps a atAdmin 0 h) ∙ won-admin a (auto a silent)
-        ∙ (unfold toldIn potIn in rw t);
+    app = λ a h.
+        ap (λ (w : ℕ). toldBy sheet of none a w (automaticReason P a)) (at-start mostApps a atAdmin 0 (omega (arith, ok .apps)))
+        ∙ won-admin a (automaticReason P a)
+        ∙ (unfold toldIn potIn in rw (t, lt-ltb a (of .applications) h));
+    silent = rw t;
   }
 
   wide : adminFits P ≡ false → wideEnd (auction P) ≡ true → EndedAs sheet of (flatOf 2 (replicate 8 0) becauseTooWide noBid)
@@ -188,13 +189,15 @@ module _ (sheet : List ℕ) (of : Size) (ok : Ready sheet of) where
     price = λ d h. at-start mostDeliveries d noPrice 0 h ∙ (unfold priceIn in rw (t, u));
     total = λ y. repeated 8 y 0 ∙ case (ltb y (of .years)) (λ l. rw l (unfold totalIn in rw (t, u))) (λ l. rw l);
     reason = λ k i. flat-reason becauseTooWide k (λ e. omega arith) i ∙ (unfold reason in rw (t, u));
-    app =
-        λ a silent h. ap (λ (w : ℕ). toldBy sheet of none a w (auto a silent)) (at-start mostApps a noBid 0 h) ∙ lost a (auto a silent)
+    app = λ a h.
+        ap (λ (w : ℕ). toldBy sheet of none a w (automaticReason P a)) (at-start mostApps a noBid 0 (omega (arith, ok .apps)))
+        ∙ lost a (automaticReason P a)
         ∙ (unfold toldIn in rw (t, u));
+    silent = rw (t, u);
   }
 
   -- ---- one law for each return of `ended`: t is the answer of the first test, whose totals are `first`
-  module _ {first : List ℕ} {t : Bool} (ef : first ≡ filled (λ z. autoTotal sheet (of .sealed) z (of .bids)) (of .years))
+  module _ {first : List ℕ} {t : Bool} (ef : first ≡ filled (λ z. adminTotalOf sheet z (of .applications)) (of .years))
       (et : t ≡ rowFits sheet first (of .years)) where
     fits-first : t ≡ adminFits P
     fits-first = link.admin-fits sheet of ok ef et
@@ -213,11 +216,20 @@ module _ (sheet : List ℕ) (of : Size) (ok : Ready sheet of) where
   in-auction : (k : ℕ) → memb k (entrants sheet (of .entered)) ≡ memb k (P .bids)
   in-auction k = unfold potIn in ap (memb k) (ok .listed)
 
-  pub cleared : Numbered of → {e : End} → EndedAs sheet of e → {reasons : List ℕ} {apps : List Told}
+  -- an application has an automatic reason where none of the bids that enter is its own
+  automatic-told : (why a : ℕ) → a < mostApps → why ≡ by P becauseAdministrative becauseSilent becauseTooWide
+      → getD (automaticsOf sheet why (of .entered)) a 0 ≡ automaticReason P a
+  automatic-told why a h e =
+      automatics-at sheet why (of .entered) a (λ i l. ok .app (entrantAt sheet i) (entrant-small ok i l)) h
+      ∙ ap₂ (λ (l : List ℕ) (x : ℕ). pick (not (memb a (map (rowApp sheet) l))) x noReason) (ok .listed) e
+      ∙ (unfold automaticReason silent potIn in refl)
+
+  pub cleared : {e : End} → EndedAs sheet of e → {reasons automatics : List ℕ} {apps : List Told}
       → reasons ≡ reasonsOf sheet (e .marks) (e .won) (of .entered)
-      → apps ≡ appsOf sheet of (e .prices) (e .winning) reasons (of .bids - of .sealed)
+      → automatics ≡ automaticsOf sheet (e .silent) (of .entered)
+      → apps ≡ appsOf sheet of (e .prices) (e .winning) automatics (of .applications)
       → ClearedAs of P (record { outcome = e .outcome; prices = e .prices; totals = e .totals; apps = apps; reasons = reasons })
-  cleared N {e} E {reasons} {apps} er ea = record {
+  cleared {e} E {reasons} {automatics} {apps} er em ea = record {
     outcome = E .outcome;
     price = E .price;
     total = E .total;
@@ -231,16 +243,16 @@ module _ (sheet : List ℕ) (of : Size) (ok : Ready sheet of) where
           ∙ reasons-at sheet (e .marks) (e .won) (of .entered) k (λ i l. omega (arith, entrant-small ok i l, ok .few))
           ∙ rw (in-auction k) (case (memb k (P .bids)) (λ t. rw t (E .reason k (memb-in k (P .bids) t))) (λ f. rw f))
 
-      each-app : (a : ℕ) → getD (appsOf sheet of (e .prices) (e .winning) reasons (of .bids - of .sealed)) a untold
-          ≡ pick (ltb a (of .bids - of .sealed)) (toldIn (of .sealed) (memb (of .sealed + a) (P .bids)) P a) untold
+      each-app : (a : ℕ) → getD (appsOf sheet of (e .prices) (e .winning) automatics (of .applications)) a untold
+          ≡ pick (ltb a (of .applications)) (toldIn P a) untold
       each-app =
-          fill-each noApps (λ a. toldBy sheet of (e .prices) a (getD (e .winning) a 0) (getD reasons (of .sealed + a) 0))
-          (λ a. toldIn (of .sealed) (memb (of .sealed + a) (P .bids)) P a) (of .bids - of .sealed) untold long blank
-          (λ a h. ap (toldBy sheet of (e .prices) a (getD (e .winning) a 0)) (told (of .sealed + a))
-          ∙ E .app a (memb (of .sealed + a) (P .bids)) (omega (arith, N .apps)))
+          fill-each noApps (λ a. toldBy sheet of (e .prices) a (getD (e .winning) a 0) (getD automatics a 0)) (toldIn P) (of .applications) untold long blank
+          (λ a h. ap (toldBy sheet of (e .prices) a (getD (e .winning) a 0))
+          (ap (λ (l : List ℕ). getD l a 0) em ∙ automatic-told (e .silent) a (omega (arith, ok .apps)) (E .silent))
+          ∙ E .app a h)
         where
-          long : of .bids - of .sealed ≤ length noApps
-          long = unfold noApps in omega (arith, N .apps)
+          long : of .applications ≤ length noApps
+          long = unfold noApps in ok .apps
 
           blank : (a : ℕ) → getD noApps a untold ≡ untold
           blank a = unfold noApps in repeated mostApps a untold

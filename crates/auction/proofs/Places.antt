@@ -1,20 +1,20 @@
 -- What stands at each place of the arrays of a clearing. Assumes nothing.
 use Prim.Native.Nat.{ℕ, zero, suc, _≤_, _<_}
 use mathlib.Core.Path.{_≡_, refl, _∙_}
-use mathlib.Core.Bool.{Bool, _&&_}
-use mathlib.Core.List.{List, [], _∷_}
+use mathlib.Core.Bool.{Bool, not, _&&_}
+use mathlib.Core.List.{List, [], _∷_, map}
 use native.Mathlib.Omega.{arith}
 use lib.ListN.{length, getD, replicate, length-set}
 use lib.Dec.{eqb, ltb}
 use borrow.Author.Tests.{eqb-true, ne-eqb, lt-ltb, le-ltb}
 use native.Mathlib.Decide.{decLt}
-use Rattle.rules.specs.Names.{mostNumbers, mostApps, noBid, noReason, becauseWon}
+use Rattle.rules.specs.Names.{mostBids, mostApps, noBid, noReason, becauseWon}
 use Rattle.rules.specs.Lists.{pick, memb, sift, below}
 use Rattle.laws_pot.specs.Lists.{case}
 use Rattle.sheet.specs.Sheet.{rowApp, entrantAt, entrants}
 use Rattle.arrays.proofs.Arrays.{eqb-sym, put-is, at-start, fill-each, zeros}
 use Rattle.totals.specs.Totals.{noRow, filled}
-use Rattle.auction.specs.Numbers.{reasonAt, noReasons, reasonsOf, winningOf}
+use Rattle.auction.specs.Numbers.{reasonAt, noReasons, reasonsOf, automaticsOf, winningOf}
 
 -- a row of totals
 pub row-each : (f g : ℕ → ℕ) (n : ℕ) → n ≤ 8 → ((y : ℕ) → y < n → f y ≡ g y) → (y : ℕ) → getD (filled f n) y 0 ≡ pick (ltb y n) (g y) 0
@@ -28,20 +28,37 @@ row-each f g n h q y = fill-each noRow f g n 0 (long h) blank q y
 
 -- ---- reasons
 
-reasons-length : (sheet marks : List ℕ) (won : List Bool) (j : ℕ) → length (reasonsOf sheet marks won j) ≡ mostNumbers
+reasons-length : (sheet marks : List ℕ) (won : List Bool) (j : ℕ) → length (reasonsOf sheet marks won j) ≡ mostBids
 unfolding reasonsOf
 reasons-length sheet marks won zero = unfold noReasons in refl
 reasons-length sheet marks won (suc j) =
     length-set (reasonsOf sheet marks won j) (entrantAt sheet j) (reasonAt sheet marks won (entrantAt sheet j)) ∙ reasons-length sheet marks won j
 
-pub reasons-at : (sheet marks : List ℕ) (won : List Bool) (j k : ℕ) → ((i : ℕ) → i < j → entrantAt sheet i < mostNumbers)
+pub reasons-at : (sheet marks : List ℕ) (won : List Bool) (j k : ℕ) → ((i : ℕ) → i < j → entrantAt sheet i < mostBids)
     → getD (reasonsOf sheet marks won j) k 0 ≡ pick (memb k (entrants sheet j)) (reasonAt sheet marks won k) noReason
 unfolding reasonsOf entrants
-reasons-at sheet marks won zero k h = unfold noReasons in zeros mostNumbers k
+reasons-at sheet marks won zero k h = unfold noReasons in zeros mostBids k
 reasons-at sheet marks won (suc j) k h =
     let e = entrantAt sheet j in
     put-is (reasonsOf sheet marks won j) e k (reasonAt sheet marks won e) 0 (omega (arith, reasons-length sheet marks won j, h j (omega arith)))
     ∙ case (eqb k e) (λ t. rw (t, eqb-true k e t)) (λ f. rw f (reasons-at sheet marks won j k (λ i l. h i (omega arith))))
+
+-- ---- automatic reasons
+
+automatics-length : (sheet : List ℕ) (why j : ℕ) → length (automaticsOf sheet why j) ≡ mostApps
+unfolding automaticsOf
+automatics-length sheet why zero = refl
+automatics-length sheet why (suc j) = length-set (automaticsOf sheet why j) (rowApp sheet (entrantAt sheet j)) noReason ∙ automatics-length sheet why j
+
+-- none where one of the bids passed is of the application
+pub automatics-at : (sheet : List ℕ) (why j a : ℕ) → ((i : ℕ) → i < j → rowApp sheet (entrantAt sheet i) < mostApps) → a < mostApps
+    → getD (automaticsOf sheet why j) a 0 ≡ pick (not (memb a (map (rowApp sheet) (entrants sheet j)))) why noReason
+unfolding automaticsOf entrants
+automatics-at sheet why zero a h l = at-start mostApps a why 0 l
+automatics-at sheet why (suc j) a h l =
+    let e = rowApp sheet (entrantAt sheet j) in
+    put-is (automaticsOf sheet why j) e a noReason 0 (omega (arith, automatics-length sheet why j, h j (omega arith)))
+    ∙ case (eqb a e) (λ t. rw t) (λ f. rw f (automatics-at sheet why j a (λ i g. h i (omega arith)) l))
 
 -- ---- winning bids
 

@@ -1,15 +1,15 @@
 -- What the functions of `auction` compute from the arrays of a pot that has come to its end. Assumes nothing.
-use Prim.Native.Nat.{ℕ, zero, suc, _+_, min}
+use Prim.Native.Nat.{ℕ, zero, suc, min}
 use mathlib.Core.Bool.{Bool, false}
 use mathlib.Core.List.{List}
 use lib.ListN.{getD, set, replicate}
 use lib.Dec.{eqb, ltb}
-use Rattle.rules.specs.Names.{mostNumbers, mostApps, mostDeliveries, auctioned, noPrice, automaticBid, noBid, noReason, becauseWon, unlookedWon, unlookedElse}
+use Rattle.rules.specs.Names.{mostBids, mostApps, mostDeliveries, auctioned, noPrice, noBid, noReason, becauseWon, unlookedWon, unlookedElse, becauseSilent}
 use Rattle.rules.specs.Lists.{pick}
 use Rattle.result.specs.Tells.{untold}
 use Rattle.rules.specs.declared.Told.{Told}
 use Rattle.sheet.specs.declared.Size.{Size}
-use Rattle.sheet.specs.Sheet.{entrantAt, rowApp, rowYear, rowPrice, rowAdmin}
+use Rattle.sheet.specs.Sheet.{entrantAt, adminAt, rowApp, rowYear, rowAdmin}
 use Rattle.arrays.specs.Sets.{fill}
 use Rattle.pot.specs.declared.PotState.{PotState}
 use Rattle.auction.specs.declared.End.{End}
@@ -24,7 +24,7 @@ unfoldable pub reasonAt : (sheet marks : List ℕ) → List Bool → (k : ℕ) �
 reasonAt sheet marks won k = reasonBy (getD marks k 0) (getD won (rowApp sheet k) false)
 
 unfoldable pub noReasons : List ℕ
-noReasons = replicate mostNumbers noReason
+noReasons = replicate mostBids noReason
 
 -- those of the first j bids that enter the auction
 unfoldable pub reasonsOf : (sheet marks : List ℕ) → List Bool → (j : ℕ) → List ℕ
@@ -33,6 +33,11 @@ reasonsOf sheet marks won (suc j) = set (reasonsOf sheet marks won j) (entrantAt
 
 -- ---- applications
 
+-- the automatic reasons, where those of the applications of the first j bids of the pot are known to be none
+unfoldable pub automaticsOf : (sheet : List ℕ) (why j : ℕ) → List ℕ
+automaticsOf sheet why zero = replicate mostApps why
+automaticsOf sheet why (suc j) = set (automaticsOf sheet why j) (rowApp sheet (entrantAt sheet j)) noReason
+
 -- the winning bid of each application, among the bids below m
 unfoldable pub winningOf : (sheet marks : List ℕ) → (m : ℕ) → List ℕ
 winningOf sheet marks zero = replicate mostApps noBid
@@ -40,27 +45,23 @@ winningOf sheet marks (suc k) = pick (eqb (getD marks k 0) becauseWon) (set (win
 
 -- no bid's number: the application won at its administrative price
 abbrev pub atAdmin : ℕ
-atAdmin = mostNumbers
-
--- a winning bid as it is told
-unfoldable pub bidBy : Size → (w : ℕ) → ℕ
-bidBy of w = pick (ltb w (of .sealed)) w automaticBid
+atAdmin = mostBids
 
 -- what is told of application a: it won with bid w, or at its administrative price, or it lost
-unfoldable pub toldBy : (sheet : List ℕ) (of : Size) (prices : List ℕ) (a w auto : ℕ) → Told
-toldBy sheet of prices a w auto =
+unfoldable pub toldBy : (sheet : List ℕ) (of : Size) (prices : List ℕ) (a w why : ℕ) → Told
+toldBy sheet of prices a w why =
     pick (ltb w (of .bids))
-    (record { won = 1; bid = bidBy of w; reason = auto; paid = min (getD prices (rowYear sheet w) 0) (rowAdmin sheet w) })
+    (record { won = 1; bid = w; reason = why; paid = min (getD prices (rowYear sheet w) 0) (rowAdmin sheet w) })
     (pick (eqb w atAdmin)
-    (record { won = 1; bid = noBid; reason = auto; paid = rowPrice sheet (of .sealed + a) })
-    (record { won = 0; bid = noBid; reason = auto; paid = 0 }))
+    (record { won = 1; bid = noBid; reason = why; paid = adminAt sheet a })
+    (record { won = 0; bid = noBid; reason = why; paid = 0 }))
 
 unfoldable pub noApps : List Told
 noApps = replicate mostApps untold
 
--- of the first n applications, from what each won with and all reasons
-abbrev pub appsOf : (sheet : List ℕ) (of : Size) (prices winning reasons : List ℕ) → (n : ℕ) → List Told
-appsOf sheet of prices winning reasons n = fill noApps (λ a. toldBy sheet of prices a (getD winning a 0) (getD reasons (of .sealed + a) 0)) n
+-- of the first n applications, from what each won with and their automatic reasons
+abbrev pub appsOf : (sheet : List ℕ) (of : Size) (prices winning automatics : List ℕ) → (n : ℕ) → List Told
+appsOf sheet of prices winning automatics n = fill noApps (λ a. toldBy sheet of prices a (getD winning a 0) (getD automatics a 0)) n
 
 -- ---- how a pot ended
 
@@ -70,9 +71,10 @@ flatOf outcome totals mark w = record {
   outcome = outcome;
   prices = replicate mostDeliveries noPrice;
   totals = totals;
-  marks = replicate mostNumbers mark;
+  marks = replicate mostBids mark;
   won = replicate mostApps false;
   winning = replicate mostApps w;
+  silent = mark;
 }
 
 -- outcome 1
@@ -84,4 +86,5 @@ soldOf sheet of s = record {
   marks = s .marks;
   won = s .won;
   winning = winningOf sheet (s .marks) (of .bids);
+  silent = becauseSilent;
 }

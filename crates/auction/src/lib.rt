@@ -1,13 +1,13 @@
 // The clearing of one pot: the first test, the auction, and what is told of the pot, of its applications and of its bids. specs/Cleared.antt says what it is in
 // the words of the rules, specs/Numbers.antt what each function computes.
 ghost use mathlib.Core.Path.{_≡_};
-ghost use Prim.Native.Nat.{_+_, _-_, _<_};
+ghost use Prim.Native.Nat.{_<_};
 ghost use Rattle.sheet.specs.Sheet.{potIn, Ready};
-ghost use Rattle.auction.specs.Cleared.{Numbered, EndedAs, ClearedAs};
-ghost use Rattle.auction.specs.Numbers.{reasonBy, reasonsOf, winningOf, bidBy, toldBy, appsOf, flatOf, soldOf};
-use names::MOST_APPS;
+ghost use Rattle.auction.specs.Cleared.{EndedAs, ClearedAs};
+ghost use Rattle.auction.specs.Numbers.{reasonBy, reasonsOf, automaticsOf, winningOf, toldBy, appsOf, flatOf, soldOf};
+use names::APPS;
+use names::BIDS;
 use names::MOST_DELIVERIES;
-use names::NUMBERS;
 use pot::PotState;
 use rules::Told;
 use sheet::COLUMNS;
@@ -19,23 +19,24 @@ pub struct Cleared {
     pub outcome: u64,
     pub prices: [u64; MOST_DELIVERIES],
     pub totals: [u64; COLUMNS],
-    pub apps: [Told; MOST_APPS as usize],
-    pub reasons: [u64; NUMBERS],
+    pub apps: [Told; APPS],
+    pub reasons: [u64; BIDS],
 }
 
-// How a pot ended: its outcome, clearing prices and totals; the mark of each bid and which applications won, from which the reasons are told; and with what
-// each application won: the number of its bid, AT_ADMIN, or NO_BID where it lost.
+// How a pot ended: its outcome, clearing prices and totals; the mark of each bid and which applications won, from which the reasons are told; with what
+// each application won: the number of its bid, AT_ADMIN, or NO_BID where it lost; and the reason that is told of one without a sealed bid.
 struct End {
     outcome: u64,
     prices: [u64; MOST_DELIVERIES],
     totals: [u64; COLUMNS],
-    marks: [u16; NUMBERS],
-    won: [bool; MOST_APPS as usize],
-    winning: [u64; MOST_APPS as usize],
+    marks: [u16; BIDS],
+    won: [bool; APPS],
+    winning: [u64; APPS],
+    silent: u64,
 }
 
 // No bid has this number: the application won at its administrative price.
-const AT_ADMIN: u64 = NUMBERS as u64;
+const AT_ADMIN: u64 = BIDS as u64;
 
 // The reason of a bid by its mark: where it was not looked at, 4 if its application won and else 5.
 fn reason(mark: u16, won: bool) -> u64
@@ -52,16 +53,11 @@ fn reason(mark: u16, won: bool) -> u64
 }
 
 // The reasons of the bids of the auction, by their numbers.
-fn reasons(
-    sheet: &Sheet,
-    of: Size,
-    marks: [u16; NUMBERS],
-    won: [bool; MOST_APPS as usize],
-) -> [u64; NUMBERS]
+fn reasons(sheet: &Sheet, of: Size, marks: [u16; BIDS], won: [bool; APPS]) -> [u64; BIDS]
     requires { ⌜ Ready (now sheet) of ⌝ }
     ensures { λ r. ⌜ r ≡ reasonsOf (now (sheet .entry)) marks won (of .entered) ⌝ }
 {
-    let mut out = [names::NO_REASON; NUMBERS];
+    let mut out = [names::NO_REASON; BIDS];
     let m = of.entered;
     let mut j: usize = 0;
     while j < m {
@@ -74,11 +70,11 @@ fn reasons(
 }
 
 // The number of each application's winning bid.
-fn winning(sheet: &Sheet, of: Size, marks: [u16; NUMBERS]) -> [u64; MOST_APPS as usize]
+fn winning(sheet: &Sheet, of: Size, marks: [u16; BIDS]) -> [u64; APPS]
     requires { ⌜ Ready (now sheet) of ⌝ }
     ensures { λ r. ⌜ r ≡ winningOf (now (sheet .entry)) marks (of .bids) ⌝ }
 {
-    let mut out = [names::NO_BID; MOST_APPS as usize];
+    let mut out = [names::NO_BID; APPS];
     let m = of.bids;
     let mut k: usize = 0;
     while k < m {
@@ -91,30 +87,27 @@ fn winning(sheet: &Sheet, of: Size, marks: [u16; NUMBERS]) -> [u64; MOST_APPS as
     out
 }
 
-// The winning bid w as it is told: its number, or that it is automatic.
-fn bid(of: Size, w: u64) -> u64
-    ensures { λ r. ⌜ r ≡ bidBy of w ⌝ }
+// The automatic reasons of the applications: none for those that have a bid in the pot, and `why` for the others.
+fn automatics(sheet: &Sheet, of: Size, why: u64) -> [u64; APPS]
+    requires { ⌜ Ready (now sheet) of ⌝ }
+    ensures { λ r. ⌜ r ≡ automaticsOf (now (sheet .entry)) why (of .entered) ⌝ }
 {
-    if w < of.sealed as u64 {
-        w
-    } else {
-        names::AUTOMATIC_BID
+    let mut out = [why; APPS];
+    let m = of.entered;
+    let mut j: usize = 0;
+    while j < m {
+        let a = sheet::app(sheet, sheet::entrant(sheet, j));
+        out[a] = names::NO_REASON;
+        j += 1;
     }
+    out
 }
 
-// What is told of application a, which won with w or lost, and the reason of whose automatic bid is told as `auto`: with a bid it is paid its year's clearing
-// price, capped.
-fn told(
-    sheet: &Sheet,
-    of: Size,
-    prices: [u64; MOST_DELIVERIES],
-    a: usize,
-    w: u64,
-    auto: u64,
-) -> Told
+// What is told of application a, which won with w or lost, and whose automatic reason is `why`: with a bid it is paid its year's clearing price, capped.
+fn told(sheet: &Sheet, of: Size, prices: [u64; MOST_DELIVERIES], a: usize, w: u64, why: u64) -> Told
     requires ready { ⌜ Ready (now sheet) of ⌝ }
-    requires known { ⌜ of .sealed + a < of .bids ⌝ }
-    ensures { λ r. ⌜ r ≡ toldBy (now (sheet .entry)) of prices a w auto ⌝ }
+    requires known { ⌜ a < of .applications ⌝ }
+    ensures { λ r. ⌜ r ≡ toldBy (now (sheet .entry)) of prices a w why ⌝ }
 {
     let k = w as usize;
     if k < of.bids {
@@ -122,39 +115,38 @@ fn told(
         let paid = value::capped(prices[d], sheet::admin(sheet, k));
         return Told {
             won: 1,
-            bid: bid(of, w),
-            reason: auto,
+            bid: w,
+            reason: why,
             paid,
         };
     }
     if w == AT_ADMIN {
-        let paid = sheet::price(sheet, of.sealed + a);
+        let paid = sheet::admin_price(sheet, a);
         return Told {
             won: 1,
             bid: names::NO_BID,
-            reason: auto,
+            reason: why,
             paid,
         };
     }
     Told {
         won: 0,
         bid: names::NO_BID,
-        reason: auto,
+        reason: why,
         paid: 0,
     }
 }
 
-// What is told of the applications, from what each won with and the reasons of all bids.
+// What is told of the applications, from what each won with and their automatic reasons.
 fn apps(
     sheet: &Sheet,
     of: Size,
     prices: [u64; MOST_DELIVERIES],
-    winning: [u64; MOST_APPS as usize],
-    reasons: [u64; NUMBERS],
-) -> [Told; MOST_APPS as usize]
-    requires ready { ⌜ Ready (now sheet) of ⌝ }
-    requires numbered { ⌜ Numbered of ⌝ }
-    ensures { λ r. ⌜ r ≡ appsOf (now (sheet .entry)) of prices winning reasons (of .bids - of .sealed) ⌝ }
+    winning: [u64; APPS],
+    automatics: [u64; APPS],
+) -> [Told; APPS]
+    requires { ⌜ Ready (now sheet) of ⌝ }
+    ensures { λ r. ⌜ r ≡ appsOf (now (sheet .entry)) of prices winning automatics (of .applications) ⌝ }
 {
     let nothing = Told {
         won: 0,
@@ -162,19 +154,18 @@ fn apps(
         reason: 0,
         paid: 0,
     };
-    let mut out = [nothing; MOST_APPS as usize];
-    let b = of.sealed;
-    let n = of.bids - b;
+    let mut out = [nothing; APPS];
+    let n = of.applications;
     let mut a: usize = 0;
     while a < n {
-        let t = told(sheet, of, prices, a, winning[a], reasons[b + a]);
+        let t = told(sheet, of, prices, a, winning[a], automatics[a]);
         out[a] = t;
         a += 1;
     }
     out
 }
 
-// Outcomes 0 and 2: no price, one mark for all bids, and all applications won with w, or lost.
+// Outcomes 0 and 2: no price, one mark for all bids, which is also the reason of applications without one, and all applications won with w, or lost.
 fn flat(outcome: u64, totals: [u64; COLUMNS], mark: u16, w: u64) -> End
     ensures { λ r. ⌜ r ≡ flatOf outcome totals mark w ⌝ }
 {
@@ -182,9 +173,10 @@ fn flat(outcome: u64, totals: [u64; COLUMNS], mark: u16, w: u64) -> End
         outcome,
         prices: [names::NO_PRICE; MOST_DELIVERIES],
         totals,
-        marks: [mark; NUMBERS],
-        won: [false; MOST_APPS as usize],
-        winning: [w; MOST_APPS as usize],
+        marks: [mark; BIDS],
+        won: [false; APPS],
+        winning: [w; APPS],
+        silent: mark as u64,
     }
 }
 
@@ -205,6 +197,7 @@ fn sold(sheet: &Sheet, of: Size, s: PotState) -> End
         marks,
         won,
         winning,
+        silent: names::BECAUSE_SILENT,
     }
 }
 
@@ -236,8 +229,7 @@ fn ended(sheet: &Sheet, of: Size) -> End
 
 // The clearing of the pot that a sheet shows: it ends, and what is told of its applications and bids is told from how it ended, whatever the outcome.
 pub fn clear_pot(sheet: &Sheet, of: Size) -> Cleared
-    requires ready { ⌜ Ready (now sheet) of ⌝ }
-    requires numbered { ⌜ Numbered of ⌝ }
+    requires { ⌜ Ready (now sheet) of ⌝ }
     ensures { λ r. ⌜ ClearedAs of (potIn (now (sheet .entry)) of) r ⌝ }
 {
     let e = ended(sheet, of);
@@ -246,7 +238,8 @@ pub fn clear_pot(sheet: &Sheet, of: Size) -> Cleared
     let reasons = reasons(sheet, of, marks, won);
     let prices = e.prices;
     let winning = e.winning;
-    let apps = apps(sheet, of, prices, winning, reasons);
+    let automatics = automatics(sheet, of, e.silent);
+    let apps = apps(sheet, of, prices, winning, automatics);
     let totals = e.totals;
     Cleared {
         outcome: e.outcome,

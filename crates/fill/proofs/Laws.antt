@@ -1,7 +1,7 @@
 -- The laws of the filling, over plain variables: one for each return and each turn of a loop. Assumes nothing.
 use Prim.Native.Nat.{ℕ, zero, suc, _+_, _-_, _*_, _≤_, _<_}
 use mathlib.Core.Path.{_≡_, refl, sym, ap, subst, _∙_}
-use mathlib.Core.Bool.{Bool, true, false}
+use mathlib.Core.Bool.{Bool, true, false, not}
 use mathlib.Core.List.{List, [], _∷_}
 use native.Mathlib.Numerals.{add-one}
 use native.Mathlib.Omega.{arith}
@@ -9,21 +9,22 @@ use native.Mathlib.Nat.{add-zero, le-antisymm, mul-le-mul-right}
 use lib.ListN.{length, getD, set, take, drop, length-set, getD-replicate}
 use lib.Seq.{getD-drop, getD-set-same, getD-set-other}
 use lib.Dec.{eqb}
-use borrow.Author.Tests.{eqb-true, eqb-false, eq-eqb, ne-eqb}
-use Rattle.rules.specs.Names.{mostYears, potWidth, mostNumbers, pencePerPound, highestBudget}
+use borrow.Author.Tests.{eqb-true, eqb-false, eq-eqb, ne-eqb, lt-ltb, le-ltb}
+use Rattle.rules.specs.Names.{mostYears, mostBids, mostApps, potWidth, pencePerPound, highestBudget}
 use Rattle.rules.specs.Lists.{pick, sift, below}
 use Rattle.rules.specs.Bytes.{part}
-use Rattle.rules.specs.File.{Round, App, Bid, appAt, budgetAt}
-use Rattle.rules.specs.Round.{bidOf, mine, enters}
+use Rattle.rules.specs.File.{Round, App, Bid, appAt, bidAt, budgetAt}
+use Rattle.rules.specs.Round.{Row, blank, atAdminPrice, mine, appMine, rowFor}
 use Rattle.laws_pot.specs.Lists.{case}
 use Rattle.laws_reading.specs.Reading.{Sound}
+use Rattle.laws_round.specs.Bids.{app-in}
 use Rattle.layout.specs.Layout.{Room}
-use Rattle.sheet.specs.Sheet.{entrantsAt, absent, entered, spare, rowStanding, entrantAt, entrants, inAuction, rowPlace, figurePlace, figuresPlace}
-use Rattle.sheet.specs.Sheet.{sheetLength, figuresAt}
-use Rattle.rows.specs.Rows.{standingOf, rowNumbers, figureNumbers, figuresIn}
+use Rattle.sheet.specs.Sheet.{entrantsAt, absent, entered, rowStanding, entrantAt, entrants, inAuction, inTest, rowPlace, figurePlace, figuresPlace}
+use Rattle.sheet.specs.Sheet.{sheetLength, adminsAt, adminAt, figuresAt, places, appPlace}
+use Rattle.rows.specs.Rows.{rowOf, adminRow, rowNumbers, figureNumbers, figuresIn}
 use Rattle.rows.proofs.Laws.{figure-blank, figure-own}
-use Rattle.fill.specs.Fill.{BlankFigures, Stands, Kept, Rest, Put, Figured, RowsRight, FiguresRight, AllFigures, LimitsRight, FiguresOf, FiguresWritten}
-use Rattle.fill.specs.Fill.{Entered}
+use Rattle.fill.specs.Fill.{BlankAdmins, BlankFrom, Stands, Kept, Rest, Put, Figured, placed, RowsRight, AdminsRight, FiguresRight, AllFigures, LimitsRight}
+use Rattle.fill.specs.Fill.{AdminsWritten, FiguresOf, FiguresWritten, Entered}
 
 -- ---- the record of a pot
 
@@ -94,10 +95,10 @@ figures-more R t b k y {v} {s} {u} f e q =
     (λ j l. stays s u (figuresIn R t b j) (figurePlace k y) (figurePlace k j) (f j l) (q .kept) (omega arith))
     (put-stands (figurePlace k y) e q)
 
--- those of a bid of the pot are right
-pub figures-own : (R : Round) (p k : ℕ) {x : Bid} {a : App} (s : List ℕ) → mine R p k ≡ true → x ≡ bidOf R k → a ≡ appAt (R .apps) (x .app)
-    → Figured R (a .tech) x k (R .y) s → FiguresRight R p k (R .y) s
-figures-own R p k s m ex ea f y l = subst (λ (v : List ℕ). Stands v s (figurePlace k y)) (figure-own R p k (sym m) refl ex ea y l refl) (f y l)
+-- those of a bid whose technology was read are right
+pub figures-own : (R : Round) (k : ℕ) (x : Bid) {a : App} (s : List ℕ) → a ≡ appAt (R .apps) (x .app) → Figured R (a .tech) x k (R .y) s
+    → FiguresRight R (rowFor R x) k s
+figures-own R k x s ea f y l = subst (λ (v : List ℕ). Stands v s (figurePlace k y)) (figure-own R x ea y l) (f y l)
 
 -- a budget, read in the part that the pots occupy, is within its range
 pub budget-in : (R : Round) (p y : ℕ) {pots : List ℕ} {x : ℕ} → Sound R → pots ≡ R .pots → p < R .p → y < R .y → x ≡ budgetAt (R .y) pots p y
@@ -123,69 +124,161 @@ rest-set n i s t x h f j l = getD-set-other t i j x 0 (λ z. omega arith) ∙ f 
 pub kept-set : (n i : ℕ) (s t : List ℕ) (x : ℕ) → n ≤ i → Kept n s t → Kept n s (set t i x)
 kept-set n i s t x h f j l = getD-set-other t i j x 0 (λ z. omega arith) ∙ f j l
 
--- ---- bids of other pots
+-- ---- bids and applications of other pots
 
--- the standing of a bid is 0 where it is not of the pot, and only there
-present : (own enter : Bool) → (pick own (pick enter entered spare) absent ≡ 0 → ⊥) → own ≡ true
-present true enter n = refl
-present false enter n = absurd (n refl)
+-- the standing of a bid says whether it is of the pot; whether bid k is, by its standing in a sheet t that has the rows of s
+pub own-test : (own : Bool) → eqb (pick own entered absent) entered ≡ own
+own-test true = refl
+own-test false = refl
 
-missing : (own enter : Bool) → pick own (pick enter entered spare) absent ≡ 0 → own ≡ false
-missing true true e = absurd (omega arith)
-missing true false e = absurd (omega arith)
-missing false enter e = refl
+pub of-pot : (R : Round) (p k : ℕ) (s t : List ℕ) {q : Bool} → k < mostBids → RowsRight R p mostBids s → Rest (rowPlace k) s t → q ≡ inAuction t k → q ≡ mine R p k
+unfolding rowStanding rowNumbers
+of-pot R p k s t h f same e =
+    e ∙ ap (λ (x : ℕ). eqb x entered)
+    (same (rowPlace k) (omega arith) ∙ ap (λ (i : ℕ). getD s i 0) (sym (add-zero (rowPlace k))) ∙ f k h 0 (omega arith))
+    ∙ own-test (mine R p k)
 
--- whether bid k is of the pot, by its standing in a sheet t that has the rows of s
-module _ (R : Round) (p k : ℕ) (s t : List ℕ) {q : ℕ} (h : k < mostNumbers) (f : RowsRight R p mostNumbers s) (same : Rest (rowPlace k) s t)
-    (e : q ≡ rowStanding t k) where
-  standing-at : q ≡ standingOf R p k
-  unfolding rowStanding rowNumbers
-  standing-at = e ∙ same (rowPlace k) (omega arith) ∙ ap (λ (i : ℕ). getD s i 0) (sym (add-zero (rowPlace k))) ∙ f k h 0 (omega arith)
+-- an administrative price is never 0, so that it says the same of an application
+module _ (R : Round) (S : Sound R) (p a : ℕ) where
+  pub price-own : {x : Bid} → appMine R p a ≡ true → x ≡ atAdminPrice R a → x .price ≡ adminRow R p a .admin
+  unfolding adminRow rowFor atAdminPrice
+  price-own m e = rw m (ap (λ (x : Bid). x .price) e)
 
-  pub of-pot : (q ≡ 0 → ⊥) → mine R p k ≡ true
-  unfolding standingOf
-  of-pot n = present (mine R p k) (enters R k) (λ z. n (standing-at ∙ z))
+  pub price-none : appMine R p a ≡ false → 0 ≡ adminRow R p a .admin
+  unfolding adminRow
+  price-none m = rw m
 
-  pub of-another : q ≡ 0 → mine R p k ≡ false
-  unfolding standingOf
-  of-another z = missing (mine R p k) (enters R k) (sym standing-at ∙ z)
+  price-some : appMine R p a ≡ true → adminRow R p a .admin ≡ 0 → ⊥
+  unfolding adminRow rowFor atAdminPrice
+  price-some m =
+      let h = app-in R p a m .0 in
+      let x = S .app a h in
+      let l = S .tech _ (x .tech) .admin (appAt (R .apps) a .year) (omega (arith, x .year, S .few)) (x .year) .0 in
+      rw m (λ e. omega (arith, l))
 
--- ---- the figures of all bids
+  pub in-test : (s : List ℕ) → adminAt s a ≡ adminRow R p a .admin → inTest s a ≡ appMine R p a
+  in-test s e =
+      ap (λ (x : ℕ). not (eqb x 0)) e
+      ∙ case (appMine R p a) (λ t. rw (ne-eqb _ 0 (price-some t), t)) (λ t. rw (eq-eqb _ 0 (sym (price-none t)), t))
 
--- in t the figures of the first k bids are right, and what comes after them is as in s
+  -- whether application a is of the pot, by its price in a sheet t that has the prices of s
+  pub of-test : (s t : List ℕ) {q : Bool} → a < mostApps → AdminsRight R p mostApps s → Kept figuresAt s t → q ≡ inTest t a → q ≡ appMine R p a
+  of-test s t h f same e = e ∙ in-test t (unfold adminAt in same (adminsAt + a) (omega arith) ∙ f a h)
+
+-- so far: the prices of the first n applications are right, and those after them as they were
+pub record Priced (R : Round) (p n : ℕ) (s t : List ℕ) : Type 0 where
+  pub right : AdminsRight R p n t
+  pub kept : Kept adminsAt s t
+  pub rest : Rest (adminsAt + n) s t
+  pub same : length t ≡ sheetLength
+
+pub priced-none : (R : Round) (p : ℕ) (s : List ℕ) → length s ≡ sheetLength → Priced R p 0 s s
+priced-none R p s h = record { right = λ a l. absurd (omega arith); kept = λ j l. refl; rest = λ j l. refl; same = h }
+
+module _ (R : Round) (p a : ℕ) {s t : List ℕ} (d : Priced R p a s t) where
+  pub priced-own : {g : List ℕ} {x : ℕ} → g ≡ set t (adminsAt + a) x → a < mostApps → x ≡ adminRow R p a .admin → Priced R p (a + 1) s g
+  priced-own {x = x} e h q = rw e (record {
+    right = and-next (λ b. getD (set t (adminsAt + a) x) (adminsAt + b) 0 ≡ adminRow R p b .admin) a
+        (λ b l. getD-set-other t (adminsAt + a) (adminsAt + b) x 0 (λ z. omega arith) ∙ d .right b l)
+        (getD-set-same t (adminsAt + a) x 0 (omega (arith, d .same)) ∙ q);
+    kept = kept-set adminsAt (adminsAt + a) s t x (omega arith) (d .kept);
+    rest = λ j l. getD-set-other t (adminsAt + a) j x 0 (λ z. omega arith) ∙ d .rest j (omega arith);
+    same = length-set t (adminsAt + a) x ∙ d .same;
+  })
+
+  pub priced-other : {g : List ℕ} → g ≡ t → a < mostApps → BlankAdmins s → 0 ≡ adminRow R p a .admin → Priced R p (a + 1) s g
+  priced-other e h b q = rw e (record {
+    right = and-next (λ b. getD t (adminsAt + b) 0 ≡ adminRow R p b .admin) a (d .right)
+        (d .rest (adminsAt + a) (omega arith) ∙ b (adminsAt + a) (omega arith) (omega arith) ∙ q);
+    kept = d .kept;
+    rest = λ j l. d .rest j (omega arith);
+    same = d .same;
+  })
+
+pub priced-all : (R : Round) (p : ℕ) {n : ℕ} {s t : List ℕ} → n ≤ mostApps → mostApps ≤ n → Priced R p n s t → AdminsWritten R p s t
+priced-all R p {n} {s} {t} h l d = record {
+  right = all-of (λ n. AdminsRight R p n t) (d .right) h l;
+  kept = d .kept;
+  rest = λ j g. d .rest j (omega arith);
+  long = d .same;
+}
+
+-- ---- the figures at all places
+
+-- in t the figures at the first k places are right; what stands before the figures, and after those, is as in s
 pub record Done (R : Round) (p k : ℕ) (s t : List ℕ) : Type 0 where
   pub right : AllFigures R p k t
+  pub kept : Kept figuresAt s t
   pub rest : Rest (figuresPlace k) s t
 
--- none yet
-pub done-none : (R : Round) (p : ℕ) (s : List ℕ) → Done R p 0 s s
-done-none R p s = record { right = λ k h. absurd (omega arith); rest = λ j h. refl }
+-- where nothing has been done
+pub done-yet : (R : Round) (p k : ℕ) (s : List ℕ) → AllFigures R p k s → Done R p k s s
+done-yet R p k s f = record { right = f; kept = λ j h. refl; rest = λ j h. refl }
 
 module _ (R : Round) (p k : ℕ) {s t : List ℕ} (d : Done R p k s t) where
-  -- one bid more, which is of the pot: its figures were written, in u
-  pub done-own : {u g : List ℕ} → g ≡ u → R .y ≤ mostYears → FiguresOf R p k t u → Done R p (k + 1) s g
+  -- one place more, where figures were written, in u
+  pub done-own : {u g : List ℕ} (x : Bid) {a : App} → g ≡ u → R .y ≤ mostYears → a ≡ appAt (R .apps) (x .app) → rowFor R x ≡ placed R p k
+      → FiguresOf R (a .tech) x k t u → Done R p (k + 1) s g
   unfolding figureNumbers
-  done-own {u} e h f = subst (Done R p (k + 1) s) (sym e) record {
-    right = and-next (λ k. FiguresRight R p k (R .y) u) k
-        (λ j q i m. stays t u (figureNumbers R p j i) (figuresPlace k) (figurePlace j i) (d .right j q i m) (f .kept) (omega arith)) (f .right);
-    rest = λ j q. f .rest j (omega arith) ∙ d .rest j (omega arith);
+  done-own {u} x e h ea q f = subst (Done R p (k + 1) s) (sym e) record {
+    right = and-next (λ k. FiguresRight R (placed R p k) k u) k
+        (λ j g i m. stays t u (figureNumbers R (placed R p j) i) (figuresPlace k) (figurePlace j i) (d .right j g i m) (f .kept) (omega arith))
+        (subst (λ (r : Row). FiguresRight R r k u) q (figures-own R k x u ea (f .right)));
+    kept = λ j g. f .kept j (omega arith) ∙ d .kept j g;
+    rest = λ j g. f .rest j (omega arith) ∙ d .rest j (omega arith);
   }
 
-  -- one bid more, which is of another pot: its figures are left zeros
-  pub done-other : {g : List ℕ} → g ≡ t → k < mostNumbers → R .y ≤ mostYears → BlankFigures s → mine R p k ≡ false → Done R p (k + 1) s g
+  -- one place more, of another pot: its figures are left zeros
+  pub done-other : {g : List ℕ} → g ≡ t → k < places → R .y ≤ mostYears → (from : ℕ) → from ≤ k → BlankFrom from s → blank ≡ placed R p k → Done R p (k + 1) s g
   unfolding figureNumbers
-  done-other e n y b m = subst (Done R p (k + 1) s) (sym e) record {
-    right = and-next (λ k. FiguresRight R p k (R .y) t) k (d .right)
-        (λ i l j h. d .rest (figurePlace k i + j) (omega arith) ∙ b (figurePlace k i + j) (omega arith) ∙ sym (getD-replicate 3 j 0 0 h)
-        ∙ ap (λ (v : List ℕ). getD v j 0) (figure-blank R p k (sym m) i refl));
-    rest = λ j q. d .rest j (omega arith);
+  done-other e n y from u b q = subst (Done R p (k + 1) s) (sym e) record {
+    right = and-next (λ k. FiguresRight R (placed R p k) k t) k (d .right)
+        (subst (λ (r : Row). FiguresRight R r k t) q
+        (λ i l j h. d .rest (figurePlace k i + j) (omega arith) ∙ b (figurePlace k i + j) (omega arith) (omega arith) ∙ sym (getD-replicate 3 j 0 0 h)
+        ∙ ap (λ (v : List ℕ). getD v j 0) (figure-blank R i)));
+    kept = d .kept;
+    rest = λ j g. d .rest j (omega arith);
   }
 
-pub done-all : (R : Round) (p : ℕ) {m k : ℕ} {s t : List ℕ} → m ≡ R .b + R .n → m ≤ mostNumbers → k ≤ m → m ≤ k → Done R p k s t → length t ≡ sheetLength
-    → FiguresWritten R p s t
-done-all R p {m} {k} {s} {t} e f h l d long =
-    let q : k ≡ R .b + R .n = omega arith in
-    record { right = subst (λ (n : ℕ). AllFigures R p n t) q (d .right); rest = λ j g. d .rest j (omega arith); long = long }
+-- the place after an application's is the next one's
+pub done-next : (R : Round) (p a : ℕ) {s t : List ℕ} → Done R p (appPlace a + 1) s t → Done R p (appPlace (a + 1)) s t
+done-next R p a {s} {t} d = let e : appPlace a + 1 ≡ appPlace (a + 1) = omega arith in subst (λ (k : ℕ). Done R p k s t) e d
+
+pub done-all : (R : Round) (p n : ℕ) {k : ℕ} {s t : List ℕ} → k ≤ n → n ≤ k → Done R p k s t → length t ≡ sheetLength → FiguresWritten R p n s t
+done-all R p n {k} {s} {t} h l d long = record {
+  right = all-of (λ n. AllFigures R p n t) (d .right) h l;
+  kept = d .kept;
+  rest = λ j g. d .rest j (omega arith);
+  long = long;
+}
+
+-- whose figures stand at place k: a bid's of the pot, or of another; an application's
+module _ (R : Round) (p k : ℕ) where
+  pub placed-bid : {x : Bid} → k < mostBids → mine R p k ≡ true → x ≡ bidAt (R .bids) k → rowFor R x ≡ placed R p k
+  unfolding placed rowOf
+  placed-bid h m e = rw (lt-ltb k mostBids h, m) (ap (rowFor R) e)
+
+  pub placed-none : k < mostBids → mine R p k ≡ false → blank ≡ placed R p k
+  unfolding placed rowOf
+  placed-none h m = rw (lt-ltb k mostBids h, m)
+
+-- the application that an application at its administrative price is of
+pub own-app : (R : Round) (a : ℕ) {x : Bid} {y : App} → x ≡ atAdminPrice R a → y ≡ appAt (R .apps) a → y ≡ appAt (R .apps) (x .app)
+unfolding atAdminPrice
+own-app R a ex ey = ey ∙ ap (λ (x : Bid). appAt (R .apps) (x .app)) (sym ex)
+
+module _ (R : Round) (p a : ℕ) where
+  pub own-place : placed R p (appPlace a) ≡ adminRow R p a
+  unfolding placed
+  own-place = let e : mostBids + a - mostBids ≡ a = omega arith in rw (le-ltb (appPlace a) mostBids (omega arith)) (ap (adminRow R p) e)
+
+  pub placed-own : {x : Bid} → appMine R p a ≡ true → x ≡ atAdminPrice R a → rowFor R x ≡ placed R p (appPlace a)
+  unfolding adminRow
+  placed-own m e = ap (rowFor R) e ∙ sym (own-place ∙ rw m)
+
+  pub placed-other : appMine R p a ≡ false → blank ≡ placed R p (appPlace a)
+  unfolding adminRow
+  placed-other m = sym (own-place ∙ rw m)
 
 -- ---- the bids that enter
 
@@ -196,29 +289,29 @@ entrants-set s zero i x h = refl
 entrants-set s (suc n) i x h = rw (getD-set-other s i (entrantsAt + n) x 0 (λ e. let z : ⊥ = omega arith in z), entrants-set s n i x (omega arith))
 
 -- a row of t is that of s
-row-same : (s t : List ℕ) (k : ℕ) → Rest figuresAt s t → rowStanding t k ≡ rowStanding s k
+row-same : (s t : List ℕ) (k : ℕ) → Rest adminsAt s t → inAuction t k ≡ inAuction s k
 unfolding rowStanding
-row-same s t k f = f (rowPlace k) (omega arith)
+row-same s t k f = ap (λ (x : ℕ). eqb x entered) (f (rowPlace k) (omega arith))
 
 -- so far: the first k bids were looked at, and n of them enter
 pub record Entering (s : List ℕ) (k n : ℕ) (t : List ℕ) : Type 0 where
   pub few : n ≤ k
   pub right : entrants t n ≡ sift (inAuction s) (below k)
   pub kept : Kept entrantsAt s t
-  pub rest : Rest figuresAt s t
+  pub rest : Rest adminsAt s t
   pub same : length t ≡ sheetLength
 
 pub entering-none : (s : List ℕ) → length s ≡ sheetLength → Entering s 0 0 s
 unfolding entrants
 entering-none s h = record { few = omega arith; right = refl; kept = λ j l. refl; rest = λ j l. refl; same = h }
 
-module _ (s : List ℕ) (k n : ℕ) {t : List ℕ} (E : Entering s k n t) {q : ℕ} (e : q ≡ rowStanding t k) where
-  pub entering-hit : {g : List ℕ} {m : ℕ} → k < mostNumbers → q ≡ entered → g ≡ set t (entrantsAt + n) k → m ≡ n + 1 → Entering s (k + 1) m g
+module _ (s : List ℕ) (k n : ℕ) {t : List ℕ} (E : Entering s k n t) {q : Bool} (e : q ≡ inAuction t k) where
+  pub entering-hit : {g : List ℕ} {m : ℕ} → k < mostBids → q ≡ true → g ≡ set t (entrantsAt + n) k → m ≡ n + 1 → Entering s (k + 1) m g
   entering-hit {g} {m} h z eg em = rw (eg, em) (record {
     few = omega (arith, E .few);
-    right = rw (add-one n, add-one k, eq-eqb (rowStanding s k) entered (sym (row-same s t k (E .rest)) ∙ sym e ∙ z)) listed;
+    right = rw (add-one n, add-one k, sym (row-same s t k (E .rest)) ∙ sym e ∙ z) listed;
     kept = kept-set entrantsAt (entrantsAt + n) s t k (omega arith) (E .kept);
-    rest = rest-set figuresAt (entrantsAt + n) s t k (omega (arith, E .few)) (E .rest);
+    rest = rest-set adminsAt (entrantsAt + n) s t k (omega (arith, E .few)) (E .rest);
     same = length-set t (entrantsAt + n) k ∙ E .same;
   })
     where
@@ -227,10 +320,10 @@ module _ (s : List ℕ) (k n : ℕ) {t : List ℕ} (E : Entering s k n t) {q : �
           unfold entrants entrantAt in
           rw (getD-set-same t (entrantsAt + n) k 0 (omega (arith, E .few, E .same)), entrants-set t n (entrantsAt + n) k (omega arith), E .right)
 
-  pub entering-miss : {g : List ℕ} {m : ℕ} → (q ≡ entered → ⊥) → g ≡ t → m ≡ n → Entering s (k + 1) m g
+  pub entering-miss : {g : List ℕ} {m : ℕ} → q ≡ false → g ≡ t → m ≡ n → Entering s (k + 1) m g
   entering-miss z eg em = rw (eg, em) (record {
     few = omega (arith, E .few);
-    right = rw (add-one k, ne-eqb (rowStanding s k) entered (λ d. z (e ∙ row-same s t k (E .rest) ∙ d))) (E .right);
+    right = rw (add-one k, sym (row-same s t k (E .rest)) ∙ sym e ∙ z) (E .right);
     kept = E .kept;
     rest = E .rest;
     same = E .same;

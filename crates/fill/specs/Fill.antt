@@ -1,14 +1,16 @@
 -- What a sheet holds once it is filled. Assumes nothing.
-use Prim.Native.Nat.{ℕ, _+_, _*_, _≤_, _<_}
+use Prim.Native.Nat.{ℕ, _+_, _-_, _*_, _≤_, _<_}
 use mathlib.Core.Path.{_≡_}
 use mathlib.Core.List.{List}
 use lib.ListN.{length, getD}
-use Rattle.rules.specs.Names.{mostNumbers, pencePerPound}
-use Rattle.rules.specs.Lists.{sift, below}
+use lib.Dec.{ltb}
+use Rattle.rules.specs.Names.{mostBids, mostApps, pencePerPound}
+use Rattle.rules.specs.Lists.{pick, sift, below}
 use Rattle.rules.specs.File.{Round, Bid, budgetAt}
+use Rattle.rules.specs.Round.{Row}
 use Rattle.sheet.specs.declared.Size.{Size}
-use Rattle.sheet.specs.Sheet.{sheetLength, entrantsAt, figuresAt, rowsAt, figuresWidth, rowPlace, figuresPlace, figurePlace, entrants, inAuction}
-use Rattle.rows.specs.Rows.{rowNumbers, figureNumbers, figuresIn}
+use Rattle.sheet.specs.Sheet.{sheetLength, entrantsAt, adminsAt, figuresAt, rowsAt, figuresWidth, rowPlace, figuresPlace, figurePlace, entrants, inAuction}
+use Rattle.rows.specs.Rows.{rowOf, adminRow, rowNumbers, figureNumbers, figuresIn}
 
 -- the numbers v stand at a place of s
 abbrev pub Stands : (v s : List ℕ) (at : ℕ) → Type 0
@@ -18,9 +20,12 @@ Stands v s at = (j : ℕ) → j < length v → getD s (at + j) 0 ≡ getD v j 0
 abbrev pub Blank : List ℕ → Type 0
 Blank s = (j : ℕ) → getD s j 0 ≡ 0
 
--- and those of the figures
-abbrev pub BlankFigures : List ℕ → Type 0
-BlankFigures s = (j : ℕ) → j < rowsAt → getD s j 0 ≡ 0
+-- and those of the administrative prices; of the figures, from place k on
+abbrev pub BlankAdmins : List ℕ → Type 0
+BlankAdmins s = (j : ℕ) → adminsAt ≤ j → j < figuresAt → getD s j 0 ≡ 0
+
+abbrev pub BlankFrom : ℕ → List ℕ → Type 0
+BlankFrom k s = (j : ℕ) → figuresPlace k ≤ j → j < rowsAt → getD s j 0 ≡ 0
 
 -- t has what s has before a place; and from a place on
 abbrev pub Kept : (at : ℕ) (s t : List ℕ) → Type 0
@@ -36,39 +41,54 @@ pub record Put (v : List ℕ) (n at : ℕ) (s t : List ℕ) : Type 0 where
   pub rest : Rest (at + n) s t
   pub same : length t ≡ length s
 
--- the figures of bid b, of technology t, stand at the place of bid k, for the first n years
+-- the figures of bid b, of technology t, stand at place k, for the first n years
 abbrev pub Figured : Round → (t : ℕ) → Bid → (k n : ℕ) → List ℕ → Type 0
 Figured R t b k n sheet = (y : ℕ) → y < n → Stands (figuresIn R t b y) sheet (figurePlace k y)
 
--- the rows of the first n bids of pot p are right; the figures of bid k in the first n years; those of the first n bids; the first n limits
+-- whose figures are to stand at place k: bid k's, and after the places of all bids those of an application at its administrative price
+unfoldable pub placed : Round → (p k : ℕ) → Row
+placed R p k = pick (ltb k mostBids) (rowOf R p k) (adminRow R p (k - mostBids))
+
+-- the rows of the first n bids of pot p are right; the administrative prices of the first n applications; the figures of a row at place k; those at the first
+-- n places; the first n limits
 abbrev pub RowsRight : Round → (p n : ℕ) → List ℕ → Type 0
 RowsRight R p n sheet = (k : ℕ) → k < n → Stands (rowNumbers R p k) sheet (rowPlace k)
 
-abbrev pub FiguresRight : Round → (p k n : ℕ) → List ℕ → Type 0
-FiguresRight R p k n sheet = (y : ℕ) → y < n → Stands (figureNumbers R p k y) sheet (figurePlace k y)
+abbrev pub AdminsRight : Round → (p n : ℕ) → List ℕ → Type 0
+AdminsRight R p n sheet = (a : ℕ) → a < n → getD sheet (adminsAt + a) 0 ≡ adminRow R p a .admin
+
+abbrev pub FiguresRight : Round → Row → (k : ℕ) → List ℕ → Type 0
+FiguresRight R r k sheet = (y : ℕ) → y < R .y → Stands (figureNumbers R r y) sheet (figurePlace k y)
 
 abbrev pub AllFigures : Round → (p n : ℕ) → List ℕ → Type 0
-AllFigures R p n sheet = (k : ℕ) → k < n → FiguresRight R p k (R .y) sheet
+AllFigures R p n sheet = (k : ℕ) → k < n → FiguresRight R (placed R p k) k sheet
 
 abbrev pub LimitsRight : (years : ℕ) (pots : List ℕ) (p n : ℕ) → List ℕ → Type 0
 LimitsRight years pots p n sheet = (y : ℕ) → y < n → getD sheet y 0 ≡ pencePerPound * budgetAt years pots p y
 
--- ---- from s to t: the rows of all bids were written; the figures of one bid, and of all; the limits; the first n of m bids that enter.
--- Nothing else was changed, and t is as long as a sheet
+-- ---- from s to t: the rows of all bids were written; the administrative prices of all applications; the figures of one bid at place k; those at all places
+-- below n; the limits; the first n of m bids that enter. Nothing else was changed, and t is as long as a sheet
 pub record RowsWritten (R : Round) (p : ℕ) (s t : List ℕ) : Type 0 where
-  pub right : RowsRight R p mostNumbers t
+  pub right : RowsRight R p mostBids t
   pub kept : Kept rowsAt s t
   pub long : length t ≡ sheetLength
 
-pub record FiguresOf (R : Round) (p k : ℕ) (s t : List ℕ) : Type 0 where
-  pub right : FiguresRight R p k (R .y) t
-  pub kept : Kept (figuresPlace k) s t
-  pub rest : Rest (figuresPlace k + figuresWidth) s t
+pub record AdminsWritten (R : Round) (p : ℕ) (s t : List ℕ) : Type 0 where
+  pub right : AdminsRight R p mostApps t
+  pub kept : Kept adminsAt s t
+  pub rest : Rest figuresAt s t
   pub long : length t ≡ sheetLength
 
-pub record FiguresWritten (R : Round) (p : ℕ) (s t : List ℕ) : Type 0 where
-  pub right : AllFigures R p (R .b + R .n) t
-  pub rest : Rest rowsAt s t
+pub record FiguresOf (R : Round) (t : ℕ) (b : Bid) (k : ℕ) (s u : List ℕ) : Type 0 where
+  pub right : Figured R t b k (R .y) u
+  pub kept : Kept (figuresPlace k) s u
+  pub rest : Rest (figuresPlace k + figuresWidth) s u
+  pub long : length u ≡ sheetLength
+
+pub record FiguresWritten (R : Round) (p n : ℕ) (s t : List ℕ) : Type 0 where
+  pub right : AllFigures R p n t
+  pub kept : Kept figuresAt s t
+  pub rest : Rest (figuresPlace n) s t
   pub long : length t ≡ sheetLength
 
 pub record LimitsWritten (R : Round) (p : ℕ) (s t : List ℕ) : Type 0 where
@@ -80,9 +100,9 @@ pub record Entered (m : ℕ) (s t : List ℕ) (n : ℕ) : Type 0 where
   pub few : n ≤ m
   pub right : entrants t n ≡ sift (inAuction s) (below m)
   pub kept : Kept entrantsAt s t
-  pub rest : Rest figuresAt s t
+  pub rest : Rest adminsAt s t
   pub long : length t ≡ sheetLength
 
 -- the size of a round's sheet, where n bids enter
 abbrev pub sizeOf : Round → ℕ → Size
-sizeOf R n = record { years = R .y; sealed = R .b; bids = R .b + R .n; entered = n }
+sizeOf R n = record { years = R .y; bids = R .b; applications = R .n; entered = n }

@@ -1,18 +1,20 @@
 // The sheet of one pot, filled from the sections of an accepted file. The lent sheet is blank.
+use layout::bid::Bid;
 use layout::parts;
 use layout::pot;
 use rules::Sections;
 use sheet::Sheet;
 use sheet::Size;
 ghost use mathlib.Core.Path.{_≡_};
-ghost use mathlib.Core.Bool.{true};
 ghost use Prim.Native.Nat.{_+_, _≤_, _<_};
 ghost use lib.ListN.{length};
-ghost use Rattle.rules.specs.Names.{mostNumbers};
-ghost use Rattle.rules.specs.Round.{mine, potOf};
-ghost use Rattle.sheet.specs.Sheet.{sheetLength, potIn, Ready};
+ghost use Rattle.rules.specs.Names.{mostBids, mostApps, longYear, largestCapacity};
+ghost use Rattle.rules.specs.Round.{potOf};
+ghost use Rattle.layout.specs.Layout.{bidShown};
+ghost use Rattle.sheet.specs.Sheet.{sheetLength, places, potIn, Ready};
 ghost use Rattle.rows.specs.Rows.{roundIn, Held};
-ghost use Rattle.fill.specs.Fill.{Blank, BlankFigures, Put, RowsRight, RowsWritten, FiguresOf, FiguresWritten, LimitsWritten, Entered, sizeOf};
+ghost use Rattle.fill.specs.Fill.{Blank, BlankAdmins, BlankFrom, Put, RowsRight, AdminsRight, AllFigures, RowsWritten, AdminsWritten, FiguresOf};
+ghost use Rattle.fill.specs.Fill.{FiguresWritten, LimitsWritten, Entered, sizeOf};
 
 // The numbers v at a place of the sheet.
 fn put(sheet: &mut Sheet, at: usize, v: &[u64])
@@ -32,23 +34,36 @@ fn fill_rows(file: &[u8], sections: Sections, p: usize, sheet: &mut Sheet)
     ensures { λ _. ⌜ RowsWritten (roundIn (now (file .entry)) sections) p (now (sheet .entry)) (now (sheet .exit)) ⌝ }
 {
     let mut k: usize = 0;
-    while k < sheet::BIDS {
+    while k < names::BIDS {
         let v = rows::row(file, sections, p, k);
         put(sheet, sheet::ROWS_AT + k * sheet::ROW, &v);
         k += 1;
     }
 }
 
-// The figures of bid k of the pot in the years of the file.
-fn fill_years(file: &[u8], sections: Sections, p: usize, k: usize, sheet: &mut Sheet)
+// The administrative prices of the applications, over blank ones: those of other pots stay zeros.
+fn fill_admins(file: &[u8], sections: Sections, p: usize, sheet: &mut Sheet)
     requires { ⌜ Held (now file) sections × (length (now sheet) ≡ sheetLength) ⌝ }
-    requires { ⌜ mine (roundIn (now file) sections) p k ≡ true ⌝ }
-    ensures { λ _. ⌜ FiguresOf (roundIn (now (file .entry)) sections) p k (now (sheet .entry)) (now (sheet .exit)) ⌝ }
+    requires { ⌜ BlankAdmins (now sheet) ⌝ }
+    ensures { λ _. ⌜ AdminsWritten (roundIn (now (file .entry)) sections) p (now (sheet .entry)) (now (sheet .exit)) ⌝ }
+{
+    let mut a: usize = 0;
+    while a < names::APPS {
+        if rows::app_mine(file, sections, p, a) {
+            let own = rows::at_admin_price(file, sections, a);
+            sheet[sheet::ADMINS_AT + a] = own.price;
+        }
+        a += 1;
+    }
+}
+
+// The figures of a bid of technology t, or of an application at its administrative price, at place k, in the years of the file.
+fn fill_years(file: &[u8], sections: Sections, t: usize, bid: Bid, k: usize, sheet: &mut Sheet)
+    requires { ⌜ Held (now file) sections × (length (now sheet) ≡ sheetLength) ⌝ }
+    requires { ⌜ (t < sections .technologies) × (bid .days ≤ longYear) × (bid .capacity ≤ largestCapacity) × (k < places) ⌝ }
+    ensures { λ _. ⌜ FiguresOf (roundIn (now (file .entry)) sections) t (bidShown bid) k (now (sheet .entry)) (now (sheet .exit)) ⌝ }
 {
     let years = sections.years;
-    let bid = rows::bid_of(file, sections, k);
-    let its = rows::application_of(file, sections, bid.application);
-    let t = its.technology;
     let mut y: usize = 0;
     while y < years {
         let v = rows::figure(file, sections, t, bid, y);
@@ -64,16 +79,35 @@ fn fill_years(file: &[u8], sections: Sections, p: usize, k: usize, sheet: &mut S
 // The figures of all bids, over blank ones: those of other pots, which the rows tell, stay zeros.
 fn fill_figures(file: &[u8], sections: Sections, p: usize, sheet: &mut Sheet)
     requires { ⌜ Held (now file) sections × (length (now sheet) ≡ sheetLength) ⌝ }
-    requires { ⌜ RowsRight (roundIn (now file) sections) p mostNumbers (now sheet) × BlankFigures (now sheet) ⌝ }
-    ensures { λ _. ⌜ FiguresWritten (roundIn (now (file .entry)) sections) p (now (sheet .entry)) (now (sheet .exit)) ⌝ }
+    requires { ⌜ RowsRight (roundIn (now file) sections) p mostBids (now sheet) × BlankFrom 0 (now sheet) ⌝ }
+    ensures { λ _. ⌜ FiguresWritten (roundIn (now (file .entry)) sections) p mostBids (now (sheet .entry)) (now (sheet .exit)) ⌝ }
 {
-    let m = sections.bids + sections.applications;
     let mut k: usize = 0;
-    while k < m {
-        if sheet::standing(sheet, k) != sheet::ABSENT {
-            fill_years(file, sections, p, k, sheet);
+    while k < names::BIDS {
+        if sheet::in_auction(sheet, k) {
+            let bid = rows::bid_of(file, sections, k);
+            let its = rows::application_of(file, sections, bid.application);
+            fill_years(file, sections, its.technology, bid, k, sheet);
         }
         k += 1;
+    }
+}
+
+// And those of all applications at their administrative prices, in the places after the bids'.
+fn fill_admin_figures(file: &[u8], sections: Sections, p: usize, sheet: &mut Sheet)
+    requires { ⌜ Held (now file) sections × (length (now sheet) ≡ sheetLength) ⌝ }
+    requires { ⌜ AdminsRight (roundIn (now file) sections) p mostApps (now sheet) ⌝ }
+    requires { ⌜ AllFigures (roundIn (now file) sections) p mostBids (now sheet) × BlankFrom mostBids (now sheet) ⌝ }
+    ensures { λ _. ⌜ FiguresWritten (roundIn (now (file .entry)) sections) p places (now (sheet .entry)) (now (sheet .exit)) ⌝ }
+{
+    let mut a: usize = 0;
+    while a < names::APPS {
+        if sheet::in_test(sheet, a) {
+            let own = rows::at_admin_price(file, sections, a);
+            let its = rows::application_of(file, sections, a);
+            fill_years(file, sections, its.technology, own, names::BIDS + a, sheet);
+        }
+        a += 1;
     }
 }
 
@@ -93,13 +127,13 @@ fn fill_limits(file: &[u8], sections: Sections, p: usize, sheet: &mut Sheet)
 
 // The bids that enter the auction, among the first m, and how many these are.
 fn fill_entrants(m: usize, sheet: &mut Sheet) -> usize
-    requires { ⌜ (m ≤ mostNumbers) × (length (now sheet) ≡ sheetLength) ⌝ }
+    requires { ⌜ (m ≤ mostBids) × (length (now sheet) ≡ sheetLength) ⌝ }
     ensures { λ r. ⌜ Entered m (now (sheet .entry)) (now (sheet .exit)) r ⌝ }
 {
     let mut n: usize = 0;
     let mut k: usize = 0;
     while k < m {
-        if sheet::standing(sheet, k) == sheet::ENTERED {
+        if sheet::in_auction(sheet, k) {
             sheet[sheet::ENTRANTS_AT + n] = k as u64;
             n += 1;
         }
@@ -116,14 +150,16 @@ pub fn fill(file: &[u8], sections: Sections, p: usize, sheet: &mut Sheet) -> Siz
     ensures { λ r. ⌜ r ≡ sizeOf (roundIn (now (file .entry)) sections) (r .entered) ⌝ }
 {
     fill_rows(file, sections, p, sheet);
+    fill_admins(file, sections, p, sheet);
     fill_figures(file, sections, p, sheet);
+    fill_admin_figures(file, sections, p, sheet);
     fill_limits(file, sections, p, sheet);
-    let m = sections.bids + sections.applications;
-    let entered = fill_entrants(m, sheet);
+    let bids = sections.bids;
+    let entered = fill_entrants(bids, sheet);
     Size {
         years: sections.years,
-        sealed: sections.bids,
-        bids: m,
+        bids,
+        applications: sections.applications,
         entered,
     }
 }

@@ -59,14 +59,11 @@ fn price(s: &mut [u8], p: u64) -> usize
     field(s, b" price ", p)
 }
 
-// The bid that won: its number, that it was automatic, or that there is none.
+// The bid that won, or that there is none.
 fn bid(s: &mut [u8], b: u64) -> usize
     requires { ⌜ 25 ≤ length (now s) ⌝ }
     ensures { λ r. ⌜ Printed (ascii " bid " ++ bidWord b) 25 (now (s .entry)) (now (s .exit)) r ⌝ }
 {
-    if b == names::AUTOMATIC_BID {
-        return word(s, b" bid auto");
-    }
     if b == names::NO_BID {
         return word(s, b" bid -");
     }

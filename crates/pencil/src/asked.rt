@@ -4,21 +4,21 @@
 // no bid has.
 pub fn number(word: &[u8]) -> usize {
     if word.len() == 0 {
-        return names::NUMBERS;
+        return names::BIDS;
     }
     let mut n: usize = 0;
     let mut i: usize = 0;
     while i < word.len() {
         let digit = word[i];
         if digit < b'0' {
-            return names::NUMBERS;
+            return names::BIDS;
         }
         if digit > b'9' {
-            return names::NUMBERS;
+            return names::BIDS;
         }
         n = 10 * n + (digit - b'0') as usize;
-        if n > names::NUMBERS {
-            return names::NUMBERS;
+        if n > names::BIDS {
+            return names::BIDS;
         }
         i += 1;
     }

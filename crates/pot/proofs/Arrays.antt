@@ -6,6 +6,7 @@ use mathlib.Core.List.{List, [], _∷_, _++_, map}
 use native.Mathlib.Omega.{arith}
 use lib.ListN.{getD, length-set}
 use lib.Dec.{eqb}
+use Rattle.rules.specs.Names.{mostBids}
 use Rattle.rules.specs.Lists.{pick, memb}
 use Rattle.rules.specs.Pot.{Pot, priceFrom}
 use Rattle.laws_pot.specs.Lists.{case, In, here, there}
@@ -34,7 +35,7 @@ module _ (sheet : List ℕ) (p : ℕ) (s : PotState) (S : Sizes s) where
         prices = length-set ((winAll sheet p s l) .prices) (rowYear sheet i) p ∙ t .prices;
       }
 
-  pub win-marks : (l : List ℕ) (b : ℕ) → ((i : ℕ) → In i l → i < 320) → getD ((winAll sheet p s l) .marks) b 0 ≡ pick (memb b l) 1 (getD (s .marks) b 0)
+  pub win-marks : (l : List ℕ) (b : ℕ) → ((i : ℕ) → In i l → i < mostBids) → getD ((winAll sheet p s l) .marks) b 0 ≡ pick (memb b l) 1 (getD (s .marks) b 0)
   unfolding winAll winOf
   win-marks [] b h = refl
   win-marks (i ∷ l) b h =
@@ -77,7 +78,7 @@ module _ (sheet : List ℕ) (v : ℕ) (s : PotState) (S : Sizes s) where
         prices = t .prices;
       }
 
-  pub turn-marks : (l : List ℕ) (b : ℕ) → ((i : ℕ) → In i l → i < 320) → getD ((turnAll sheet v s l) .marks) b 0 ≡ pick (memb b l) v (getD (s .marks) b 0)
+  pub turn-marks : (l : List ℕ) (b : ℕ) → ((i : ℕ) → In i l → i < mostBids) → getD ((turnAll sheet v s l) .marks) b 0 ≡ pick (memb b l) v (getD (s .marks) b 0)
   unfolding turnAll turnOf
   turn-marks [] b h = refl
   turn-marks (i ∷ l) b h =

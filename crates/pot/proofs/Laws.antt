@@ -11,7 +11,7 @@ use borrow.Author.Tests.{eq-eqb, ne-eqb, lt-ltb, le-ltb}
 use Rattle.rules.specs.Names.{mostApps, mostDeliveries, noPrice, widestTie, downTied}
 use Rattle.arrays.specs.Sets.{fill, built, members, without}
 use Rattle.sheet.specs.declared.Size.{Size}
-use Rattle.sheet.specs.Sheet.{columns, Ready, rowStanding, rowApp, rowYear, rowPrice}
+use Rattle.sheet.specs.Sheet.{columns, Ready, inAuction, rowApp, rowYear, rowPrice}
 use Rattle.ties.specs.Ties.{basesOf, keepsOf, choiceOf}
 use Rattle.pot.specs.declared.PotState.{PotState}
 use Rattle.pot.specs.declared.Look.{Look}
@@ -156,15 +156,15 @@ module _ (sheet : List ℕ) (of : Size) (l : List Bool) (p : ℕ) (s : PotState)
   tie-shared h ew et er = rw (← rest-is, ← ek, le-ltb widestTie k h, ← eb, ← ew, ← et) er
 
 -- ---- the start
-pub first-yes : {q : ℕ} → q ≡ 1 → 0 ≡ firstMark q
+pub first-yes : {t : Bool} → t ≡ true → 0 ≡ firstMark t
 unfolding firstMark
-first-yes {q} h = rw (eq-eqb q 1 h)
+first-yes h = rw h
 
-pub first-no : {q : ℕ} → (q ≡ 1 → ⊥) → 9 ≡ firstMark q
+pub first-no : {t : Bool} → t ≡ false → 9 ≡ firstMark t
 unfolding firstMark
-first-no {q} h = rw (ne-eqb q 1 h)
+first-no h = rw h
 
-pub started-done : (sheet : List ℕ) (of : Size) {l : List ℕ} {k : ℕ} → l ≡ fill noMarks (λ k. firstMark (rowStanding sheet k)) k → k ≤ of .bids → of .bids ≤ k
+pub started-done : (sheet : List ℕ) (of : Size) {l : List ℕ} {k : ℕ} → l ≡ fill noMarks (λ k. firstMark (inAuction sheet k)) k → k ≤ of .bids → of .bids ≤ k
     → _≡_ {A = PotState} (record {
       marks = l;
       won = replicate mostApps false;

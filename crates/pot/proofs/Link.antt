@@ -8,7 +8,7 @@ use native.Mathlib.Nat.{mul-le-mul-right}
 use lib.ListN.{getD}
 use lib.Dec.{eqb, ltb}
 use borrow.Author.Tests.{eqb-true}
-use Rattle.rules.specs.Names.{noPrice, noReason, becauseWon, highestPrice}
+use Rattle.rules.specs.Names.{mostBids, noPrice, noReason, becauseWon, highestPrice}
 use Rattle.rules.specs.Lists.{pick, memb, sift, below}
 use Rattle.rules.specs.Pot.{Pot, Event, Trace, winners, downs, seen, closed, hanging, mark, priceFrom, clearing, total, within, fits, live, least, lowest}
 use Rattle.rules.specs.Pot.{taken}
@@ -17,7 +17,7 @@ use Rattle.laws_pot.specs.Mono.{Lawful}
 use Rattle.arrays.specs.Sets.{built, members}
 use Rattle.arrays.proofs.Arrays.{eqb-sym, put-is, members-built}
 use Rattle.sheet.specs.declared.Size.{Size}
-use Rattle.sheet.specs.Sheet.{potIn, Ready, inAuction, sheetCost, rowApp, rowYear, rowPrice}
+use Rattle.sheet.specs.Sheet.{potIn, Ready, inAuction, partsAt, sheetCost, rowApp, rowYear, rowPrice}
 use Rattle.totals.specs.Totals.{totalOf, filled, fitsTo}
 use Rattle.totals.proofs.Link as link
 use Rattle.totals.proofs.Link.{Marked}
@@ -95,7 +95,7 @@ module _ (sheet : List ℕ) (of : Size) (ok : Ready sheet of) where
   pub bid-in : (i : ℕ) → In i (P .bids) → inAuction sheet i ≡ true
   bid-in = link.bid-in sheet of ok
 
-  pub small : (i : ℕ) → i < of .bids → i < 320
+  pub small : (i : ℕ) → i < of .bids → i < mostBids
   small = link.small sheet of ok
 
   -- the pot's figures are lawful
@@ -104,7 +104,7 @@ module _ (sheet : List ℕ) (of : Size) (ok : Ready sheet of) where
   lawful = record {
     pos = omega arith;
     apart = λ c d i j e f. ok .apart c d (bid-lt c i) (bid-lt d j) (bid-in c i) (bid-in d j) e f;
-    mono = λ i p q y h. unfold sheetCost in up (ltb y (of .years)) (mul-le-mul-right _ (mul-le-mul-right _ (omega arith)));
+    mono = λ i p q y h. unfold sheetCost partsAt in up (ltb y (of .years)) (mul-le-mul-right _ (mul-le-mul-right _ (omega arith)));
   }
     where
       up : (t : Bool) {x y : ℕ} → x ≤ y → pick t x 0 ≤ pick t y 0
@@ -224,5 +224,5 @@ module _ (sheet : List ℕ) (of : Size) (ok : Ready sheet of) where
       price = λ d k. win-prices l d (λ i j. (h i j .0, h i j .1)) ∙ rw (H .price d k) (sym (price-join P noPrice l ws d));
     }
       where
-        few : (i : ℕ) → In i l → i < 320
+        few : (i : ℕ) → In i l → i < mostBids
         few i j = small i (h i j .0)

@@ -7,7 +7,7 @@ use native.Mathlib.Omega.{arith}
 use lib.ListN.{length, getD, set, length-set}
 use lib.Dec.{eqb, ltb}
 use borrow.Author.Tests.{ne-eqb, lt-ltb, ltb-true}
-use Rattle.rules.specs.Names.{becauseWon, downAlone}
+use Rattle.rules.specs.Names.{mostBids, becauseWon, downAlone}
 use Rattle.rules.specs.Lists.{pick, memb}
 use Rattle.rules.specs.Pot.{Pot, Trace, winners, priceFrom, live, taken, fits, won, down, follows, alone}
 use Rattle.laws_pot.specs.Lists.{case, clash, In, memb-in, in-memb, in-none, in-one}
@@ -58,7 +58,7 @@ module _ (sheet : List ℕ) (of : Size) (ok : Ready sheet of) where
     unfolding takenOf
     of-set = link.taken-is sheet of ok t s R refl refl
 
-    pub few : (i : ℕ) → In i l → i < 320
+    pub few : (i : ℕ) → In i l → i < mostBids
     few i h = link.small sheet of ok i (sound i h .0)
 
     -- ---- 1: all that were taken are tried
@@ -71,7 +71,7 @@ module _ (sheet : List ℕ) (of : Size) (ok : Ready sheet of) where
     won-by : Holds P (l ++ winners t) u
     won-by = link.holds-win sheet of ok (winners t) s (R .sizes) p l (λ i j. let f = sound i j in (f .0, f .2, f .3)) (holds-rep R)
 
-    -- the winners all entered the auction
+    -- the winners are all of the pot
     pub trial-others : (i : ℕ) → i < of .bids → inAuction sheet i ≡ false → eqb (getD (u .marks) i 0) becauseWon ≡ false
     trial-others i h f = won-by .marked .other i (link.small sheet of ok i h) (not-bid sheet of ok i f)
 

@@ -7,7 +7,7 @@ use native.Mathlib.Omega.{arith}
 use lib.ListN.{length, getD}
 use lib.Dec.{eqb, ltb}
 use borrow.Author.Tests.{ne-eqb, ltb-true, ltb-false}
-use Rattle.rules.specs.Names.{noPrice, noReason, becauseWon, highestPrice}
+use Rattle.rules.specs.Names.{mostBids, noPrice, noReason, becauseWon, highestPrice}
 use Rattle.rules.specs.Lists.{pick, memb, sift, below}
 use Rattle.rules.specs.Pot.{Pot, Event, Trace, winners, seen, closed, hanging, wideEnd, mark, priceFrom, live, taken, look, run, onward, auction}
 use Rattle.laws_pot.specs.Lists.{case, clash, In, here, in-memb, in-none, in-length, sift-in, in-sift, sift-le, below-in}
@@ -16,7 +16,7 @@ use Rattle.laws_pot.specs.Runs.{Inv, inv-none, looked-next, inv-looked, step-of
 use Rattle.arrays.specs.Sets.{fill}
 use Rattle.arrays.proofs.Arrays.{put-is, at-start, fill-length, fill-at}
 use Rattle.sheet.specs.declared.Size.{Size}
-use Rattle.sheet.specs.Sheet.{potIn, Ready, inAuction, rowStanding, rowPrice}
+use Rattle.sheet.specs.Sheet.{potIn, Ready, inAuction, rowPrice}
 use Rattle.totals.proofs.Link.{not-bid}
 use Rattle.pot.specs.declared.PotState.{PotState}
 use Rattle.pot.specs.Marks.{leastOr, liveOf, lowestOf, Others, firstMark, noMarks, startedOf, notHere}
@@ -81,7 +81,7 @@ module _ (sheet : List ℕ) (of : Size) (ok : Ready sheet of) where
     abbrev t : Trace
     t = G .trace
 
-    -- the bids that did not enter
+    -- the bids that are not of the pot
     pub run-others : s .wide ≡ false → Others sheet of s
     run-others w i h f = rw (G .stands .rep (sym (G .stands .wide) ∙ w) .other i (link.small sheet of ok i h) (not-bid sheet of ok i f)) refl
 
@@ -176,12 +176,12 @@ module _ (sheet : List ℕ) (of : Size) (ok : Ready sheet of) where
   unfolding startedOf firstMark
   started-at i h = fill-at noMarks (λ i. pick (inAuction sheet i) noReason notHere) (of .bids) i 0 size h
 
-  started-past : (n i : ℕ) → n ≤ i → n ≤ 320 → i < 320 → getD (fill noMarks (λ i. firstMark (rowStanding sheet i)) n) i 0 ≡ notHere
+  started-past : (n i : ℕ) → n ≤ i → n ≤ mostBids → i < mostBids → getD (fill noMarks (λ i. firstMark (inAuction sheet i)) n) i 0 ≡ notHere
   unfolding fill noMarks
-  started-past zero i h g k = at-start 320 i notHere 0 k
+  started-past zero i h g k = at-start mostBids i notHere 0 k
   started-past (suc n) i h g k =
-      put-is (fill noMarks (λ i. firstMark (rowStanding sheet i)) n) n i (firstMark (rowStanding sheet n)) 0
-      (omega (arith, fill-length noMarks (λ i. firstMark (rowStanding sheet i)) n))
+      put-is (fill noMarks (λ i. firstMark (inAuction sheet i)) n) n i (firstMark (inAuction sheet n)) 0
+      (omega (arith, fill-length noMarks (λ i. firstMark (inAuction sheet i)) n))
       ∙ rw (ne-eqb i n (λ e. let no : ⊥ = omega arith in no)) (started-past n i (omega arith) (omega arith) k)
 
   pub started-stands : {s : PotState} → s ≡ startedOf sheet of → Stands P [] s
@@ -189,7 +189,7 @@ module _ (sheet : List ℕ) (of : Size) (ok : Ready sheet of) where
   started-stands e = rw e (record {
     wide = refl;
     rep = λ f. record {
-      sizes = record { marks = fill-length noMarks (λ i. firstMark (rowStanding sheet i)) (of .bids); won = refl; opened = refl; prices = refl };
+      sizes = record { marks = fill-length noMarks (λ i. firstMark (inAuction sheet i)) (of .bids); won = refl; opened = refl; prices = refl };
       other = others;
       why = own;
       one = λ i j. ap (λ (x : ℕ). eqb x becauseWon) (own i j);
@@ -204,12 +204,12 @@ module _ (sheet : List ℕ) (of : Size) (ok : Ready sheet of) where
       own : (i : ℕ) → In i (P .bids) → getD ((startedOf sheet of) .marks) i 0 ≡ noReason
       own i j = started-at i (link.bid-lt sheet of ok i j) ∙ rw (link.bid-in sheet of ok i j)
 
-      others : (i : ℕ) → i < 320 → memb i (P .bids) ≡ false → getD ((startedOf sheet of) .marks) i 0 ≡ notHere
+      others : (i : ℕ) → i < mostBids → memb i (P .bids) ≡ false → getD ((startedOf sheet of) .marks) i 0 ≡ notHere
       others i h f =
           case (ltb i (of .bids))
           (λ t. started-at i (ltb-true i (of .bids) t)
           ∙ case (inAuction sheet i) (λ e. clash (in-memb (link.bid sheet of ok i (ltb-true i (of .bids) t) e)) f) (λ g. rw g))
           (λ t. past i (ltb-false i (of .bids) t) h)
         where
-          past : (i : ℕ) → of .bids ≤ i → i < 320 → getD ((startedOf sheet of) .marks) i 0 ≡ notHere
+          past : (i : ℕ) → of .bids ≤ i → i < mostBids → getD ((startedOf sheet of) .marks) i 0 ≡ notHere
           past i g h = unfold startedOf in started-past (of .bids) i g (ok .few) h

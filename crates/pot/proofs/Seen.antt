@@ -1,4 +1,4 @@
--- One pass over the bids that entered the auction sees the live bids of the lowest live price. Assumes nothing.
+-- One pass over the bids of the pot sees the live bids of the lowest live price. Assumes nothing.
 use Prim.Native.Nat.{ℕ, _+_, min, _≤_, _<_}
 use mathlib.Core.Path.{_≡_, refl, sym, ap, _∙_}
 use mathlib.Core.Bool.{Bool, true, false, not, _&&_}
@@ -109,7 +109,7 @@ module _ (sheet : List ℕ) (s : PotState) (j : ℕ) {l : Look} (e : l ≡ lookO
       rw e (omega (arith, look-few sheet (sift (liveOf sheet s) (entrants sheet j)), sift-le (liveOf sheet s) (entrants sheet j), entrants-length sheet j))
 
 module _ (sheet : List ℕ) (of : Size) (s : PotState) (ck : Ready sheet of) where
-  -- the live bids all entered
+  -- the live bids are all of the pot
   live-listed : Others sheet of s → sift (liveOf sheet s) (sift (inAuction sheet) (below (of .bids))) ≡ sift (liveOf sheet s) (below (of .bids))
   live-listed o =
       sift-both (liveOf sheet s) (inAuction sheet) (below (of .bids))

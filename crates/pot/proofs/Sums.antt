@@ -10,14 +10,14 @@ use lib.Seq.{getD-set-other}
 use lib.Dec.{eqb, ltb}
 use borrow.Author.Tests.{eqb-true, eqb-false, ne-eqb}
 use Rattle.rules.specs.Value.{dearest}
-use Rattle.rules.specs.Names.{becauseWon, widestTie}
+use Rattle.rules.specs.Names.{mostBids, becauseWon, widestTie}
 use Rattle.rules.specs.Lists.{pick, sift, below}
 use Rattle.rules.specs.Pot.{Pot, Trace}
 use Rattle.laws_pot.specs.Lists.{case, In, here, there, sift-in, below-in}
 use Rattle.arrays.specs.Sets.{fill, placed, members}
 use Rattle.arrays.proofs.Arrays.{zeros, fill-at, placed-length, placed-at, placed-other}
 use Rattle.sheet.specs.declared.Size.{Size}
-use Rattle.sheet.specs.Sheet.{columns, Ready, inAuction, rowStanding, rowYear}
+use Rattle.sheet.specs.Sheet.{columns, Ready, inAuction, rowYear}
 use Rattle.totals.specs.Totals.{worthOf, totalOf, partOn, partOf, noRow, filled, fitsTo, rowFits}
 use Rattle.totals.proofs.Laws.{fits-same, row-none}
 use Rattle.totals.proofs.Parts.{part-most, total-parts}
@@ -250,14 +250,14 @@ module _ (sheet : List ℕ) (of : Size) where
     summed-revalued h g e = summed-totalled e (parted-renewed h g refl)
 
   -- no bid has been looked at
-  pub summed-started : {s : PotState} → of .bids ≤ 320 → of .years ≤ 8 → s ≡ startedOf sheet of → Summed sheet of s
+  pub summed-started : {s : PotState} → of .bids ≤ mostBids → of .years ≤ 8 → s ≡ startedOf sheet of → Summed sheet of s
   unfolding startedOf partOf
   summed-started h g e = rw e (record {
     parts =
         record {
           size = refl;
           part = λ d y i j. zeros 32 (d * 8 + y)
-              ∙ sym (part-none sheet (fill noMarks (λ i. firstMark (rowStanding sheet i)) (of .bids)) (getD (replicate 4 _) d 0) d y
+              ∙ sym (part-none sheet (fill noMarks (λ i. firstMark (inAuction sheet i)) (of .bids)) (getD (replicate 4 _) d 0) d y
               (sift (inAuction sheet) (below (of .bids))) (λ k i. fresh k (below-in k (of .bids) (sift-in k (inAuction sheet) (below (of .bids)) i .0))));
         };
     row = start g ∙ ap (λ (f : ℕ → ℕ). filled f (of .years)) (λ j y. sym (blank y) j);
@@ -272,11 +272,12 @@ module _ (sheet : List ℕ) (of : Size) where
       size : of .bids ≤ length noMarks
       size = unfold noMarks in h
 
-      fresh : (k : ℕ) → k < of .bids → eqb (getD (fill noMarks (λ i. firstMark (rowStanding sheet i)) (of .bids)) k 0) becauseWon ≡ false
-      fresh k g = rw (fill-at noMarks (λ i. firstMark (rowStanding sheet i)) (of .bids) k 0 size g) (first (rowStanding sheet k))
+      fresh : (k : ℕ) → k < of .bids → eqb (getD (fill noMarks (λ i. firstMark (inAuction sheet i)) (of .bids)) k 0) becauseWon ≡ false
+      fresh k g = rw (fill-at noMarks (λ i. firstMark (inAuction sheet i)) (of .bids) k 0 size g) (first (inAuction sheet k))
         where
-          first : (q : ℕ) → eqb (firstMark q) becauseWon ≡ false
-          first q = unfold firstMark in case (eqb q 1) (λ t. rw t) (λ f. rw f)
+          first : (t : Bool) → eqb (firstMark t) becauseWon ≡ false
+          first true = unfold firstMark in refl
+          first false = unfold firstMark in refl
 
 -- ---- winning and turning down leave the sums alone
 win-sums : (sheet : List ℕ) (p : ℕ) (s : PotState) (l : List ℕ) → (winAll sheet p s l) .sums ≡ s .sums
@@ -332,7 +333,7 @@ module _ {sheet : List ℕ} {of : Size} {s : PotState} (S : Parted sheet of s) (
       at3 : getD (s .sums) (24 + y) 0 ≡ part 3
       at3 = let e : 24 + y ≡ 3 * 8 + y = omega arith in ap (λ (k : ℕ). getD (s .sums) k 0) e ∙ S .part 3 y (omega arith) h
 
-  -- where the winners all entered the auction
+  -- where the winners are all of the pot
   pub sum-total : Ready sheet of → ((k : ℕ) → k < of .bids → inAuction sheet k ≡ false → eqb (getD (s .marks) k 0) becauseWon ≡ false)
       → yearSum (s .sums) y ≡ totalOf sheet (s .marks) (s .prices) y (of .bids)
   sum-total ok others = four ∙ sym (total-parts sheet of (s .marks) (s .prices) y ok others)

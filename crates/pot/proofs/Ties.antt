@@ -6,7 +6,7 @@ use mathlib.Core.List.{List, _∷_, map}
 use lib.ListN.{length, getD}
 use lib.Dec.{ltb}
 use borrow.Author.Tests.{ltb-false}
-use Rattle.rules.specs.Names.{becauseWon, downTied, widestTie}
+use Rattle.rules.specs.Names.{mostBids, becauseWon, downTied, widestTie}
 use Rattle.rules.specs.Lists.{pick, memb, sift, below}
 use Rattle.rules.specs.Pot.{Pot, Trace, winners, wideEnd, live, taken, remaining, choose, others, shared, tied}
 use Rattle.laws_pot.specs.Lists.{case, clash, not-is-true, In, memb-in, sift-in, sift-same, sift-both}
@@ -55,7 +55,7 @@ module _ (sheet : List ℕ) (of : Size) (ok : Ready sheet of) where
     sound : (i : ℕ) → In i l → (i < of .bids) × (live P t i ≡ true) × (rowPrice sheet i ≡ p) × In i (P .bids)
     sound = looks.sound sheet of ok t s R
 
-    few : (i : ℕ) → In i l → i < 320
+    few : (i : ℕ) → In i l → i < mostBids
     few = looks.few sheet of ok t s R
 
     of-set : members a (of .bids) ≡ l

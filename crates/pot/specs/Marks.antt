@@ -7,11 +7,11 @@ use mathlib.Core.List.{List, [], _∷_}
 use lib.ListN.{getD, set, replicate, length}
 use lib.Dec.{eqb, ltb}
 use Rattle.rules.specs.Value.{dearest}
-use Rattle.rules.specs.Names.{mostNumbers, mostApps, mostDeliveries, noPrice, noReason, becauseWon, downAlone, downTied, widestTie}
+use Rattle.rules.specs.Names.{mostBids, mostApps, mostDeliveries, noPrice, noReason, becauseWon, downAlone, downTied, widestTie}
 use Rattle.rules.specs.Lists.{pick, sift, below}
 use Rattle.arrays.specs.Sets.{fill, placed, built, members, headOr, without}
 use Rattle.sheet.specs.declared.Size.{Size}
-use Rattle.sheet.specs.Sheet.{columns, rowStanding, rowApp, rowYear, rowPrice, inAuction, entered, Ready}
+use Rattle.sheet.specs.Sheet.{columns, rowApp, rowYear, rowPrice, inAuction, Ready}
 use Rattle.totals.specs.Totals.{partOf, filled}
 use Rattle.ties.specs.Ties.{basesOf, keepsOf, choiceOf}
 use Rattle.pot.specs.declared.PotState.{PotState}
@@ -129,7 +129,7 @@ widened s = record {
 unfoldable pub takenOf : (sheet : List ℕ) (of : Size) → PotState → List Bool
 takenOf sheet of s = built (atOf sheet s (lowestOf sheet s (of .bids))) (of .bids)
 
--- ---- one pass over the bids that entered the auction
+-- ---- one pass over the bids of the pot
 
 -- no other bid is marked as not yet looked at
 abbrev pub Others : (sheet : List ℕ) (of : Size) → PotState → Type 0
@@ -178,7 +178,7 @@ unfoldable pub yearSum : List ℕ → ℕ → ℕ
 yearSum l y = getD l y 0 + (getD l (columns + y) 0 + (getD l (2 * columns + y) 0 + getD l (3 * columns + y) 0))
 
 abbrev pub mostSum : ℕ
-mostSum = mostDeliveries * (dearest * mostNumbers)
+mostSum = mostDeliveries * (dearest * mostBids)
 
 -- the places of the sums: a row of years for each delivery year
 abbrev pub sumsSize : ℕ
@@ -258,16 +258,16 @@ tieOf sheet of l price s =
 
 -- ---- no bid has been looked at
 
-unfoldable pub firstMark : (standing : ℕ) → ℕ
-firstMark q = pick (eqb q entered) noReason notHere
+unfoldable pub firstMark : (entered : Bool) → ℕ
+firstMark t = pick t noReason notHere
 
 -- the marks of no bid
 unfoldable pub noMarks : List ℕ
-noMarks = replicate mostNumbers notHere
+noMarks = replicate mostBids notHere
 
 unfoldable pub startedOf : (sheet : List ℕ) (of : Size) → PotState
 startedOf sheet of = record {
-  marks = fill noMarks (λ k. firstMark (rowStanding sheet k)) (of .bids);
+  marks = fill noMarks (λ k. firstMark (inAuction sheet k)) (of .bids);
   won = replicate mostApps false;
   opened = replicate mostDeliveries true;
   prices = replicate mostDeliveries noPrice;

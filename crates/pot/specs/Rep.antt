@@ -5,7 +5,7 @@ use mathlib.Core.Bool.{false, not}
 use mathlib.Core.List.{List, [], _∷_, map}
 use lib.ListN.{length, getD}
 use lib.Dec.{eqb, ltb}
-use Rattle.rules.specs.Names.{mostNumbers, mostApps, mostDeliveries, noPrice, noReason, becauseWon}
+use Rattle.rules.specs.Names.{mostBids, mostApps, mostDeliveries, noPrice, noReason, becauseWon}
 use Rattle.rules.specs.Lists.{pick, memb}
 use Rattle.rules.specs.Pot.{Pot, Trace, winners, seen, closed, hanging, wideEnd, mark, priceFrom, taken, look}
 use Rattle.laws_pot.specs.Lists.{In}
@@ -20,7 +20,7 @@ unfoldable pub hangs : ℕ → List ℕ
 hangs h = pick (ltb h noYear) (h ∷ []) []
 
 pub record Sizes (s : PotState) : Type 0 where
-  pub marks : length (s .marks) ≡ mostNumbers
+  pub marks : length (s .marks) ≡ mostBids
   pub won : length (s .won) ≡ mostApps
   pub opened : length (s .opened) ≡ mostDeliveries
   pub prices : length (s .prices) ≡ mostDeliveries
@@ -28,7 +28,7 @@ pub record Sizes (s : PotState) : Type 0 where
 -- The arrays s stand for the trace t
 pub record Rep (P : Pot) (t : Trace) (s : PotState) : Type 0 where
   pub sizes : Sizes s
-  pub other : (k : ℕ) → k < mostNumbers → memb k (P .bids) ≡ false → getD (s .marks) k 0 ≡ notHere
+  pub other : (k : ℕ) → k < mostBids → memb k (P .bids) ≡ false → getD (s .marks) k 0 ≡ notHere
   pub why : (k : ℕ) → In k (P .bids) → getD (s .marks) k 0 ≡ mark t k
   pub one : (k : ℕ) → In k (P .bids) → eqb (getD (s .marks) k 0) becauseWon ≡ memb k (winners t)
   pub fresh : (k : ℕ) → In k (P .bids) → eqb (getD (s .marks) k 0) noReason ≡ not (memb k (seen t))

@@ -13,8 +13,9 @@ mod step;
 mod tie;
 mod trial;
 
+use names::APPS;
+use names::BIDS;
 use names::MOST_DELIVERIES;
-use names::NUMBERS;
 use sheet::COLUMNS;
 use sheet::Sheet;
 use sheet::Size;
@@ -22,15 +23,12 @@ use sheet::Size;
 // No year hangs.
 const NO_YEAR: usize = MOST_DELIVERIES;
 
-// The applications, as places of an array.
-const APPS: usize = names::MOST_APPS as usize;
-
 // A row of years for each delivery year: what the winners that start there cost at its clearing price.
 type Sums = [u64; MOST_DELIVERIES * COLUMNS];
 
 // The marks of every bid, the applications that have won, the years that are open, and the clearing price of each year.
 pub struct PotState {
-    pub marks: [u16; NUMBERS],
+    pub marks: [u16; BIDS],
     pub won: [bool; APPS],
     pub opened: [bool; MOST_DELIVERIES],
     pub prices: [u64; MOST_DELIVERIES],

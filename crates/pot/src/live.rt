@@ -3,13 +3,13 @@ ghost use mathlib.Core.Path.{_≡_};
 ghost use mathlib.Core.Bool.{not, _&&_};
 ghost use Prim.Native.Nat.{_<_};
 ghost use lib.Dec.{eqb};
-ghost use Rattle.rules.specs.Names.{mostNumbers, noReason};
+ghost use Rattle.rules.specs.Names.{mostBids, noReason};
 ghost use Rattle.arrays.specs.Sets.{built};
 ghost use Rattle.sheet.specs.Sheet.{Ready};
 ghost use Rattle.pot.specs.Marks.{Looking, Looked, joinedOf, atOf, followsOf};
 use super::Look;
 use super::PotState;
-use names::NUMBERS;
+use names::BIDS;
 use sheet::Sheet;
 use sheet::Size;
 use totals::marks;
@@ -36,7 +36,7 @@ fn at(alive: bool, price: u64, lowest: u64) -> bool
 
 // A look that sees one more live bid, k at a price.
 fn joined(seen: Look, price: u64, k: usize) -> Look
-    requires { ⌜ seen .count < mostNumbers ⌝ }
+    requires { ⌜ seen .count < mostBids ⌝ }
     ensures { λ r. ⌜ r ≡ joinedOf seen price k ⌝ }
 {
     if seen.price < price {
@@ -58,7 +58,7 @@ fn joined(seen: Look, price: u64, k: usize) -> Look
 }
 
 impl PotState {
-    // One pass over the bids that entered the auction.
+    // One pass over the bids of the pot.
     pub fn look(self, sheet: &Sheet, of: Size) -> Look
         requires { ⌜ Looking (now sheet) of self ⌝ }
         ensures { λ r. ⌜ Looked (now (sheet .entry)) of self r ⌝ }
@@ -83,11 +83,11 @@ impl PotState {
     }
 
     // The live bids at a price.
-    pub(crate) fn taken(self, sheet: &Sheet, of: Size, price: u64) -> [bool; NUMBERS]
+    pub(crate) fn taken(self, sheet: &Sheet, of: Size, price: u64) -> [bool; BIDS]
         requires { ⌜ Ready (now sheet) of ⌝ }
         ensures { λ r. ⌜ r ≡ built (atOf (now (sheet .entry)) self price) (of .bids) ⌝ }
     {
-        let mut set = [false; NUMBERS];
+        let mut set = [false; BIDS];
         let bids = of.bids;
         let mut k: usize = 0;
         while k < bids {

@@ -1,13 +1,13 @@
 // What becomes of bids: they win, or are turned down and their years close.
 ghost use mathlib.Core.Path.{_≡_};
 ghost use Prim.Native.Nat.{_<_};
-ghost use Rattle.rules.specs.Names.{mostNumbers};
+ghost use Rattle.rules.specs.Names.{mostBids};
 ghost use Rattle.arrays.specs.Sets.{members};
 ghost use Rattle.sheet.specs.Sheet.{Ready};
 ghost use Rattle.pot.specs.Marks.{winOf, turnOf, winAll, turnAll, turnedOf, widened};
 use super::NO_YEAR;
 use super::PotState;
-use names::NUMBERS;
+use names::BIDS;
 use sheet::Sheet;
 use sheet::Size;
 use totals::marks;
@@ -38,13 +38,7 @@ impl PotState {
     }
 
     // The bids of a set are added to the winners, at a clearing price of their years.
-    pub(crate) fn win_all(
-        self,
-        sheet: &Sheet,
-        of: Size,
-        set: [bool; NUMBERS],
-        price: u64,
-    ) -> PotState
+    pub(crate) fn win_all(self, sheet: &Sheet, of: Size, set: [bool; BIDS], price: u64) -> PotState
         requires { ⌜ Ready (now sheet) of ⌝ }
         ensures { λ r. ⌜ r ≡ winAll (now (sheet .entry)) price self (members set (of .bids)) ⌝ }
     {
@@ -61,13 +55,7 @@ impl PotState {
     }
 
     // The bids of a set are turned down for a reason, and their years close.
-    pub(crate) fn turn_all(
-        self,
-        sheet: &Sheet,
-        of: Size,
-        set: [bool; NUMBERS],
-        mark: u16,
-    ) -> PotState
+    pub(crate) fn turn_all(self, sheet: &Sheet, of: Size, set: [bool; BIDS], mark: u16) -> PotState
         requires { ⌜ Ready (now sheet) of ⌝ }
         ensures { λ r. ⌜ r ≡ turnAll (now (sheet .entry)) mark self (members set (of .bids)) ⌝ }
     {
@@ -85,7 +73,7 @@ impl PotState {
 
     // Bid k is turned down alone; its year is left to `hung` and `shut`.
     pub(crate) fn turned(mut self, k: usize) -> PotState
-        requires { ⌜ k < mostNumbers ⌝ }
+        requires { ⌜ k < mostBids ⌝ }
         ensures { λ r. ⌜ r ≡ turnedOf k self ⌝ }
     {
         self.marks[k] = marks::ALONE;

@@ -2,25 +2,21 @@
 ghost use mathlib.Core.Path.{_≡_};
 ghost use Rattle.sheet.specs.Sheet.{Ready};
 ghost use Rattle.pot.specs.Marks.{firstMark, startedOf};
-use super::APPS;
 use super::NO_YEAR;
 use super::PotState;
+use names::APPS;
+use names::BIDS;
 use names::MOST_DELIVERIES;
-use names::NUMBERS;
 use sheet::COLUMNS;
 use sheet::Sheet;
 use sheet::Size;
 use totals::marks;
 
 // The mark of a bid that no look has seen.
-fn first_mark(standing: u64) -> u16
-    ensures { λ r. ⌜ r ≡ firstMark standing ⌝ }
+fn first_mark(entered: bool) -> u16
+    ensures { λ r. ⌜ r ≡ firstMark entered ⌝ }
 {
-    if standing == sheet::ENTERED {
-        marks::FRESH
-    } else {
-        marks::OTHER
-    }
+    if entered { marks::FRESH } else { marks::OTHER }
 }
 
 // No bid has been looked at: those that are not of this auction are marked so.
@@ -28,11 +24,11 @@ pub fn started(sheet: &Sheet, of: Size) -> PotState
     requires { ⌜ Ready (now sheet) of ⌝ }
     ensures { λ r. ⌜ r ≡ startedOf (now (sheet .entry)) of ⌝ }
 {
-    let mut marks = [marks::OTHER; NUMBERS];
+    let mut marks = [marks::OTHER; BIDS];
     let bids = of.bids;
     let mut k: usize = 0;
     while k < bids {
-        marks[k] = first_mark(sheet::standing(sheet, k));
+        marks[k] = first_mark(sheet::in_auction(sheet, k));
         k += 1;
     }
     PotState {

@@ -4,7 +4,7 @@ ghost use Rattle.sheet.specs.Sheet.{Ready};
 ghost use Rattle.pot.specs.Marks.{Valued, sharedOf, tieOf};
 use super::NO_YEAR;
 use super::PotState;
-use names::NUMBERS;
+use names::BIDS;
 use sheet::Sheet;
 use sheet::Size;
 use totals::marks;
@@ -15,8 +15,8 @@ impl PotState {
         self,
         sheet: &Sheet,
         of: Size,
-        set: [bool; NUMBERS],
-        wins: [bool; NUMBERS],
+        set: [bool; BIDS],
+        wins: [bool; BIDS],
         price: u64,
     ) -> PotState
         requires { ⌜ Ready (now sheet) of ⌝ }
@@ -29,7 +29,7 @@ impl PotState {
     }
 
     // Several were taken and do not fit together: 3.
-    pub(crate) fn tie(self, sheet: &Sheet, of: Size, set: [bool; NUMBERS], price: u64) -> PotState
+    pub(crate) fn tie(self, sheet: &Sheet, of: Size, set: [bool; BIDS], price: u64) -> PotState
         requires { ⌜ Valued (now sheet) of self ⌝ }
         ensures { λ r. ⌜ r ≡ tieOf (now (sheet .entry)) of set price self ⌝ }
     {

@@ -9,8 +9,8 @@ ghost use Rattle.totals.specs.Totals.{filled};
 ghost use Rattle.pot.specs.Marks.{sumsSize, yearSum, Totalling, Valued, renewedOf, renewedTo, totalledOf, revaluedOf, triedOf, trialOf};
 use super::PotState;
 use super::Sums;
+use names::BIDS;
 use names::MOST_DELIVERIES;
-use names::NUMBERS;
 use sheet::COLUMNS;
 use sheet::Sheet;
 use sheet::Size;
@@ -106,7 +106,7 @@ impl PotState {
     }
 
     // A trial of a set of bids.
-    pub(crate) fn trial(self, sheet: &Sheet, of: Size, set: [bool; NUMBERS], price: u64) -> PotState
+    pub(crate) fn trial(self, sheet: &Sheet, of: Size, set: [bool; BIDS], price: u64) -> PotState
         requires { ⌜ Valued (now sheet) of self ⌝ }
         ensures { λ r. ⌜ r ≡ trialOf (now (sheet .entry)) of price set self ⌝ }
     {

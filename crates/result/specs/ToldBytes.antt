@@ -11,7 +11,7 @@ use Rattle.result.specs.declared.PotTold.{PotTold}
 use Rattle.result.specs.declared.Tellings.{Tellings}
 use Rattle.result.specs.Tells.{untold, noPot}
 
--- ---- the sizes in bytes of the result's fields: of a pot, of an application, and the reason of a bid as of an automatic one
+-- ---- the sizes in bytes of the result's fields: of a pot, of an application, and the reason of a bid as of an application
 abbrev pub outcomeSize : ℕ
 outcomeSize = 2
 

@@ -21,7 +21,7 @@ use rules::Told;
 use store::put;
 use store::put_all;
 
-// The sizes in bytes of the result's fields: of a pot, of an application, and the reason of a bid as of an automatic one.
+// The sizes in bytes of the result's fields: of a pot, of an application, and the reason of a bid as of an application.
 const OUTCOME_SIZE: usize = 2;
 
 const PRICE_SIZE: usize = 4;
@@ -111,7 +111,7 @@ fn pots(s: &mut [u8], t: Tellings, sections: Sections)
     pot_records(&mut s[COUNT_WIDTH..], t, sections);
 }
 
-// The record of an application: won, bid, automatic bid's reason, price paid.
+// The record of an application: won, bid, automatic reason, price paid.
 fn application_record(s: &mut [u8], told: Told)
     requires { ⌜ appSize ≤ length (now s) ⌝ }
     ensures { λ _. ⌜ Filled (appBytes told) (now (s .entry)) (now (s .exit)) ⌝ }

@@ -2,10 +2,11 @@
 -- `exit` in the lent result. Assumes nothing.
 use Prim.Native.Nat.{ℕ, _+_, _<_}
 use mathlib.Core.Path.{_≡_, sym, ap, _∙_}
+use mathlib.Core.Logic.{_↔_}
 use mathlib.Core.List.{List}
 use lib.ListN.{length, take, drop}
-use Rattle.rules.specs.Names.{auctioned}
-use Rattle.rules.specs.File.{roundOf}
+use Rattle.rules.specs.Names.{administrative, auctioned, noReason}
+use Rattle.rules.specs.File.{roundOf, bidAt}
 use Rattle.rules.specs.Refusals.{reading}
 use Rattle.rules.specs.Result.{needed, refusedAs, lengthOf, Outcome}
 use Rattle.rules.specs.declared.Reading.{Reading}
@@ -14,16 +15,38 @@ use Rattle.laws_reading.specs.Small.{largest}
 use Rattle.laws_round.specs.Apart.{DifferElsewhere}
 use Rattle.laws_round.specs.Undeclared.{SaveCosts}
 use Rattle.laws_round.specs.Third.{Third}
-use Rattle.laws_round.specs.Read.{outcomeAt, totalAt, toldAt}
-use Rattle.laws_round.specs.Demanded.{whyAt, SameRecords}
+use Rattle.laws_round.specs.First.{FitsFirst}
+use Rattle.laws_round.specs.Read.{outcomeAt, totalAt, toldAt, reasonAt}
+use Rattle.laws_round.specs.Demanded.{SameRecords}
+use Rattle.laws_round.specs.Silent.{Unheard, SilentTold}
 use Rattle.laws_round.specs.Theorems as laws
 use Rattle.round.specs.Round.{Clears, Lists}
 
 -- Demand 3, of each pot that an auction cleared, as the bytes that were written tell it: the five sentences are the fields of `Third`
 pub third-demand : (file lent : List ℕ) {r : Answer} {exit : List ℕ} → Clears file lent r exit → refusedAs r ≡ 0
     → let R = roundOf file in
-    (p : ℕ) → p < R .p → outcomeAt R exit p ≡ auctioned → Third R p (toldAt R exit) (totalAt R exit p) (whyAt R exit)
+    (p : ℕ) → p < R .p → outcomeAt R exit p ≡ auctioned → Third R p (toldAt R exit) (totalAt R exit p) (reasonAt R exit)
 third-demand file lent C e = rw (C .bytes) (laws.third-demand file lent (rw (C .answer) at e))
+
+-- "If all a pot's applications, at their administrative prices, fit its budget in every year, all win at those prices (outcome 0)", and only then; "The first
+-- test counts it as before" (02, CR 8): an application without a sealed bid is one of them
+pub first-test : (file lent : List ℕ) {r : Answer} {exit : List ℕ} → Clears file lent r exit → refusedAs r ≡ 0
+    → let R = roundOf file in
+    (p : ℕ) → p < R .p → (outcomeAt R exit p ≡ administrative) ↔ FitsFirst R p
+first-test file lent C e = rw (C .bytes) (laws.first-test file lent (rw (C .answer) at e))
+
+-- "it is lost with automatic reason 8 in outcome 1, and keeps 7 in outcome 2 .. and in outcome 0 it wins" (02, CR 8): an application without a sealed bid, as
+-- the bytes that were written tell it
+pub silent-told : (file lent : List ℕ) {r : Answer} {exit : List ℕ} → Clears file lent r exit → refusedAs r ≡ 0
+    → let R = roundOf file in
+    (a : ℕ) → a < R .n → Unheard R a → SilentTold R exit a
+silent-told file lent C e = rw (C .bytes) (laws.silent-told file lent (rw (C .answer) at e))
+
+-- "0 where it had sealed bids"
+pub heard-told : (file lent : List ℕ) {r : Answer} {exit : List ℕ} → Clears file lent r exit → refusedAs r ≡ 0
+    → let R = roundOf file in
+    (k : ℕ) → k < R .b → toldAt R exit (bidAt (R .bids) k .app) .reason ≡ noReason
+heard-told file lent C e = rw (C .bytes) (laws.heard-told file lent (rw (C .answer) at e))
 
 -- "Two accepted files with equal counts that differ only in declared costs, and in budgets, technologies, applications and bids of other pots, each pot's
 -- records at the same places, give one pot the same outcome, prices, totals and reasons"

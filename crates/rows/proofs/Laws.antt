@@ -1,29 +1,26 @@
 -- The laws of a bid's numbers, over plain variables: one for each return and each turn of a loop. Assumes nothing.
-use Prim.Native.Nat.{ℕ, suc, _+_, _-_, _*_, _≤_, _<_}
+use Prim.Native.Nat.{ℕ, suc, _-_, _*_, _≤_, _<_}
 use mathlib.Core.Path.{_≡_, refl, sym, ap, subst, _∙_}
-use mathlib.Core.Bool.{Bool, true, false, not}
-use mathlib.Core.List.{List, [], _∷_, map}
+use mathlib.Core.Bool.{Bool, true, false}
+use mathlib.Core.List.{List, [], _∷_}
 use native.Mathlib.Omega.{arith}
-use native.Mathlib.Nat.{le-antisymm, zero-mul, mul-zero, mul-le-mul, mul-le-mul-right}
-use native.Mathlib.Numerals.{add-one}
+use native.Mathlib.Nat.{zero-mul, mul-zero, mul-le-mul, mul-le-mul-right}
 use lib.ListN.{length}
-use lib.Dec.{eqb, ltb}
-use borrow.Author.Tests.{lt-ltb, le-ltb, eq-eqb, ne-eqb, ltb-true}
+use lib.Dec.{eqb}
+use borrow.Author.Tests.{lt-ltb, le-ltb, eq-eqb, ne-eqb}
 use Rattle.rules.specs.Names.{yearWidth, techWidth, appWidth, whole, longYear, largestCapacity, highestPrice, dayHours}
-use Rattle.rules.specs.Lists.{pick, memb, below}
 use Rattle.rules.specs.Value.{hoursOf, mostEnergy, mostShare}
 use Rattle.rules.specs.File.{Round, App, Bid, yearAt, techAt, appAt, bidAt}
-use Rattle.rules.specs.Round.{energyOf, rowFor, automatic, bidOf, mine, silent, enters}
-use Rattle.laws_pot.specs.Lists.{and-true, In, in-memb, in-map, in-below}
+use Rattle.rules.specs.Round.{blank, energyOf, rowFor, atAdminPrice, mine, appMine}
 use Rattle.laws_reading.specs.Reading.{Sound}
 use Rattle.laws_reading.specs.Reading as r
-use Rattle.laws_round.specs.Bids.{bid-own, bid-auto, Kind, own, auto, out, kind}
+use Rattle.laws_round.specs.Bids.{appPot, mine-own, mine-in, app-mine}
 use Rattle.layout.specs.Layout.{Room}
 use Rattle.layout.proofs.Laws.{read-in}
-use Rattle.sheet.specs.Sheet.{entered, spare}
+use Rattle.sheet.specs.Sheet.{entered}
 use Rattle.rows.specs.Factors.{FactorsOf}
 use Rattle.rows.specs.declared.factors.Factors.{Factors}
-use Rattle.rows.specs.Rows.{silentIn, silent-is, rowOf, standingOf, rowNumbers, figureNumbers, figuresIn}
+use Rattle.rows.specs.Rows.{rowOf, rowNumbers, figureNumbers, figuresIn}
 
 -- ---- records of the file
 
@@ -45,12 +42,12 @@ module _ (R : Round) (S : Sound R) where
     pub its-year : x .year < R .y
     its-year = rw e (let l : appAt (R .apps) a .year < R .y = omega (arith, S .app a h .year, S .few) in l)
 
--- ---- bids by number
+-- ---- applications at their administrative prices, and bids
 
-pub automatic-is : (R : Round) (a : ℕ) {x : App} {price : ℕ} → x ≡ appAt (R .apps) a → price ≡ techAt (R .y) (R .techs) (x .tech) .admin (x .year)
-    → record { app = a; year = x .year; days = x .days; capacity = x .capacity; price = price } ≡ automatic R a
-unfolding automatic
-automatic-is R a ex ep = λ j. record {
+pub at-admin-is : (R : Round) (a : ℕ) {x : App} {price : ℕ} → x ≡ appAt (R .apps) a → price ≡ techAt (R .y) (R .techs) (x .tech) .admin (x .year)
+    → record { app = a; year = x .year; days = x .days; capacity = x .capacity; price = price } ≡ atAdminPrice R a
+unfolding atAdminPrice
+at-admin-is R a ex ep = λ j. record {
   app = a;
   year = ex j .year;
   days = ex j .days;
@@ -58,7 +55,7 @@ automatic-is R a ex ep = λ j. record {
   price = (ep ∙ ap (λ (x : App). techAt (R .y) (R .techs) (x .tech) .admin (x .year)) ex) j;
 }
 
--- what is known of each bid by number
+-- what is known of each bid, and of each application at its administrative price
 pub record Good (R : Round) (x : Bid) : Type 0 where
   pub app : x .app < R .n
   pub year : x .year < R .d
@@ -67,8 +64,8 @@ pub record Good (R : Round) (x : Bid) : Type 0 where
   pub price : x .price ≤ highestPrice
 
 module _ (R : Round) (S : Sound R) where
-  good-own : (k : ℕ) → k < R .b → Good R (bidAt (R .bids) k)
-  good-own k h =
+  good-bid : (k : ℕ) → k < R .b → Good R (bidAt (R .bids) k)
+  good-bid k h =
       let b = S .bid k h in
       record {
         app = b .app;
@@ -78,9 +75,9 @@ module _ (R : Round) (S : Sound R) where
         price = omega (arith, b .price, r.admin-most R S _ (bidAt (R .bids) k .year) (S .app (bidAt (R .bids) k .app) (b .app) .tech) (b .year));
       }
 
-  good-auto : (a : ℕ) → a < R .n → Good R (automatic R a)
-  unfolding automatic
-  good-auto a h =
+  good-app : (a : ℕ) → a < R .n → Good R (atAdminPrice R a)
+  unfolding atAdminPrice
+  good-app a h =
       let x = S .app a h in
       record {
         app = h;
@@ -90,58 +87,21 @@ module _ (R : Round) (S : Sound R) where
         price = r.admin-most R S _ (appAt (R .apps) a .year) (x .tech) (x .year);
       }
 
-  pub good : (k : ℕ) → k < R .b + R .n → {x : Bid} → x ≡ bidOf R k → Good R x
-  good k h e = subst (Good R) (sym e) (go (kind R k))
-    where
-      go : Kind R k → Good R (bidOf R k)
-      go (own l) = rw (bid-own R k l) (good-own k l)
-      go (auto l u) = rw (bid-auto R k l) (good-auto (k - R .b) (omega arith))
-      go (out l) = absurd (omega arith)
+  -- of one that was read
+  pub good : (k : ℕ) → k < R .b → {x : Bid} → x ≡ bidAt (R .bids) k → Good R x
+  good k h e = subst (Good R) (sym e) (good-bid k h)
 
--- the test of a bid's pot, on its application a and that one's pot q
-pub mine-is : (R : Round) (p k : ℕ) → k < R .b + R .n → {x : Bid} {a : App} {q : ℕ} → x ≡ bidOf R k → a ≡ appAt (R .apps) (x .app)
-    → q ≡ techAt (R .y) (R .techs) (a .tech) .pot → eqb q p ≡ mine R p k
-unfolding mine
-mine-is R p k h ex ea eq =
-    rw (lt-ltb k (R .b + R .n) h)
-    (ap (λ (q : ℕ). eqb q p) (eq ∙ ap (λ (a : App). techAt (R .y) (R .techs) (a .tech) .pot) (ea ∙ ap (λ (x : Bid). appAt (R .apps) (x .app)) ex)))
+  pub good-own : (a : ℕ) → a < R .n → {x : Bid} → x ≡ atAdminPrice R a → Good R x
+  good-own a h e = subst (Good R) (sym e) (good-app a h)
 
--- ---- the application of a sealed bid
+-- the test of an application's pot q, where x is the application; and of a bid's, on the test s of its application
+pub app-mine-is : (R : Round) (p a : ℕ) → a < R .n → {x : App} {q : ℕ} → x ≡ appAt (R .apps) a → q ≡ techAt (R .y) (R .techs) (x .tech) .pot
+    → eqb q p ≡ appMine R p a
+app-mine-is R p a h ex eq =
+    ap (λ (q : ℕ). eqb q p) (eq ∙ ap (λ (x : App). techAt (R .y) (R .techs) (x .tech) .pot) ex) ∙ sym (app-mine R p a h)
 
--- application a has none of the first i bids
-abbrev pub Unheard : (bids : List ℕ) (a i : ℕ) → Type 0
-Unheard bids a i = memb a (map (λ k. bidAt bids k .app) (below i)) ≡ false
-
-pub unheard-more : (bids : List ℕ) (a k : ℕ) {x : ℕ} → Unheard bids a k → x ≡ bidAt bids k .app → (x ≡ a → ⊥) → Unheard bids a (k + 1)
-unheard-more bids a k u e n = rw (add-one k, ne-eqb a (bidAt bids k .app) (λ q. n (e ∙ sym q)), u)
-
-module _ (bids : List ℕ) (b a k : ℕ) where
-  pub heard : {x : ℕ} → k < b → x ≡ bidAt bids k .app → x ≡ a → false ≡ silentIn bids b a
-  heard h e q =
-      let f : ℕ → ℕ = λ k. bidAt bids k .app in
-      rw (in-memb (subst (λ (z : ℕ). In z (map f (below b))) (sym e ∙ q) (in-map f (in-below k b h))))
-
-  pub unheard-all : Unheard bids a k → k ≤ b → b ≤ k → true ≡ silentIn bids b a
-  unheard-all u h l = sym (ap not (subst (Unheard bids a) (le-antisymm h l) u))
-
--- ---- where a bid of the pot stands
-
-module _ (R : Round) (k : ℕ) where
-  pub enters-own : k < R .b → entered ≡ pick (enters R k) entered spare
-  unfolding enters
-  enters-own h = rw (lt-ltb k (R .b) h)
-
-  module _ {s : Bool} {bids : List ℕ} (h : R .b ≤ k) (l : bids ≡ R .bids) (e : s ≡ silentIn bids (R .b) (k - R .b)) where
-    asked : s ≡ silent R (k - R .b)
-    asked = e ∙ ap (λ (x : List ℕ). silentIn x (R .b) (k - R .b)) l ∙ silent-is R (k - R .b)
-
-    pub enters-silent : s ≡ true → entered ≡ pick (enters R k) entered spare
-    unfolding enters
-    enters-silent t = rw (le-ltb k (R .b) h, sym asked ∙ t)
-
-    pub enters-not : s ≡ false → spare ≡ pick (enters R k) entered spare
-    unfolding enters
-    enters-not t = rw (le-ltb k (R .b) h, sym asked ∙ t)
+pub mine-is : (R : Round) (p k : ℕ) → k < R .b → {x : Bid} {s : Bool} → x .app < R .n → x ≡ bidAt (R .bids) k → s ≡ appMine R p (x .app) → s ≡ mine R p k
+mine-is R p k h l ex es = es ∙ app-mine R p _ l ∙ ap (λ (x : Bid). eqb (appPot R (x .app)) p) ex ∙ sym (mine-own R p k h)
 
 -- ---- hours
 
@@ -203,36 +163,33 @@ unfolding figuresIn energyOf
 figure-is R t y b f ee es = λ j.
     f .reference-is j ∷ (ee ∙ (λ i. f .load-is i * (f .hours-is i * f .capacity-is i))) j ∷ (es ∙ (λ i. f .kept-is i * f .rqm-is i)) j ∷ []
 
-pub mine-in : (R : Round) (p k : ℕ) {s : Bool} → s ≡ mine R p k → s ≡ true → k < R .b + R .n
-unfolding mine
-mine-in R p k e t = ltb-true _ _ (and-true (ltb k (R .b + R .n)) _ (sym e ∙ t) .0)
-
 module _ (R : Round) (p k : ℕ) {s : Bool} (e : s ≡ mine R p k) where
+  pub bid-in : s ≡ true → k < R .b
+  bid-in t = mine-in R p k (sym e ∙ t) .0
+
   pub row-blank : s ≡ false → 0 ∷ 0 ∷ 0 ∷ 0 ∷ 0 ∷ 0 ∷ [] ≡ rowNumbers R p k
-  unfolding rowNumbers rowOf standingOf
+  unfolding rowNumbers rowOf
   row-blank f = rw (sym e ∙ f)
 
-  pub figure-blank : (y : ℕ) → s ≡ false → 0 ∷ 0 ∷ 0 ∷ [] ≡ figureNumbers R p k y
-  unfolding figureNumbers rowOf
-  figure-blank y f = rw (sym e ∙ f) (simp (zero-mul, mul-zero))
+  pub row-own : {x : Bid} {a : App} {admin : ℕ} → s ≡ true → x ≡ bidAt (R .bids) k → a ≡ appAt (R .apps) (x .app)
+      → admin ≡ techAt (R .y) (R .techs) (a .tech) .admin (x .year)
+      → entered ∷ x .app ∷ x .year ∷ x .price ∷ a .draw ∷ admin ∷ [] ≡ rowNumbers R p k
+  unfolding rowNumbers rowOf rowFor
+  row-own {x} {a} m ex ea ec =
+      let h : a ≡ appAt (R .apps) (bidAt (R .bids) k .app) = ea ∙ ap (λ (x : Bid). appAt (R .apps) (x .app)) ex in
+      let c = ec ∙ (λ j. techAt (R .y) (R .techs) (h j .tech) .admin (ex j .year)) in
+      rw (sym e ∙ m) (λ j. entered ∷ ex j .app ∷ ex j .year ∷ ex j .price ∷ h j .draw ∷ c j ∷ [])
 
-  module _ {x : Bid} {a : App} (m : s ≡ true) (ex : x ≡ bidOf R k) (ea : a ≡ appAt (R .apps) (x .app)) where
-    -- the application of the bid by number
-    abbrev app-is : a ≡ appAt (R .apps) (bidOf R k .app)
-    app-is = ea ∙ ap (λ (x : Bid). appAt (R .apps) (x .app)) ex
+pub figure-blank : (R : Round) (y : ℕ) → 0 ∷ 0 ∷ 0 ∷ [] ≡ figureNumbers R blank y
+unfolding figureNumbers
+figure-blank R y = simp (zero-mul, mul-zero)
 
-    pub row-own : {standing admin : ℕ} → standing ≡ pick (enters R k) entered spare → admin ≡ techAt (R .y) (R .techs) (a .tech) .admin (x .year)
-        → standing ∷ x .app ∷ x .year ∷ x .price ∷ a .draw ∷ admin ∷ [] ≡ rowNumbers R p k
-    unfolding rowNumbers rowOf standingOf rowFor
-    row-own es ec =
-        let c = ec ∙ (λ j. techAt (R .y) (R .techs) (app-is j .tech) .admin (ex j .year)) in
-        rw (sym e ∙ m) (λ j. es j ∷ ex j .app ∷ ex j .year ∷ ex j .price ∷ app-is j .draw ∷ c j ∷ [])
-
-    pub figure-own : (y : ℕ) → y < R .y → {v : List ℕ} → v ≡ figuresIn R (a .tech) x y → v ≡ figureNumbers R p k y
-    unfolding figuresIn figureNumbers rowOf rowFor
-    figure-own y h ev = ev ∙ rw (sym e ∙ m, lt-ltb y (R .y) h) (λ j.
-        let r = techAt (R .y) (R .techs) (app-is j .tech) in
-        r .reference y ∷ (r .load y * energyOf (R .years) (ex j) y) ∷ ((whole - yearAt (R .years) y .tlm) * r .rqm) ∷ [])
+-- the figures of a row are those of its bid and technology
+pub figure-own : (R : Round) (x : Bid) {a : App} → a ≡ appAt (R .apps) (x .app) → (y : ℕ) → y < R .y → figuresIn R (a .tech) x y ≡ figureNumbers R (rowFor R x) y
+unfolding figuresIn figureNumbers rowFor
+figure-own R x ea y h = rw (lt-ltb y (R .y) h) (λ j.
+    let r = techAt (R .y) (R .techs) (ea j .tech) in
+    r .reference y ∷ (r .load y * energyOf (R .years) x y) ∷ ((whole - yearAt (R .years) y .tlm) * r .rqm) ∷ [])
 
 pub row-length : (R : Round) (p k : ℕ) {v : List ℕ} → v ≡ rowNumbers R p k → 6 ≡ length v
 unfolding rowNumbers

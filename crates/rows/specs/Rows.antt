@@ -1,17 +1,15 @@
--- What is to stand in the sheet of a pot for one bid. Assumes nothing.
+-- What is to stand in the sheet of a pot for one bid, and for one application at its administrative price. Assumes nothing.
 use Prim.Native.Nat.{ℕ, _+_, _-_, _*_, _≤_}
-use mathlib.Core.Path.{_≡_, refl}
-use mathlib.Core.Bool.{Bool, not}
-use mathlib.Core.List.{List, [], _∷_, map}
+use mathlib.Core.List.{List, [], _∷_}
 use lib.ListN.{length}
 use Rattle.rules.specs.Names.{countWidth, whole}
-use Rattle.rules.specs.Lists.{pick, memb, below}
+use Rattle.rules.specs.Lists.{pick}
 use Rattle.rules.specs.File.{Round, Bid, yearAt, techAt, bidAt}
-use Rattle.rules.specs.Round.{Row, blank, energyOf, bidOf, mine, silent, enters, rowFor}
+use Rattle.rules.specs.Round.{Row, blank, energyOf, atAdminPrice, mine, appMine, rowFor}
 use Rattle.rules.specs.declared.Sections.{Sections}
 use Rattle.laws_reading.specs.Reading.{Sound}
 use Rattle.layout.specs.Layout.{yearsIn, potsIn, technologiesIn, applicationsIn, bidsIn}
-use Rattle.sheet.specs.Sheet.{absent, entered, spare}
+use Rattle.sheet.specs.Sheet.{absent, entered}
 
 -- the round that a file shows whose sections these are: each is the part of the file that it occupies
 abbrev pub roundIn : List ℕ → Sections → Round
@@ -38,35 +36,24 @@ pub record Held (s : List ℕ) (sections : Sections) : Type 0 where
   pub four : sections .«applications_at» + countWidth ≤ sections .«bids_at»
   pub five : sections .«bids_at» + countWidth ≤ length s
 
--- ---- bids by number
-
--- has application a none of the b bids?
-abbrev pub silentIn : (bids : List ℕ) (b a : ℕ) → Bool
-silentIn bids b a = not (memb a (map (λ k. bidAt bids k .app) (below b)))
-
-pub silent-is : (R : Round) (a : ℕ) → silentIn (R .bids) (R .b) a ≡ silent R a
-unfolding silent
-silent-is R a = refl
-
 -- ---- what is to stand in the sheet
 
--- the row of bid k in pot p, as the clearing reads it
+-- the row of bid k in pot p, and of application a, as the clearing reads them
 unfoldable pub rowOf : Round → (p k : ℕ) → Row
-rowOf R p k = pick (mine R p k) (rowFor R (bidOf R k)) blank
+rowOf R p k = pick (mine R p k) (rowFor R (bidAt (R .bids) k)) blank
 
--- "An application with no bid is given an automatic one": one that has sealed bids keeps its automatic bid for the first test alone
-unfoldable pub standingOf : Round → (p k : ℕ) → ℕ
-standingOf R p k = pick (mine R p k) (pick (enters R k) entered spare) absent
+unfoldable pub adminRow : Round → (p a : ℕ) → Row
+adminRow R p a = pick (appMine R p a) (rowFor R (atAdminPrice R a)) blank
 
--- the numbers of a bid's row, and of its figures in year y
+-- the numbers of a bid's row
 unfoldable pub rowNumbers : Round → (p k : ℕ) → List ℕ
 rowNumbers R p k =
     let r = rowOf R p k in
-    standingOf R p k ∷ r .bid .app ∷ r .bid .year ∷ r .bid .price ∷ r .draw ∷ r .admin ∷ []
+    pick (mine R p k) entered absent ∷ r .bid .app ∷ r .bid .year ∷ r .bid .price ∷ r .draw ∷ r .admin ∷ []
 
-unfoldable pub figureNumbers : Round → (p k y : ℕ) → List ℕ
-figureNumbers R p k y =
-    let r = rowOf R p k in
+-- the figures of a row in year y
+unfoldable pub figureNumbers : Round → Row → (y : ℕ) → List ℕ
+figureNumbers R r y =
     r .reference y ∷ (r .load y * energyOf (R .years) (r .bid) y) ∷ ((whole - yearAt (R .years) y .tlm) * r .rqm) ∷ []
 
 -- those of a bid of technology t

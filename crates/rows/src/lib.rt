@@ -1,5 +1,5 @@
-// What stands in the sheet of a pot for one bid: its row, and its figures in each year. Each number is read from the sections of an
-// accepted file.
+// What stands in the sheet of a pot for one bid: its row, and its figures in each year; and for one application at its administrative price. Each number is
+// read from the sections of an accepted file.
 pub mod factors;
 
 use factors::Factors;
@@ -11,15 +11,12 @@ use layout::parts;
 use layout::technology;
 use rules::Sections;
 ghost use mathlib.Core.Path.{_≡_};
-ghost use Prim.Native.Nat.{_+_, _*_, _≤_, _<_};
-ghost use lib.ListN.{length};
-ghost use Rattle.rules.specs.Names.{bidWidth, longYear, largestCapacity};
-ghost use Rattle.rules.specs.Lists.{pick};
-ghost use Rattle.rules.specs.File.{techAt, appAt};
-ghost use Rattle.rules.specs.Round.{automatic, bidOf, enters, mine};
+ghost use Prim.Native.Nat.{_≤_, _<_};
+ghost use Rattle.rules.specs.Names.{longYear, largestCapacity};
+ghost use Rattle.rules.specs.File.{techAt, appAt, bidAt};
+ghost use Rattle.rules.specs.Round.{atAdminPrice, mine, appMine};
 ghost use Rattle.layout.specs.Layout.{applicationShown, bidShown};
-ghost use Rattle.sheet.specs.Sheet.{entered, spare};
-ghost use Rattle.rows.specs.Rows.{roundIn, Held, silentIn, rowNumbers, figuresIn};
+ghost use Rattle.rows.specs.Rows.{roundIn, Held, rowNumbers, figuresIn};
 
 // ---- applications and technologies
 
@@ -47,12 +44,10 @@ fn admin_of(file: &[u8], sections: Sections, t: usize, y: usize) -> u64
     technology::admin(parts::technologies(file, sections), sections.years, t, y)
 }
 
-// ---- bids by number
-
-// The automatic bid of application a: its own capacity, year and days, at its administrative price.
-fn automatic(file: &[u8], sections: Sections, a: usize) -> Bid
+// Application a at its administrative price: its own capacity, year and days.
+pub fn at_admin_price(file: &[u8], sections: Sections, a: usize) -> Bid
     requires { ⌜ Held (now file) sections × (a < sections .applications) ⌝ }
-    ensures { λ r. ⌜ bidShown r ≡ automatic (roundIn (now (file .entry)) sections) a ⌝ }
+    ensures { λ r. ⌜ bidShown r ≡ atAdminPrice (roundIn (now (file .entry)) sections) a ⌝ }
 {
     let own = application_of(file, sections, a);
     Bid {
@@ -64,45 +59,26 @@ fn automatic(file: &[u8], sections: Sections, a: usize) -> Bid
     }
 }
 
-// Bid k by number: the file's own bids, and after them the automatic bid of each application.
-pub fn bid_of(file: &[u8], sections: Sections, k: usize) -> Bid
-    requires { ⌜ Held (now file) sections × (k < sections .bids + sections .applications) ⌝ }
-    ensures { λ r. ⌜ bidShown r ≡ bidOf (roundIn (now (file .entry)) sections) k ⌝ }
-{
-    if k < sections.bids {
-        return bid::read(parts::bids(file, sections), k);
-    }
-    automatic(file, sections, k - sections.bids)
-}
-
-// Has application a none of the first so many bids?
-fn silent(recs: &[u8], bids: usize, a: usize) -> bool
-    requires { ⌜ bids * bidWidth ≤ length (now recs) ⌝ }
-    ensures { λ r. ⌜ r ≡ silentIn (now (recs .entry)) bids a ⌝ }
-{
-    let mut k: usize = 0;
-    while k < bids {
-        if bid::application(recs, k) == a {
-            return false;
-        }
-        k += 1;
-    }
-    true
-}
-
-// Where bid k of the pot stands: it enters the auction, unless it is an automatic bid of an application that has sealed ones.
-fn standing(file: &[u8], sections: Sections, k: usize) -> u64
+// Does application a stand in pot p?
+pub fn app_mine(file: &[u8], sections: Sections, p: usize, a: usize) -> bool
     requires { ⌜ Held (now file) sections ⌝ }
-    ensures { λ r. ⌜ r ≡ pick (enters (roundIn (now (file .entry)) sections) k) entered spare ⌝ }
+    ensures { λ r. ⌜ r ≡ appMine (roundIn (now (file .entry)) sections) p a ⌝ }
 {
-    let bids = sections.bids;
-    if k < bids {
-        return sheet::ENTERED;
+    if sections.applications <= a {
+        return false;
     }
-    if silent(parts::bids(file, sections), bids, k - bids) {
-        return sheet::ENTERED;
-    }
-    sheet::SPARE
+    let its = application_of(file, sections, a);
+    pot_of(file, sections, its.technology) == p
+}
+
+// ---- bids
+
+// Bid k.
+pub fn bid_of(file: &[u8], sections: Sections, k: usize) -> Bid
+    requires { ⌜ Held (now file) sections × (k < sections .bids) ⌝ }
+    ensures { λ r. ⌜ bidShown r ≡ bidAt (roundIn (now (file .entry)) sections .bids) k ⌝ }
+{
+    bid::read(parts::bids(file, sections), k)
 }
 
 // Does bid k stand in pot p?
@@ -110,17 +86,16 @@ fn mine(file: &[u8], sections: Sections, p: usize, k: usize) -> bool
     requires { ⌜ Held (now file) sections ⌝ }
     ensures { λ r. ⌜ r ≡ mine (roundIn (now (file .entry)) sections) p k ⌝ }
 {
-    if sections.bids + sections.applications <= k {
+    if sections.bids <= k {
         return false;
     }
     let bid = bid_of(file, sections, k);
-    let its = application_of(file, sections, bid.application);
-    pot_of(file, sections, its.technology) == p
+    app_mine(file, sections, p, bid.application)
 }
 
 // ---- the numbers of the sheet
 
-// The row of bid k: standing, application, start year, price, draw of the application, administrative price.
+// The row of bid k, zeros if it stands in another pot: standing, application, start year, price, draw of the application, administrative price.
 pub fn row(file: &[u8], sections: Sections, p: usize, k: usize) -> [u64; sheet::ROW]
     requires { ⌜ Held (now file) sections ⌝ }
     ensures { λ r. ⌜ r ≡ rowNumbers (roundIn (now (file .entry)) sections) p k ⌝ }
@@ -128,10 +103,9 @@ pub fn row(file: &[u8], sections: Sections, p: usize, k: usize) -> [u64; sheet::
     if mine(file, sections, p, k) {
         let bid = bid_of(file, sections, k);
         let its = application_of(file, sections, bid.application);
-        let standing = standing(file, sections, k);
         let admin = admin_of(file, sections, its.technology, bid.year);
         return [
-            standing,
+            sheet::ENTERED,
             bid.application as u64,
             bid.year as u64,
             bid.price,

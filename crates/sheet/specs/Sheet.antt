@@ -1,19 +1,19 @@
--- The sheet of a pot: its limits, the bids that enter its auction, the rows of all bids and their yearly figures, as numbers in one list; and the pot that
--- it shows. How much of the list is used, a size says. Assumes nothing.
+-- The sheet of a pot: its limits, its bids, its applications' administrative prices, the rows of all bids, and the yearly figures of bids and applications, as
+-- numbers in one list; and the pot that it shows. How much of the list is used, a size says. Assumes nothing.
 use Prim.Native.Nat.{ℕ, zero, suc, _+_, _-_, _*_, _≤_, _<_, min}
-use mathlib.Core.Bool.{Bool, true, not, _&&_}
+use mathlib.Core.Bool.{Bool, true, not}
 use mathlib.Core.Path.{_≡_}
 use mathlib.Core.List.{List, [], _∷_}
 use lib.Dec.{eqb, ltb}
 use lib.ListN.{getD}
-use Rattle.rules.specs.Names.{mostNumbers, mostApps, mostYears, mostDeliveries, highestPrice, highestBudget, pencePerPound}
+use Rattle.rules.specs.Names.{mostBids, mostApps, mostYears, mostDeliveries, highestPrice, highestBudget, pencePerPound}
 use Rattle.rules.specs.Lists.{pick, sift, below}
 use Rattle.rules.specs.Value.{penny, mostEnergy, mostShare}
 use Rattle.rules.specs.Pot.{Pot}
 use Rattle.sheet.specs.declared.Size.{Size}
 
--- ---- what stands where: a limit for each column, the bids that enter, the figures of the bids, and last their rows: there is no number after them, so that
--- a bid past the last has a row of zeros
+-- ---- what stands where: a limit for each column, the bids of the pot, the administrative prices of its applications, the figures, and last the rows of the
+-- bids: there is no number after them, so that a bid past the last has a row of zeros
 
 -- the columns of a row of totals: the years' money
 abbrev pub columns : ℕ
@@ -29,19 +29,29 @@ figureWidth = 3
 abbrev pub figuresWidth : ℕ
 figuresWidth = columns * figureWidth
 
+-- the places for figures: those of bid k stand at place k, and after those of all bids the applications' have their places
+abbrev pub places : ℕ
+places = mostBids + mostApps
+
+abbrev pub appPlace : (a : ℕ) → ℕ
+appPlace a = mostBids + a
+
 abbrev pub entrantsAt : ℕ
 entrantsAt = columns
 
+abbrev pub adminsAt : ℕ
+adminsAt = entrantsAt + mostBids
+
 abbrev pub figuresAt : ℕ
-figuresAt = entrantsAt + mostNumbers
+figuresAt = adminsAt + mostApps
 
 abbrev pub rowsAt : ℕ
-rowsAt = figuresAt + mostNumbers * figuresWidth
+rowsAt = figuresAt + places * figuresWidth
 
 abbrev pub sheetLength : ℕ
-sheetLength = rowsAt + mostNumbers * rowWidth
+sheetLength = rowsAt + mostBids * rowWidth
 
--- where the row of bid k starts, its figures, and those of year y
+-- where the row of bid k starts; the figures at place k, and those of year y
 abbrev pub rowPlace : (k : ℕ) → ℕ
 rowPlace k = rowsAt + k * rowWidth
 
@@ -55,7 +65,7 @@ figurePlace k y = figuresPlace k + y * figureWidth
 unfoldable pub limitAt : List ℕ → ℕ → ℕ
 limitAt sheet c = getD sheet c 0
 
--- the bids that enter the auction, in the order of the file; the first k of them, the last first
+-- the bids of the pot, which enter its auction, in the order of the file; the first k of them, the last first
 unfoldable pub entrantAt : List ℕ → ℕ → ℕ
 entrantAt sheet j = getD sheet (entrantsAt + j) 0
 
@@ -63,18 +73,18 @@ unfoldable pub entrants : List ℕ → ℕ → List ℕ
 entrants sheet zero = []
 entrants sheet (suc k) = entrantAt sheet k ∷ entrants sheet k
 
--- ---- the row of a bid by number: standing, application, start year, price, draw of the application, administrative price. The numbers
--- below b are the file's bids; after them comes the automatic bid of each application
+-- the administrative price of application a. That of another pot's has 0 in its place, which no administrative price is
+unfoldable pub adminAt : List ℕ → ℕ → ℕ
+adminAt sheet a = getD sheet (adminsAt + a) 0
 
--- a bid of another pot has a row of zeros; one that enters the auction; an automatic bid of an application that has sealed ones
+-- ---- the row of a bid by number: standing, application, start year, price, draw of the application, administrative price
+
+-- a bid of another pot has a row of zeros; one of this pot enters its auction
 abbrev pub absent : ℕ
 absent = 0
 
 abbrev pub entered : ℕ
 entered = 1
-
-abbrev pub spare : ℕ
-spare = 2
 
 unfoldable pub rowStanding : List ℕ → ℕ → ℕ
 rowStanding sheet k = getD sheet (rowPlace k) 0
@@ -94,7 +104,7 @@ rowDraw sheet k = getD sheet (rowPlace k + 4) 0
 unfoldable pub rowAdmin : List ℕ → ℕ → ℕ
 rowAdmin sheet k = getD sheet (rowPlace k + 5) 0
 
--- ---- the figures of a bid in a year: reference price, load factor × hours × capacity, (1 − TLM) × RQM
+-- ---- the figures at place k in a year: reference price, load factor × hours × capacity, (1 − TLM) × RQM
 unfoldable pub figReference : List ℕ → (k y : ℕ) → ℕ
 figReference sheet k y = getD sheet (figurePlace k y) 0
 
@@ -104,21 +114,29 @@ figEnergy sheet k y = getD sheet (figurePlace k y + 1) 0
 unfoldable pub figShare : List ℕ → (k y : ℕ) → ℕ
 figShare sheet k y = getD sheet (figurePlace k y + 2) 0
 
--- the exact cost in parts of bid k in year y at a clearing price
-unfoldable pub sheetCost : List ℕ → (k price y : ℕ) → ℕ
-sheetCost sheet k price y = (min price (rowAdmin sheet k) - figReference sheet k y) * figEnergy sheet k y * figShare sheet k y
+-- the exact cost in parts, at a strike price, of what has its figures at place k
+unfoldable pub partsAt : List ℕ → (k strike y : ℕ) → ℕ
+partsAt sheet k strike y = (strike - figReference sheet k y) * figEnergy sheet k y * figShare sheet k y
 
--- ---- the pot that a sheet shows, of a size: so many years, sealed bids, and bids with the automatic ones
-abbrev pub inAuction : List ℕ → ℕ → Bool
+-- of bid k at a clearing price, capped
+unfoldable pub sheetCost : List ℕ → (k price y : ℕ) → ℕ
+sheetCost sheet k price y = partsAt sheet k (min price (rowAdmin sheet k)) y
+
+-- ---- the pot that a sheet shows, of a size: so many years, bids and applications
+abbrev pub inAuction : List ℕ → (k : ℕ) → Bool
 inAuction sheet k = eqb (rowStanding sheet k) entered
 
-abbrev pub inTest : List ℕ → (b k : ℕ) → Bool
-inTest sheet b k = not (ltb k b) && not (eqb (rowStanding sheet k) absent)
+abbrev pub inTest : List ℕ → (a : ℕ) → Bool
+inTest sheet a = not (eqb (adminAt sheet a) 0)
+
+-- the administrative price of application a, of n
+abbrev pub adminOf : List ℕ → (n a : ℕ) → ℕ
+adminOf sheet n a = pick (ltb a n) (adminAt sheet a) 0
 
 unfoldable pub potIn : List ℕ → Size → Pot
 potIn sheet of = record {
   bids = sift (inAuction sheet) (below (of .bids));
-  autos = sift (inTest sheet (of .sealed)) (below (of .bids));
+  apps = sift (inTest sheet) (below (of .applications));
   years = of .years;
   scale = penny;
   app = rowApp sheet;
@@ -128,12 +146,14 @@ potIn sheet of = record {
   budget = λ y. pick (ltb y (of .years)) (limitAt sheet y) 0;
   draw = rowDraw sheet;
   admin = rowAdmin sheet;
+  adminPrice = adminOf sheet (of .applications);
+  adminCost = λ a y. pick (ltb y (of .years)) (partsAt sheet (appPlace a) (adminOf sheet (of .applications) a) y) 0;
 }
 
 -- what has been seen to before a pot is cleared
 pub record Ready (sheet : List ℕ) (of : Size) : Type 0 where
-  pub few : of .bids ≤ mostNumbers
-  pub sealed : of .sealed ≤ of .bids
+  pub few : of .bids ≤ mostBids
+  pub apps : of .applications ≤ mostApps
   pub some : 0 < of .years
   pub years : of .years ≤ mostYears
   pub app : (k : ℕ) → k < of .bids → rowApp sheet k < mostApps
@@ -141,9 +161,10 @@ pub record Ready (sheet : List ℕ) (of : Size) : Type 0 where
   pub price : (k : ℕ) → k < of .bids → rowPrice sheet k ≤ highestPrice
   pub admin : (k : ℕ) → k < of .bids → rowAdmin sheet k ≤ highestPrice
   pub draw : (k : ℕ) → k < of .bids → rowDraw sheet k < 65536
-  pub reference : (k y : ℕ) → k < of .bids → y < of .years → figReference sheet k y ≤ highestPrice
-  pub energy : (k y : ℕ) → k < of .bids → y < of .years → figEnergy sheet k y ≤ mostEnergy
-  pub share : (k y : ℕ) → k < of .bids → y < of .years → figShare sheet k y ≤ mostShare
+  pub admins : (a : ℕ) → a < of .applications → adminAt sheet a ≤ highestPrice
+  pub reference : (k y : ℕ) → k < places → y < of .years → figReference sheet k y ≤ highestPrice
+  pub energy : (k y : ℕ) → k < places → y < of .years → figEnergy sheet k y ≤ mostEnergy
+  pub share : (k y : ℕ) → k < places → y < of .years → figShare sheet k y ≤ mostShare
   pub limit : (y : ℕ) → y < of .years → limitAt sheet y ≤ pencePerPound * highestBudget
   -- two bids of the auction at one price are of applications with different draws
   pub apart : (c d : ℕ) → c < of .bids → d < of .bids → inAuction sheet c ≡ true → inAuction sheet d ≡ true

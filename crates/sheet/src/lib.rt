@@ -1,24 +1,24 @@
-// The sheet of a pot: its limits, the bids that enter its auction, the rows of all bids and their yearly figures, as numbers in one lent array, which the
-// auction reads; and its size. specs/Sheet.antt says what stands where.
+// The sheet of a pot: its limits, its bids, its applications' administrative prices, the rows of all bids, and the yearly figures of bids and applications, as
+// numbers in one lent array, which the first test and the auction read; and its size. specs/Sheet.antt says what stands where.
 ghost use mathlib.Core.Path.{_≡_};
 ghost use Prim.Native.Nat.{_<_};
-ghost use Rattle.rules.specs.Names.{mostNumbers};
-ghost use Rattle.sheet.specs.Sheet.{columns, limitAt, entrantAt, rowStanding, rowApp, rowYear, rowPrice, rowDraw, rowAdmin, figReference, figEnergy};
-ghost use Rattle.sheet.specs.Sheet.{figShare};
+ghost use Rattle.rules.specs.Names.{mostBids, mostApps};
+ghost use Rattle.sheet.specs.Sheet.{columns, places, limitAt, entrantAt, adminAt, inAuction, inTest, rowApp, rowYear, rowPrice, rowDraw, rowAdmin};
+ghost use Rattle.sheet.specs.Sheet.{figReference, figEnergy, figShare};
 
-// How much of a sheet is used: the years of the file; its sealed bids; these and the automatic bid of each application; and the bids that enter the auction.
+// How much of a sheet is used: the years, bids and applications of the file; and how many of the bids are of the pot, and enter its auction.
 pub struct Size {
     pub years: usize,
-    pub sealed: usize,
     pub bids: usize,
+    pub applications: usize,
     pub entered: usize,
 }
 
 // The columns of a row of totals, and of the limits that it is held to: the years' money.
 pub const COLUMNS: usize = names::YEARS;
 
-// Places for the bids, by number.
-pub const BIDS: usize = names::NUMBERS;
+// Places for figures: for those of the bids, by number, and after them for those of the applications.
+pub const PLACES: usize = names::BIDS + names::APPS;
 
 // Numbers to a row of a bid; to a year of its figures, and to all years of them.
 pub const ROW: usize = 6;
@@ -27,23 +27,23 @@ pub const FIGURE: usize = 3;
 
 pub const FIGURES: usize = COLUMNS * FIGURE;
 
-// Where the entrants, the figures and the rows start, after the limits; and the whole.
+// Where the entrants, the administrative prices, the figures and the rows start, after the limits; and the whole.
 pub const ENTRANTS_AT: usize = COLUMNS;
 
-pub const FIGURES_AT: usize = ENTRANTS_AT + BIDS;
+pub const ADMINS_AT: usize = ENTRANTS_AT + names::BIDS;
 
-pub const ROWS_AT: usize = FIGURES_AT + BIDS * FIGURES;
+pub const FIGURES_AT: usize = ADMINS_AT + names::APPS;
 
-pub const LENGTH: usize = ROWS_AT + BIDS * ROW;
+pub const ROWS_AT: usize = FIGURES_AT + PLACES * FIGURES;
+
+pub const LENGTH: usize = ROWS_AT + names::BIDS * ROW;
 
 pub type Sheet = [u64; LENGTH];
 
-// The standings of a bid: of another pot, in the auction, an automatic bid of an application that has sealed ones.
+// The standings of a bid: of another pot, and of this one.
 pub const ABSENT: u64 = 0;
 
 pub const ENTERED: u64 = 1;
-
-pub const SPARE: u64 = 2;
 
 // The limit of a column.
 pub fn limit(sheet: &Sheet, c: usize) -> u64
@@ -55,71 +55,88 @@ pub fn limit(sheet: &Sheet, c: usize) -> u64
 
 // The bid that enters the auction at place j of their list.
 pub fn entrant(sheet: &Sheet, j: usize) -> usize
-    requires { ⌜ j < mostNumbers ⌝ }
+    requires { ⌜ j < mostBids ⌝ }
     ensures { λ r. ⌜ r ≡ entrantAt (now (sheet .entry)) j ⌝ }
 {
     sheet[ENTRANTS_AT + j] as usize
 }
 
-// Does bid k enter the auction, is it spare, or of another pot?
-pub fn standing(sheet: &Sheet, k: usize) -> u64
-    requires { ⌜ k < mostNumbers ⌝ }
-    ensures { λ r. ⌜ r ≡ rowStanding (now (sheet .entry)) k ⌝ }
+// The administrative price of application a of the pot; 0 of one of another pot.
+pub fn admin_price(sheet: &Sheet, a: usize) -> u64
+    requires { ⌜ a < mostApps ⌝ }
+    ensures { λ r. ⌜ r ≡ adminAt (now (sheet .entry)) a ⌝ }
 {
-    sheet[ROWS_AT + k * ROW]
+    sheet[ADMINS_AT + a]
+}
+
+// Is application a of the pot, and so in its first test?
+pub fn in_test(sheet: &Sheet, a: usize) -> bool
+    requires { ⌜ a < mostApps ⌝ }
+    ensures { λ r. ⌜ r ≡ inTest (now (sheet .entry)) a ⌝ }
+{
+    sheet[ADMINS_AT + a] != 0
+}
+
+// Is bid k of the pot, and so in its auction?
+pub fn in_auction(sheet: &Sheet, k: usize) -> bool
+    requires { ⌜ k < mostBids ⌝ }
+    ensures { λ r. ⌜ r ≡ inAuction (now (sheet .entry)) k ⌝ }
+{
+    sheet[ROWS_AT + k * ROW] == ENTERED
 }
 
 pub fn app(sheet: &Sheet, k: usize) -> usize
-    requires { ⌜ k < mostNumbers ⌝ }
+    requires { ⌜ k < mostBids ⌝ }
     ensures { λ r. ⌜ r ≡ rowApp (now (sheet .entry)) k ⌝ }
 {
     sheet[ROWS_AT + k * ROW + 1] as usize
 }
 
 pub fn year(sheet: &Sheet, k: usize) -> usize
-    requires { ⌜ k < mostNumbers ⌝ }
+    requires { ⌜ k < mostBids ⌝ }
     ensures { λ r. ⌜ r ≡ rowYear (now (sheet .entry)) k ⌝ }
 {
     sheet[ROWS_AT + k * ROW + 2] as usize
 }
 
 pub fn price(sheet: &Sheet, k: usize) -> u64
-    requires { ⌜ k < mostNumbers ⌝ }
+    requires { ⌜ k < mostBids ⌝ }
     ensures { λ r. ⌜ r ≡ rowPrice (now (sheet .entry)) k ⌝ }
 {
     sheet[ROWS_AT + k * ROW + 3]
 }
 
 pub fn draw(sheet: &Sheet, k: usize) -> u64
-    requires { ⌜ k < mostNumbers ⌝ }
+    requires { ⌜ k < mostBids ⌝ }
     ensures { λ r. ⌜ r ≡ rowDraw (now (sheet .entry)) k ⌝ }
 {
     sheet[ROWS_AT + k * ROW + 4]
 }
 
 pub fn admin(sheet: &Sheet, k: usize) -> u64
-    requires { ⌜ k < mostNumbers ⌝ }
+    requires { ⌜ k < mostBids ⌝ }
     ensures { λ r. ⌜ r ≡ rowAdmin (now (sheet .entry)) k ⌝ }
 {
     sheet[ROWS_AT + k * ROW + 5]
 }
 
+// The figures at place k, in year y.
 pub fn reference(sheet: &Sheet, k: usize, y: usize) -> u64
-    requires { ⌜ (k < mostNumbers) × (y < columns) ⌝ }
+    requires { ⌜ (k < places) × (y < columns) ⌝ }
     ensures { λ r. ⌜ r ≡ figReference (now (sheet .entry)) k y ⌝ }
 {
     sheet[FIGURES_AT + k * FIGURES + y * FIGURE]
 }
 
 pub fn energy(sheet: &Sheet, k: usize, y: usize) -> u64
-    requires { ⌜ (k < mostNumbers) × (y < columns) ⌝ }
+    requires { ⌜ (k < places) × (y < columns) ⌝ }
     ensures { λ r. ⌜ r ≡ figEnergy (now (sheet .entry)) k y ⌝ }
 {
     sheet[FIGURES_AT + k * FIGURES + y * FIGURE + 1]
 }
 
 pub fn share(sheet: &Sheet, k: usize, y: usize) -> u64
-    requires { ⌜ (k < mostNumbers) × (y < columns) ⌝ }
+    requires { ⌜ (k < places) × (y < columns) ⌝ }
     ensures { λ r. ⌜ r ≡ figShare (now (sheet .entry)) k y ⌝ }
 {
     sheet[FIGURES_AT + k * FIGURES + y * FIGURE + 2]

@@ -1,9 +1,9 @@
 -- What has been told of a round when some of its pots have been cleared, and what the clearing of the next adds. Assumes nothing.
-use Prim.Native.Nat.{ℕ, zero, suc, _+_, _-_, _<_}
-use mathlib.Core.Bool.{Bool, not, _&&_}
+use Prim.Native.Nat.{ℕ, zero, suc, _<_}
+use mathlib.Core.Bool.{Bool, _&&_}
 use mathlib.Core.Path.{_≡_}
 use mathlib.Core.List.{List}
-use lib.Dec.{eqb, ltb}
+use lib.Dec.{ltb}
 use lib.ListN.{length, getD, set}
 use Rattle.rules.specs.Names.{mostDeliveries, mostPots, mostApps, mostBids, noReason}
 use Rattle.rules.specs.Lists.{pick}
@@ -13,7 +13,7 @@ use Rattle.rules.specs.Round.{potOf}
 use Rattle.rules.specs.Result.{appTold, potAt}
 use Rattle.laws_round.specs.Bids.{appPot, bidPot}
 use Rattle.sheet.specs.declared.Size.{Size}
-use Rattle.sheet.specs.Sheet.{rowStanding, absent, inAuction}
+use Rattle.sheet.specs.Sheet.{inAuction, inTest}
 use Rattle.auction.specs.declared.Cleared.{Cleared}
 use Rattle.result.specs.declared.Tellings.{Tellings}
 use Rattle.result.specs.Tells.{untold, noPot}
@@ -32,10 +32,6 @@ pub record ToldTo (R : Round) (p : ℕ) (t : Tellings) : Type 0 where
   pub app : (a : ℕ) → getD (t .apps) a untold ≡ pick (ltb a (R .n) && ltb (appPot R a) p) (appTold R a) untold
   pub reason : (k : ℕ) → getD (t .reasons) k 0 ≡ pick (ltb k (R .b) && ltb (bidPot R k) p) (reason (potAt R k) k) noReason
 
--- is bid k of the pot that the sheet shows?
-unfoldable pub stands : List ℕ → (k : ℕ) → Bool
-stands sheet k = not (eqb (rowStanding sheet k) absent)
-
 -- a list with the first n places of another, where they are its own
 unfoldable pub merged : {A : Type 0} (own : ℕ → Bool) (mine old : List A) (d : A) (n : ℕ) → List A
 merged own mine old d zero = old
@@ -45,6 +41,6 @@ merged own mine old d (suc a) = pick (own a) (set (merged own mine old d a) a (g
 unfoldable pub toldWith : (sheet : List ℕ) (of : Size) (p : ℕ) → Cleared → Tellings → Tellings
 toldWith sheet of p c t = record {
   pots = set (t .pots) p (record { outcome = c .outcome; prices = c .prices; totals = c .totals });
-  apps = merged (λ a. stands sheet (of .sealed + a)) (c .apps) (t .apps) untold (of .bids - of .sealed);
-  reasons = merged (inAuction sheet) (c .reasons) (t .reasons) noReason (of .sealed);
+  apps = merged (inTest sheet) (c .apps) (t .apps) untold (of .applications);
+  reasons = merged (inAuction sheet) (c .reasons) (t .reasons) noReason (of .bids);
 }

@@ -1,21 +1,19 @@
 // What is told of a round: each pot is cleared on its own sheet, and what is told of it goes to the places of its applications and bids.
 ghost use mathlib.Core.Path.{_≡_};
-ghost use Prim.Native.Nat.{_+_, _-_, _<_};
+ghost use Prim.Native.Nat.{_+_, _<_};
 ghost use lib.ListN.{length};
-ghost use Rattle.rules.specs.Names.{mostNumbers, mostPots, noReason};
+ghost use Rattle.rules.specs.Names.{mostPots, noReason};
 ghost use Rattle.rules.specs.File.{Round};
-ghost use Rattle.sheet.specs.Sheet.{inAuction, sheetLength};
+ghost use Rattle.sheet.specs.Sheet.{inAuction, inTest, sheetLength, Ready};
 ghost use Rattle.rows.specs.Rows.{roundIn, Held};
 ghost use Rattle.fill.specs.Fill.{Blank};
-ghost use Rattle.auction.specs.Cleared.{Numbered};
 ghost use Rattle.result.specs.Tells.{untold, Tells};
-ghost use Rattle.tell.specs.ToldTo.{stands, merged, ToldTo, toldWith};
+ghost use Rattle.tell.specs.ToldTo.{merged, ToldTo, toldWith};
 use auction::Cleared;
-use names::MOST_APPS;
-use names::MOST_BIDS;
+use names::APPS;
+use names::BIDS;
 use names::MOST_DELIVERIES;
 use names::MOST_POTS;
-use names::NUMBERS;
 use names::YEARS;
 use result::PotTold;
 use result::Tellings;
@@ -24,38 +22,16 @@ use rules::Told;
 use sheet::Sheet;
 use sheet::Size;
 
-// Is bid k of the pot that the sheet shows?
-fn stands(sheet: &Sheet, k: usize) -> bool
-    requires { ⌜ k < mostNumbers ⌝ }
-    ensures { λ r. ⌜ r ≡ stands (now (sheet .entry)) k ⌝ }
-{
-    sheet::standing(sheet, k) != sheet::ABSENT
-}
-
-// Does bid k enter the auction of that pot?
-fn enters(sheet: &Sheet, k: usize) -> bool
-    requires { ⌜ k < mostNumbers ⌝ }
-    ensures { λ r. ⌜ r ≡ inAuction (now (sheet .entry)) k ⌝ }
-{
-    sheet::standing(sheet, k) == sheet::ENTERED
-}
-
-// What is told of the applications, those of the pot anew: an application is the pot's where its automatic bid stands in the sheet.
-fn with_apps(
-    told: [Told; MOST_APPS as usize],
-    mine: [Told; MOST_APPS as usize],
-    sheet: &Sheet,
-    of: Size,
-) -> [Told; MOST_APPS as usize]
-    requires { ⌜ Numbered of ⌝ }
-    ensures { λ r. ⌜ r ≡ merged (λ a. stands (now (sheet .entry)) (of .sealed + a)) mine told untold (of .bids - of .sealed) ⌝ }
+// What is told of the applications, those of the pot anew: an application is the pot's where it is in its first test.
+fn with_apps(told: [Told; APPS], mine: [Told; APPS], sheet: &Sheet, of: Size) -> [Told; APPS]
+    requires { ⌜ Ready (now sheet) of ⌝ }
+    ensures { λ r. ⌜ r ≡ merged (inTest (now (sheet .entry))) mine told untold (of .applications) ⌝ }
 {
     let mut next = told;
-    let b = of.sealed;
-    let n = of.bids - b;
+    let n = of.applications;
     let mut a: usize = 0;
     while a < n {
-        if stands(sheet, b + a) {
+        if sheet::in_test(sheet, a) {
             next[a] = mine[a];
         }
         a += 1;
@@ -63,21 +39,16 @@ fn with_apps(
     next
 }
 
-// The reasons of the sealed bids, those of the pot anew.
-fn with_reasons(
-    told: [u64; MOST_BIDS as usize],
-    mine: [u64; NUMBERS],
-    sheet: &Sheet,
-    of: Size,
-) -> [u64; MOST_BIDS as usize]
-    requires { ⌜ Numbered of ⌝ }
-    ensures { λ r. ⌜ r ≡ merged (inAuction (now (sheet .entry))) mine told noReason (of .sealed) ⌝ }
+// The reasons of the bids, those of the pot anew.
+fn with_reasons(told: [u64; BIDS], mine: [u64; BIDS], sheet: &Sheet, of: Size) -> [u64; BIDS]
+    requires { ⌜ Ready (now sheet) of ⌝ }
+    ensures { λ r. ⌜ r ≡ merged (inAuction (now (sheet .entry))) mine told noReason (of .bids) ⌝ }
 {
     let mut next = told;
-    let b = of.sealed;
+    let b = of.bids;
     let mut k: usize = 0;
     while k < b {
-        if enters(sheet, k) {
+        if sheet::in_auction(sheet, k) {
             next[k] = mine[k];
         }
         k += 1;
@@ -88,7 +59,7 @@ fn with_reasons(
 // What is told of the round, with the clearing of pot p added, whose sheet this is.
 fn with_cleared(t: Tellings, c: Cleared, sheet: &Sheet, of: Size, p: usize) -> Tellings
     requires known { ⌜ p < mostPots ⌝ }
-    requires numbered { ⌜ Numbered of ⌝ }
+    requires ready { ⌜ Ready (now sheet) of ⌝ }
     ensures { λ r. ⌜ r ≡ toldWith (now (sheet .entry)) of p c t ⌝ }
 {
     let prices = c.prices;
@@ -129,8 +100,8 @@ fn nothing() -> Tellings
     };
     Tellings {
         pots: [pot; MOST_POTS as usize],
-        apps: [app; MOST_APPS as usize],
-        reasons: [names::NO_REASON; MOST_BIDS as usize],
+        apps: [app; APPS],
+        reasons: [names::NO_REASON; BIDS],
     }
 }
 

@@ -7,7 +7,7 @@ use native.Mathlib.Omega.{arith}
 use lib.ListN.{length, getD, length-set}
 use lib.Dec.{eqb, ltb}
 use borrow.Author.Tests.{eqb-true, eqb-false, eq-eqb, ne-eqb, lt-ltb}
-use Rattle.rules.specs.Names.{noPrice}
+use Rattle.rules.specs.Names.{mostBids, noPrice}
 use Rattle.rules.specs.Lists.{pick, memb, sift, below, sum}
 use Rattle.rules.specs.Pot.{Pot, has, best, value, priceFrom, clearing, tally, total, within, fits, remaining, rank, combination, chosen, choose}
 use Rattle.laws_pot.specs.Lists.{case, In, memb-in, in-memb, in-one, in-map, sift-in, sift-same, sift-both, memb-join, below-in}
@@ -321,7 +321,7 @@ module _ (sheet : List ℕ) (of : Size) (ok : Ready sheet of) where
                 (λ u. rw (sel-is n h ∙ u, u, own-is n y h g, ih) (omega arith))
                 (λ u. rw (sel-is n h ∙ u, u, ih) (omega arith))
 
-            set-size : (n : ℕ) → length (combinationOf list ranks mask n) ≡ 320
+            set-size : (n : ℕ) → length (combinationOf list ranks mask n) ≡ mostBids
             unfolding combinationOf none
             set-size zero = refl
             set-size (suc n) =
@@ -330,7 +330,7 @@ module _ (sheet : List ℕ) (of : Size) (ok : Ready sheet of) where
 
             set-is : (n i : ℕ) → n ≤ k → i < of .bids → getD (combinationOf list ranks mask n) i false ≡ memb i (sift sel (listed list n))
             unfolding combinationOf listed none
-            set-is zero i h g = at-start 320 i false false (omega (arith, ok .few))
+            set-is zero i h g = at-start mostBids i false false (omega (arith, ok .few))
             set-is (suc n) i h g =
                 let ih = set-is n i (omega arith) g in
                 case (sel (getD list n 0))

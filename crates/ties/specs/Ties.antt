@@ -6,7 +6,7 @@ use mathlib.Core.List.{List, [], _∷_}
 use lib.Bits.{bitOr}
 use lib.ListN.{length, getD, set, replicate}
 use lib.Dec.{leb, ltb}
-use Rattle.rules.specs.Names.{mostNumbers, mostDeliveries, widestTie}
+use Rattle.rules.specs.Names.{mostBids, mostDeliveries, widestTie}
 use Rattle.rules.specs.Value.{dearest}
 use Rattle.rules.specs.Lists.{pick, sift}
 use Rattle.rules.specs.Pot.{has, best}
@@ -63,7 +63,7 @@ basesOf sheet of marks prices price = fill noBase (baseAt sheet of marks prices 
 
 -- no winner is dearer than the dearest
 abbrev pub mostBase : ℕ
-mostBase = dearest * mostNumbers
+mostBase = dearest * mostBids
 
 -- ---- a bid alone
 

@@ -6,7 +6,7 @@ ghost use Rattle.totals.specs.Totals.{Asked};
 ghost use Rattle.ties.specs.Ties.{Bounded, mostBase, Based, Trying, aloneTotal, aloneFits, keepsOf};
 use super::places::power;
 use super::winners::Base;
-use names::NUMBERS;
+use names::BIDS;
 use sheet::COLUMNS;
 use sheet::Sheet;
 use sheet::Size;
@@ -50,17 +50,11 @@ fn keeps(sheet: &Sheet, of: Size, base: &Base, price: u64, taken: bool, k: usize
 }
 
 // Those of a set that fit alone.
-pub fn rest(
-    sheet: &Sheet,
-    of: Size,
-    base: &Base,
-    set: [bool; NUMBERS],
-    price: u64,
-) -> [bool; NUMBERS]
+pub fn rest(sheet: &Sheet, of: Size, base: &Base, set: [bool; BIDS], price: u64) -> [bool; BIDS]
     requires { ⌜ Based (now sheet) of (now base) ⌝ }
     ensures { λ r. ⌜ r ≡ built (keepsOf (now (sheet .entry)) of (now (base .entry)) price set) (of .bids) ⌝ }
 {
-    let mut out = [false; NUMBERS];
+    let mut out = [false; BIDS];
     let bids = of.bids;
     let mut k: usize = 0;
     while k < bids {

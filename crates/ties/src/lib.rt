@@ -2,7 +2,7 @@
 // no other; so the totals of the present winners are taken once for each set of delivery years, and a combination adds what its own bids cost,
 // which a table has for each part of its number. specs/Ties.antt says what each function computes.
 ghost use mathlib.Core.Path.{_≡_};
-ghost use Rattle.rules.specs.Names.{mostNumbers};
+ghost use Rattle.rules.specs.Names.{mostBids};
 ghost use Rattle.ties.specs.Ties.{Based, Few, Numbers, Placed, combinationOf, choiceOf};
 
 pub mod alone;
@@ -12,7 +12,7 @@ mod tables;
 mod tied;
 pub mod winners;
 
-use names::NUMBERS;
+use names::BIDS;
 use places::member;
 use sheet::Sheet;
 use sheet::Size;
@@ -20,11 +20,11 @@ use tied::Tied;
 use winners::Base;
 
 // The bids of a combination, as a set.
-fn combination(tied: Tied, mask: u32) -> [bool; NUMBERS]
-    requires { ⌜ Numbers (tied .bids) (tied .count) mostNumbers × Placed tied ⌝ }
+fn combination(tied: Tied, mask: u32) -> [bool; BIDS]
+    requires { ⌜ Numbers (tied .bids) (tied .count) mostBids × Placed tied ⌝ }
     ensures { λ r. ⌜ r ≡ combinationOf (tied .bids) (tied .ranks) mask (tied .count) ⌝ }
 {
-    let mut out = [false; NUMBERS];
+    let mut out = [false; BIDS];
     let count = tied.count;
     let mut j: usize = 0;
     while j < count {
@@ -41,10 +41,10 @@ pub fn choose(
     sheet: &Sheet,
     of: Size,
     base: &Base,
-    set: [bool; NUMBERS],
+    set: [bool; BIDS],
     count: usize,
     price: u64,
-) -> [bool; NUMBERS]
+) -> [bool; BIDS]
     requires { ⌜ Based (now sheet) of (now base) × Few of set count ⌝ }
     ensures { λ r. ⌜ r ≡ choiceOf (now (sheet .entry)) of (now (base .entry)) set count price ⌝ }
 {

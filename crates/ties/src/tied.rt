@@ -2,11 +2,11 @@
 ghost use mathlib.Core.Path.{_≡_};
 ghost use Prim.Native.Nat.{_≤_};
 ghost use lib.ListN.{length};
-ghost use Rattle.rules.specs.Names.{mostNumbers, widestTie};
+ghost use Rattle.rules.specs.Names.{mostBids, widestTie};
 ghost use Rattle.arrays.specs.Sets.{members};
 ghost use Rattle.sheet.specs.Sheet.{Ready};
 ghost use Rattle.ties.specs.Ties.{Few, Numbers, compactOf, aboveOf, ranksOf, startsOf, tiedOf};
-use names::NUMBERS;
+use names::BIDS;
 use names::WIDEST_TIE;
 use sheet::Sheet;
 use sheet::Size;
@@ -20,8 +20,8 @@ pub struct Tied {
 }
 
 // The numbers of the bids of a small set.
-fn compact(of: Size, set: [bool; NUMBERS]) -> [usize; WIDEST_TIE]
-    requires { ⌜ (of .bids ≤ mostNumbers) × (length (members set (of .bids)) ≤ widestTie) ⌝ }
+fn compact(of: Size, set: [bool; BIDS]) -> [usize; WIDEST_TIE]
+    requires { ⌜ (of .bids ≤ mostBids) × (length (members set (of .bids)) ≤ widestTie) ⌝ }
     ensures { λ r. ⌜ r ≡ compactOf set (of .bids) ⌝ }
 {
     let mut list = [0usize; WIDEST_TIE];
@@ -83,7 +83,7 @@ fn starts(sheet: &Sheet, of: Size, list: &[usize; WIDEST_TIE], count: usize) -> 
 }
 
 // The bids of a set, of which there are `count`.
-pub fn gathered(sheet: &Sheet, of: Size, set: [bool; NUMBERS], count: usize) -> Tied
+pub fn gathered(sheet: &Sheet, of: Size, set: [bool; BIDS], count: usize) -> Tied
     requires { ⌜ Ready (now sheet) of × Few of set count ⌝ }
     ensures { λ r. ⌜ r ≡ tiedOf (now (sheet .entry)) of set count ⌝ }
 {

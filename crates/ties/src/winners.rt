@@ -8,8 +8,8 @@ ghost use Rattle.sheet.specs.Sheet.{columns, Ready};
 ghost use Rattle.ties.specs.Ties.{yearSets, repricedTo, basesOf};
 use super::places::SETS;
 use super::places::member;
+use names::BIDS;
 use names::MOST_DELIVERIES;
-use names::NUMBERS;
 use sheet::COLUMNS;
 use sheet::Sheet;
 use sheet::Size;
@@ -49,7 +49,7 @@ fn laid(base: Base, row: [u64; COLUMNS], t: usize) -> Base
 pub fn bases(
     sheet: &Sheet,
     of: Size,
-    marks: [u16; NUMBERS],
+    marks: [u16; BIDS],
     prices: [u64; MOST_DELIVERIES],
     price: u64,
 ) -> Base

@@ -1,31 +1,34 @@
 -- Laws of values and totals over plain variables: each answers one need of a proof. Assumes nothing.
 use Prim.Native.Nat.{ℕ, zero, suc, _+_, _-_, _*_, _≤_, _<_, min}
 use mathlib.Core.Path.{_≡_, refl, sym, ap, ap₂, _∙_}
-use mathlib.Core.Bool.{Bool, true, false, not, _&&_}
-use mathlib.Core.List.{List, [], _∷_}
+use mathlib.Core.Bool.{Bool, true, false}
+use mathlib.Core.List.{List}
 use native.Mathlib.Numerals.{add-one}
 use native.Mathlib.Omega.{arith}
 use lib.ListN.{length, getD, set}
 use lib.Seq.{ext-getD}
 use lib.Dec.{eqb, ltb}
-use borrow.Author.Tests.{eq-eqb, ne-eqb, le-ltb, lt-ltb, lt-leb, le-leb, ltb-true, ltb-false}
-use Rattle.rules.specs.Names.{becauseWon}
-use Rattle.rules.specs.Lists.{pick, keep, sift, below, sum}
+use borrow.Author.Tests.{eq-eqb, ne-eqb, lt-leb, le-leb, ltb-true, ltb-false}
+use Rattle.rules.specs.Names.{mostBids, becauseWon}
+use Rattle.rules.specs.Lists.{pick, sum}
 use Rattle.rules.specs.Value.{ceilDiv, penny, dearest}
-use Rattle.laws_pot.specs.Lists.{case, In, here, there, below-in}
+use Rattle.laws_pot.specs.Lists.{case}
 use Rattle.arrays.proofs.Laws.{done, fill-next}
 use Rattle.arrays.proofs.Arrays.{fill-at, fill-length, zeros, fill-rest}
 use Rattle.sheet.specs.declared.Size.{Size}
-use Rattle.sheet.specs.Sheet.{Ready, limitAt, rowStanding, rowYear, rowPrice, rowAdmin, figReference, figEnergy, figShare, sheetCost, inTest, absent}
+use Rattle.sheet.specs.Sheet.{Ready, places, appPlace, limitAt, adminAt, rowYear, rowAdmin, figReference, figEnergy, figShare, partsAt, sheetCost, inTest}
 use Rattle.value.specs.Laws.{at-most}
-use Rattle.totals.specs.Totals.{Adding, worthOf, costOf, totalOf, noRow, filled, addedTo, fitsTo, autoTotal}
+use Rattle.totals.specs.Totals.{Adding, worthOf, costOf, totalOf, noRow, filled, addedTo, fitsTo, adminWorth, adminTotalOf}
 
 module _ (sheet : List ℕ) where
-  pub worth-is : (k price y : ℕ) {c s f e h r : ℕ} → c ≡ rowAdmin sheet k → s ≡ min price c → f ≡ figReference sheet k y → e ≡ figEnergy sheet k y
-      → h ≡ figShare sheet k y
-      → r ≡ ceilDiv ((s - f) * e * h) penny → r ≡ worthOf sheet k price y
+  pub valued-is : (k s y : ℕ) {f e h r : ℕ} → f ≡ figReference sheet k y → e ≡ figEnergy sheet k y → h ≡ figShare sheet k y
+      → r ≡ ceilDiv ((s - f) * e * h) penny → r ≡ ceilDiv (partsAt sheet k s y) penny
+  unfolding partsAt
+  valued-is k s y ef ee eh er = rw (er, ef, ee, eh)
+
+  pub worth-is : (k price y : ℕ) {c s r : ℕ} → c ≡ rowAdmin sheet k → s ≡ min price c → r ≡ ceilDiv (partsAt sheet k s y) penny → r ≡ worthOf sheet k price y
   unfolding worthOf sheetCost
-  worth-is k price y ec es ef ee eh er = rw (er, es, ec, ef, ee, eh)
+  worth-is k price y ec es er = rw (er, es, ec)
 
   pub cost-is : (prices : List ℕ) (y k : ℕ) {d r : ℕ} → d ≡ rowYear sheet k → r ≡ worthOf sheet k (getD prices d 0) y → r ≡ costOf sheet prices y k
   unfolding costOf
@@ -42,30 +45,15 @@ module _ (sheet : List ℕ) where
     unfolding totalOf
     total-miss h es = rw (add-one i, es, ne-eqb _ _ h) (omega arith)
 
-  module _ (b y i : ℕ) where
-    pub auto-hit : {r p s w : ℕ} → b ≤ i → r ≡ rowStanding sheet i → (r ≡ 0 → ⊥) → p ≡ rowPrice sheet i → s ≡ autoTotal sheet b y i → w ≡ worthOf sheet i p y
-        → s + w ≡ autoTotal sheet b y (i + 1)
-    unfolding autoTotal sum
-    auto-hit h er n ep es ew =
-        rw (add-one i, es, ew, ep, le-ltb i b h, ne-eqb (rowStanding sheet i) absent (λ e. n (er ∙ e))) (omega arith)
+  -- one application more: of the pot, or of another
+  module _ (y i : ℕ) {t : Bool} {s : ℕ} (et : t ≡ inTest sheet i) (es : s ≡ adminTotalOf sheet y i) where
+    pub admin-hit : {c w : ℕ} → t ≡ true → c ≡ adminAt sheet i → w ≡ ceilDiv (partsAt sheet (appPlace i) c y) penny → s + w ≡ adminTotalOf sheet y (i + 1)
+    unfolding adminTotalOf adminWorth sum
+    admin-hit h ec ew = rw (add-one i, es, ew, ec, sym et ∙ h) (omega arith)
 
-    pub auto-miss : {r s : ℕ} → r ≡ rowStanding sheet i → r ≡ 0 → s ≡ autoTotal sheet b y i → s ≡ autoTotal sheet b y (i + 1)
-    unfolding autoTotal
-    auto-miss er n es = rw (add-one i, es, eq-eqb (rowStanding sheet i) absent (sym er ∙ n)) (gone (ltb i b))
-      where
-        gone : (t : Bool) → sum (λ k. worthOf sheet k (rowPrice sheet k) y) (sift (inTest sheet b) (below i))
-            ≡ sum (λ k. worthOf sheet k (rowPrice sheet k) y) (keep (not t && false) i (sift (inTest sheet b) (below i)))
-        gone true = refl
-        gone false = refl
-
--- no sealed bid is in the first test
-pub auto-none : (sheet : List ℕ) (b y : ℕ) → 0 ≡ autoTotal sheet b y b
-unfolding autoTotal sum
-auto-none sheet b y = rw (none (below b) (λ k i. below-in k b i))
-  where
-    none : (l : List ℕ) → ((k : ℕ) → In k l → k < b) → sift (inTest sheet b) l ≡ []
-    none [] h = refl
-    none (x ∷ l) h = rw (lt-ltb x b (h x (here refl))) (none l (λ k i. h k (there i)))
+    pub admin-miss : t ≡ false → s ≡ adminTotalOf sheet y (i + 1)
+    unfolding adminTotalOf
+    admin-miss h = rw (add-one i, es, sym et ∙ h)
 
 -- one year more
 module _ (f : ℕ → ℕ) (sheet : List ℕ) (y : ℕ) {x : ℕ} (e : x ≡ f y) where
@@ -119,10 +107,16 @@ added-is f g n h =
 
 -- the greatest value of a bid, and of the winners among n bids
 pub worth-le : (sheet : List ℕ) (of : Size) (k p y : ℕ) → Ready sheet of → k < of .bids → y < of .years → worthOf sheet k p y ≤ dearest
-unfolding worthOf sheetCost
+unfolding worthOf sheetCost partsAt
 worth-le sheet of k p y ok h g =
+    let place : k < places = omega (arith, ok .few) in
     at-most (min p (rowAdmin sheet k)) (figReference sheet k y) (figEnergy sheet k y) (figShare sheet k y)
-    (record { price-ok = omega (arith, ok .admin k h); reference-ok = ok .reference k y h g; energy-ok = ok .energy k y h g; share-ok = ok .share k y h g })
+    (record {
+      price-ok = omega (arith, ok .admin k h);
+      reference-ok = ok .reference k y place g;
+      energy-ok = ok .energy k y place g;
+      share-ok = ok .share k y place g;
+    })
 
 pub pick-le : (t : Bool) {x q : ℕ} → x ≤ q → pick t x 0 ≤ q
 pick-le true h = h
@@ -163,7 +157,7 @@ adding sheet of i n f {row} v h g er low = record { ready = v; known = h; low = 
     at : (y : ℕ) → y < of .years → getD row y 0 ≡ f y
     at y j = ap (λ (l : List ℕ). getD l y 0) er ∙ fill-at noRow f (of .years) y 0 (size (v .years)) j
 
-    most : (y : ℕ) → y < of .years → getD row y 0 ≤ dearest * 320
+    most : (y : ℕ) → y < of .years → getD row y 0 ≤ dearest * mostBids
     most y j = omega (arith, at y j, low y j, v .few)
 
 -- the row of totals, one bid more

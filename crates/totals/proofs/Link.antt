@@ -2,29 +2,26 @@
 use Prim.Native.Nat.{ℕ, zero, suc, _+_, _≤_, _<_}
 use mathlib.Core.Path.{_≡_, refl, sym, ap, ap₂, _∙_}
 use mathlib.Core.Bool.{Bool, true, false}
-use mathlib.Core.List.{List, [], _∷_}
+use mathlib.Core.List.{List}
 use native.Mathlib.Omega.{arith}
 use lib.ListN.{length, getD}
 use lib.Dec.{eqb}
 use borrow.Author.Tests.{lt-ltb}
-use Rattle.rules.specs.Names.{becauseWon}
+use Rattle.rules.specs.Names.{mostBids, becauseWon}
 use Rattle.rules.specs.Lists.{pick, memb, sift, below, sum}
 use Rattle.rules.specs.Pot.{Pot, value, tally, within, adminTotal, adminFits}
+use Rattle.rules.specs.Value.{ceilDiv}
 use Rattle.laws_pot.specs.Lists.{case, clash, In, memb-in, in-sift, sift-in, in-below, below-in}
+use Rattle.laws_pot.specs.Sums.{sum-same}
 use Rattle.arrays.proofs.Arrays.{fill-at}
 use Rattle.sheet.specs.declared.Size.{Size}
-use Rattle.sheet.specs.Sheet.{potIn, Ready, inAuction, inTest, rowYear, rowPrice}
-use Rattle.totals.specs.Totals.{worthOf, costOf, totalOf, noRow, filled, fitsTo, rowFits, autoTotal}
+use Rattle.sheet.specs.Sheet.{potIn, Ready, inAuction, inTest, rowYear}
+use Rattle.totals.specs.Totals.{worthOf, costOf, totalOf, noRow, filled, fitsTo, rowFits, adminWorth, adminTotalOf}
 
 -- the marks say that of the pot's bids those of ws have won, and no other bid
 pub record Marked (P : Pot) (ws marks : List ℕ) : Type 0 where
   pub one : (k : ℕ) → In k (P .bids) → eqb (getD marks k 0) becauseWon ≡ memb k ws
-  pub other : (k : ℕ) → k < 320 → memb k (P .bids) ≡ false → eqb (getD marks k 0) becauseWon ≡ false
-
-sum-same : (f g : ℕ → ℕ) → ((k : ℕ) → f k ≡ g k) → (l : List ℕ) → sum f l ≡ sum g l
-unfolding sum
-sum-same f g h [] = refl
-sum-same f g h (x ∷ l) = ap₂ _+_ (h x) (sum-same f g h l)
+  pub other : (k : ℕ) → k < mostBids → memb k (P .bids) ≡ false → eqb (getD marks k 0) becauseWon ≡ false
 
 module _ (sheet : List ℕ) (of : Size) (ok : Ready sheet of) where
   abbrev pub P : Pot
@@ -46,7 +43,7 @@ module _ (sheet : List ℕ) (of : Size) (ok : Ready sheet of) where
   pub not-bid : (k : ℕ) → inAuction sheet k ≡ false → memb k (P .bids) ≡ false
   not-bid k f = case (memb k (P .bids)) (λ t. clash (bid-in k (memb-in k (P .bids) t)) f) (λ g. g)
 
-  pub small : (k : ℕ) → k < of .bids → k < 320
+  pub small : (k : ℕ) → k < of .bids → k < mostBids
   small k h = omega (arith, ok .few)
 
   -- ---- values and totals
@@ -95,22 +92,27 @@ module _ (sheet : List ℕ) (of : Size) (ok : Ready sheet of) where
       size g = unfold noRow in g
 
   -- ---- the first test
-  pub admin-total-is : (y : ℕ) → y < of .years → autoTotal sheet (of .sealed) y (of .bids) ≡ adminTotal P y
-  unfolding autoTotal adminTotal
+  admin-worth-is : (a y : ℕ) → a < of .applications → y < of .years → adminWorth sheet a y ≡ ceilDiv (P .adminCost a y) (P .scale)
+  unfolding adminWorth potIn
+  admin-worth-is a y g h = rw (lt-ltb y (of .years) h, lt-ltb a (of .applications) g)
+
+  pub admin-total-is : (y : ℕ) → y < of .years → adminTotalOf sheet y (of .applications) ≡ adminTotal P y
+  unfolding adminTotalOf adminTotal
   admin-total-is y h =
-      sum-same (λ k. worthOf sheet k (rowPrice sheet k) y) (λ k. value P k (rowPrice sheet k) y) (λ k. sym (value-is k (rowPrice sheet k) y h))
-      (sift (inTest sheet (of .sealed)) (below (of .bids))) ∙ opened
+      sum-same (λ a. adminWorth sheet a y) (λ a. ceilDiv (P .adminCost a y) (P .scale)) (sift (inTest sheet) (below (of .applications)))
+      (λ a i. admin-worth-is a y (below-in a (of .applications) (sift-in a (inTest sheet) (below (of .applications)) i .0)) h) ∙ opened
     where
-      opened : sum (λ k. value P k (rowPrice sheet k) y) (sift (inTest sheet (of .sealed)) (below (of .bids))) ≡ sum (λ k. value P k (P .price k) y) (P .autos)
+      opened : sum (λ a. ceilDiv (P .adminCost a y) (P .scale)) (sift (inTest sheet) (below (of .applications)))
+          ≡ sum (λ a. ceilDiv (P .adminCost a y) (P .scale)) (P .apps)
       opened = unfold potIn in refl
 
-  pub admin-fits : {row : List ℕ} {t : Bool} → row ≡ filled (λ y. autoTotal sheet (of .sealed) y (of .bids)) (of .years) → t ≡ rowFits sheet row (of .years)
+  pub admin-fits : {row : List ℕ} {t : Bool} → row ≡ filled (λ y. adminTotalOf sheet y (of .applications)) (of .years) → t ≡ rowFits sheet row (of .years)
       → t ≡ adminFits P
   unfolding adminFits
   admin-fits {row} er et =
       et ∙ ap (λ (r : List ℕ). rowFits sheet r (of .years)) er
-      ∙ fits-is (λ y. getD (filled (λ y. autoTotal sheet (of .sealed) y (of .bids)) (of .years)) y 0) (adminTotal P) (of .years) (omega arith)
-      (λ y h. row-at (λ x. autoTotal sheet (of .sealed) x (of .bids)) y h ∙ admin-total-is y h)
+      ∙ fits-is (λ y. getD (filled (λ y. adminTotalOf sheet y (of .applications)) (of .years)) y 0) (adminTotal P) (of .years) (omega arith)
+      (λ y h. row-at (λ x. adminTotalOf sheet x (of .applications)) y h ∙ admin-total-is y h)
       ∙ opened
     where
       opened : within P (adminTotal P) (of .years) ≡ within P (adminTotal P) (P .years)

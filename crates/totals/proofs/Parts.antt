@@ -90,7 +90,7 @@ spread true (suc (suc zero)) w h = omega arith
 spread true (suc (suc (suc zero))) w h = omega arith
 spread true (suc (suc (suc (suc s)))) w h = absurd (omega arith)
 
--- the winners all entered the auction
+-- the winners are all of the pot
 module _ (sheet : List ℕ) (of : Size) (marks prices : List ℕ) (y : ℕ) (ok : Ready sheet of)
     (others : (k : ℕ) → k < of .bids → inAuction sheet k ≡ false → eqb (getD marks k 0) becauseWon ≡ false) where
   abbrev parts : ℕ → ℕ → ℕ

@@ -5,14 +5,21 @@ use mathlib.Core.List.{List, [], _∷_}
 use mathlib.Core.Path.{_≡_}
 use lib.ListN.{getD, replicate}
 use lib.Dec.{eqb, leb}
-use Rattle.rules.specs.Names.{mostNumbers, becauseWon}
+use Rattle.rules.specs.Names.{mostBids, highestPrice, becauseWon}
 use Rattle.rules.specs.Lists.{pick, sift, below, sum}
 use Rattle.rules.specs.Value.{ceilDiv, penny, dearest}
 use Rattle.arrays.specs.Sets.{fill}
 use Rattle.sheet.specs.declared.Size.{Size}
-use Rattle.sheet.specs.Sheet.{columns, limitAt, rowYear, rowPrice, sheetCost, inAuction, inTest, Ready}
+use Rattle.sheet.specs.Sheet.{columns, places, appPlace, limitAt, rowYear, adminAt, partsAt, sheetCost, inAuction, inTest, Ready}
 
 -- ---- values and totals
+
+-- what a value at a strike price needs: a sheet that is ready, a place for figures, and a year of the file
+pub record Struck (sheet : List ℕ) (of : Size) (k strike y : ℕ) : Type 0 where
+  pub ready : Ready sheet of
+  pub place : k < places
+  pub price : strike ≤ highestPrice
+  pub year : y < of .years
 
 -- the value of bid k in year y at a clearing price
 unfoldable pub worthOf : (sheet : List ℕ) (k price y : ℕ) → ℕ
@@ -37,7 +44,7 @@ unfoldable pub totalOf : (sheet marks prices : List ℕ) (y n : ℕ) → ℕ
 totalOf sheet marks prices y zero = 0
 totalOf sheet marks prices y (suc i) = totalOf sheet marks prices y i + pick (eqb (getD marks i 0) becauseWon) (costOf sheet prices y i) 0
 
--- of a list of bids those that are marked as won and start in year d, all at one price; and of the bids below n that entered the auction
+-- of a list of bids those that are marked as won and start in year d, all at one price; and of the pot's bids below n
 unfoldable pub partOn : (sheet marks : List ℕ) (price d y : ℕ) → List ℕ → ℕ
 partOn sheet marks price d y [] = 0
 partOn sheet marks price d y (i ∷ l) =
@@ -60,7 +67,7 @@ addedTo f row n = fill row (λ y. getD row y 0 + f y) n
 pub record Adding (sheet : List ℕ) (of : Size) (row : List ℕ) (k : ℕ) : Type 0 where
   pub ready : Ready sheet of
   pub known : k < of .bids
-  pub low : (y : ℕ) → y < of .years → getD row y 0 ≤ dearest * mostNumbers
+  pub low : (y : ℕ) → y < of .years → getD row y 0 ≤ dearest * mostBids
 
 -- no figure of the first n columns is above its limit; and of a row
 unfoldable pub fitsTo : (ℕ → ℕ) → (sheet : List ℕ) → ℕ → Bool
@@ -70,6 +77,9 @@ fitsTo f sheet (suc y) = leb (f y) (limitAt sheet y) && fitsTo f sheet y
 abbrev pub rowFits : (sheet row : List ℕ) → ℕ → Bool
 rowFits sheet row n = fitsTo (λ y. getD row y 0) sheet n
 
--- the first test's total of the automatic bids below n
-unfoldable pub autoTotal : (sheet : List ℕ) (b y n : ℕ) → ℕ
-autoTotal sheet b y n = sum (λ k. worthOf sheet k (rowPrice sheet k) y) (sift (inTest sheet b) (below n))
+-- the value of application a in year y at its administrative price; and the first test's total of the pot's applications below n
+unfoldable pub adminWorth : (sheet : List ℕ) (a y : ℕ) → ℕ
+adminWorth sheet a y = ceilDiv (partsAt sheet (appPlace a) (adminAt sheet a) y) penny
+
+unfoldable pub adminTotalOf : (sheet : List ℕ) (y n : ℕ) → ℕ
+adminTotalOf sheet y n = sum (λ a. adminWorth sheet a y) (sift (inTest sheet) (below n))

@@ -1,17 +1,28 @@
-// What bids cost on the sheet of a pot: the value of one of them in a year, the year totals of those that have won, whether these fit, and the
-// totals of the first test. specs/Totals.antt says what each function computes.
+// What bids and applications cost on the sheet of a pot: the value of one of them in a year, the year totals of the bids that have won, whether these fit,
+// and the totals of the first test. specs/Totals.antt says what each function computes.
 ghost use mathlib.Core.Path.{_≡_};
 ghost use Prim.Native.Nat.{_≤_, _<_};
-ghost use Rattle.sheet.specs.Sheet.{columns, Ready};
-ghost use Rattle.totals.specs.Totals.{Asked, Worth, Adding, worthOf, totalOf, partOf, filled, addedTo, rowFits, autoTotal};
+ghost use Rattle.rules.specs.Value.{ceilDiv, penny, dearest};
+ghost use Rattle.sheet.specs.Sheet.{columns, partsAt, Ready};
+ghost use Rattle.totals.specs.Totals.{Struck, Asked, Worth, Adding, worthOf, totalOf, partOf, filled, addedTo, rowFits, adminTotalOf};
 
 pub mod marks;
 
 use marks::WON;
-use names::NUMBERS;
+use names::BIDS;
 use sheet::COLUMNS;
 use sheet::Sheet;
 use sheet::Size;
+
+// The value in year y, at a strike price, of what has its figures at place k: a bid, or an application.
+fn valued(sheet: &Sheet, of: Size, k: usize, strike: u64, y: usize) -> u64
+    requires { ⌜ Struck (now sheet) of k strike y ⌝ }
+    ensures { λ r. ⌜ (r ≡ ceilDiv (partsAt (now (sheet .entry)) k strike y) penny) × (r ≤ dearest) ⌝ }
+{
+    let reference = sheet::reference(sheet, k, y);
+    let energy = sheet::energy(sheet, k, y);
+    value::value(strike, reference, energy, sheet::share(sheet, k, y))
+}
 
 // The value of bid k in year y at a clearing price.
 pub fn worth(sheet: &Sheet, of: Size, k: usize, price: u64, y: usize) -> u64
@@ -19,9 +30,7 @@ pub fn worth(sheet: &Sheet, of: Size, k: usize, price: u64, y: usize) -> u64
     ensures { λ r. ⌜ Worth (now (sheet .entry)) k price y r ⌝ }
 {
     let strike = value::capped(price, sheet::admin(sheet, k));
-    let reference = sheet::reference(sheet, k, y);
-    let energy = sheet::energy(sheet, k, y);
-    value::value(strike, reference, energy, sheet::share(sheet, k, y))
+    valued(sheet, of, k, strike, y)
 }
 
 // A row of totals, with the value of bid k at a price added in each year.
@@ -43,7 +52,7 @@ fn added(sheet: &Sheet, of: Size, k: usize, price: u64, before: [u64; COLUMNS]) 
 pub fn revalued(
     sheet: &Sheet,
     of: Size,
-    marks: [u16; NUMBERS],
+    marks: [u16; BIDS],
     prices: [u64; names::MOST_DELIVERIES],
 ) -> [u64; COLUMNS]
     requires { ⌜ Ready (now sheet) of ⌝ }
@@ -63,8 +72,8 @@ pub fn revalued(
     row
 }
 
-// Of the bids that entered the auction the winners that start in year d, all at one price: their row of year totals.
-pub fn part(sheet: &Sheet, of: Size, marks: [u16; NUMBERS], price: u64, d: usize) -> [u64; COLUMNS]
+// Of the pot's bids the winners that start in year d, all at one price: their row of year totals.
+pub fn part(sheet: &Sheet, of: Size, marks: [u16; BIDS], price: u64, d: usize) -> [u64; COLUMNS]
     requires { ⌜ Ready (now sheet) of ⌝ }
     ensures { λ r. ⌜ r ≡ filled (λ y. partOf (now (sheet .entry)) marks price d y (of .bids)) (of .years) ⌝ }
 {
@@ -102,19 +111,19 @@ pub fn within(sheet: &Sheet, of: Size, row: [u64; COLUMNS]) -> bool
     ok
 }
 
-// The total in year y of all the pot's applications at their administrative prices: their automatic bids are numbered after the sealed ones.
+// The total in year y of all the pot's applications, with or without a sealed bid, at their administrative prices.
 fn admin_total(sheet: &Sheet, of: Size, y: usize) -> u64
     requires { ⌜ Ready (now sheet) of × (y < of .years) ⌝ }
-    ensures { λ r. ⌜ r ≡ autoTotal (now (sheet .entry)) (of .sealed) y (of .bids) ⌝ }
+    ensures { λ r. ⌜ r ≡ adminTotalOf (now (sheet .entry)) y (of .applications) ⌝ }
 {
     let mut sum: u64 = 0;
-    let bids = of.bids;
-    let mut k: usize = of.sealed;
-    while k < bids {
-        if sheet::standing(sheet, k) != sheet::ABSENT {
-            sum += worth(sheet, of, k, sheet::price(sheet, k), y);
+    let applications = of.applications;
+    let mut a: usize = 0;
+    while a < applications {
+        if sheet::in_test(sheet, a) {
+            sum += valued(sheet, of, BIDS + a, sheet::admin_price(sheet, a), y);
         }
-        k += 1;
+        a += 1;
     }
     sum
 }
@@ -122,7 +131,7 @@ fn admin_total(sheet: &Sheet, of: Size, y: usize) -> u64
 // The row of totals of the first test.
 pub fn admin_totals(sheet: &Sheet, of: Size) -> [u64; COLUMNS]
     requires { ⌜ Ready (now sheet) of ⌝ }
-    ensures { λ r. ⌜ r ≡ filled (λ y. autoTotal (now (sheet .entry)) (of .sealed) y (of .bids)) (of .years) ⌝ }
+    ensures { λ r. ⌜ r ≡ filled (λ y. adminTotalOf (now (sheet .entry)) y (of .applications)) (of .years) ⌝ }
 {
     let mut row = [0u64; COLUMNS];
     let years = of.years;

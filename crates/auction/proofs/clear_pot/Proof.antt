@@ -6,10 +6,9 @@ use Rattle.auction.proofs.clear_pot.Tie as tie
 
 returns : tie.Need-returns
 returns c =
-    cleared _ _ (c .before .before .before .before .before .before .before .before .pre .0)
-    (c .before .before .before .before .before .before .before .before .pre .1) (c .before .before .before .before .before .before .before .ended .ensures)
-    (c .before .before .before .before .reasons .ensures) (c .before .apps .ensures)
+    cleared _ _ (c .before .before .before .before .before .before .before .before .before .pre) (c .before .before .before .before .before .before .before .before .ended .ensures) (c .before .before .before .before .before .reasons .ensures)
+    (c .before .before .automatics .ensures) (c .before .apps .ensures)
 
 pub clear-pot-spec : {M : Type 1} → statement M
 clear-pot-spec =
-    tie.close (tie.spec (λ c κs. search needs) (λ c κs. search needs) (λ c κs. search needs) returns)
+    tie.close (tie.spec (λ c κs. search needs) (λ c κs. search needs) (λ c κs. search needs) (λ c κs. search needs) returns)

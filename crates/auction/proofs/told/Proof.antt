@@ -19,19 +19,18 @@ admin-requires c κs = row-there _ _ _ (c .before .before .before .pre .0) (c .b
 
 returns : tie.Need-returns
 returns c =
-    told-bid _ _ _ _ _ _ (c .before .before .before .before .if1 .taken) (c .bid .ensures) (c .before .before .before .year .ensures)
-    (c .before .before .admin .ensures) (c .before .capped .ensures)
+    told-bid _ _ _ _ _ _ (c .before .before .before .if1 .taken) (c .before .before .year .ensures) (c .before .admin .ensures) (c .capped .ensures)
 
-price-requires : tie.Need-price-requires
-price-requires c κs = row-there _ _ _ (c .before .before .before .before .pre .0) (c .before .before .before .before .pre .1)
+admin-price-requires : tie.Need-admin-price-requires
+admin-price-requires c κs = omega (arith, c .before .before .before .pre .0 .apps, c .before .before .before .pre .1)
 
 returns-2 : tie.Need-returns-2
-returns-2 c = told-admin _ _ _ _ _ _ (c .before .before .before .if1 .left) (c .before .before .if2 .taken) (c .price .ensures)
+returns-2 c = told-admin _ _ _ _ _ _ (c .before .before .if1 .left) (c .before .if2 .taken) (c .admin-price .ensures)
 
 returns-3 : tie.Need-returns-3
 returns-3 c = told-lost _ _ _ _ _ _ (c .before .if1 .left) (c .if2 .left)
 
 pub told-spec : {M : Type 1} → statement M
 told-spec =
-    tie.close (tie.spec year-requires mul-capped array-read-capped admin-requires (λ c κs. search needs) (λ c κs. search needs) returns
-    (λ c. search needs) price-requires returns-2 returns-3)
+    tie.close (tie.spec year-requires mul-capped array-read-capped admin-requires (λ c κs. search needs) returns
+    admin-price-requires returns-2 returns-3)

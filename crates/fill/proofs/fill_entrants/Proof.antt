@@ -16,8 +16,8 @@ abbrev μ-loop : tie.MeasureT-loop
 loop-holds : tie.Need-loop-holds Inv-loop μ-loop
 loop-holds c = (omega arith, omega arith, entering-none _ (c .pre .1))
 
-standing-requires : tie.Need-standing-requires Inv-loop μ-loop
-standing-requires c κs = omega (arith, c .before .loop-test .taken, c .before .before .before .pre .0)
+in-auction-requires : tie.Need-in-auction-requires Inv-loop μ-loop
+in-auction-requires c κs = omega (arith, c .before .loop-test .taken, c .before .before .before .pre .0)
 
 add-sheet : tie.Need-add-sheet Inv-loop μ-loop
 add-sheet c =
@@ -41,8 +41,8 @@ loop-again c =
     let inv = loop .inv in (
       omega (arith, loop-test .taken),
       ⊎-elim (λ w. omega (arith, inv .1, w .2)) (λ w. omega (arith, inv .1, w .2)) (c .if1 .came),
-      ⊎-elim (λ w. entering-hit _ _ _ (inv .2) (c .before .standing .ensures) (omega (arith, loop-test .taken, pre .0)) (w .0 .taken) (w .1) (w .2))
-          (λ w. entering-miss _ _ _ (inv .2) (c .before .standing .ensures) (w .0 .left) (w .1) (w .2))
+      ⊎-elim (λ w. entering-hit _ _ _ (inv .2) (c .before .in-auction .ensures) (omega (arith, loop-test .taken, pre .0)) (w .0 .taken) (w .1) (w .2))
+          (λ w. entering-miss _ _ _ (inv .2) (c .before .in-auction .ensures) (w .0 .left) (w .1) (w .2))
           (c .if1 .came),
     )
 
@@ -51,5 +51,5 @@ returns c = let inv = c .before .loop .inv in entering-done _ (inv .0) (c .loop-
 
 pub fill-entrants-spec : {M : Type 1} → statement M
 fill-entrants-spec =
-    tie.close (tie.spec Inv-loop μ-loop loop-holds standing-requires add-sheet (λ c. search needs) element-write-sheet (λ c. search needs)
+    tie.close (tie.spec Inv-loop μ-loop loop-holds in-auction-requires add-sheet (λ c. search needs) element-write-sheet (λ c. search needs)
     (λ c. search needs) (λ c. search needs) loop-again returns)

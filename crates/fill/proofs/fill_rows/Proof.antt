@@ -5,7 +5,7 @@ use native.Mathlib.Omega.{arith}
 use mathlib.Core.Path.{_≡_, refl, _∙_}
 use lib.ListN.{length}
 use denote.Ref.{now}
-use Rattle.rules.specs.Names.{mostNumbers}
+use Rattle.rules.specs.Names.{mostBids}
 use Rattle.sheet.specs.Sheet.{rowsAt, sheetLength}
 use Rattle.rows.proofs.Laws.{row-length}
 use Rattle.rows.specs.Rows.{roundIn}
@@ -16,10 +16,10 @@ use Rattle.fill.proofs.fill_rows.Tie as tie
 
 abbrev Inv-loop : tie.InvT-loop
 Inv-loop file sections p sheet₀ k₀ sheet k =
-    (k ≤ mostNumbers) × (length sheet ≡ sheetLength) × RowsRight (roundIn file sections) p k sheet × Kept rowsAt sheet₀ sheet
+    (k ≤ mostBids) × (length sheet ≡ sheetLength) × RowsRight (roundIn file sections) p k sheet × Kept rowsAt sheet₀ sheet
 
 abbrev μ-loop : tie.MeasureT-loop
-μ-loop file sections p sheet₀ k₀ sheet k = mostNumbers - k
+μ-loop file sections p sheet₀ k₀ sheet k = mostBids - k
 
 loop-holds : tie.Need-loop-holds Inv-loop μ-loop
 loop-holds c = (omega arith, c .before .pre .1, λ k h. absurd (omega arith), λ j h. refl)

@@ -13,17 +13,9 @@ returns c = rw (eq-eqb _ _ (c .before .before .before .before .before .if1 .take
 
 returns-2 : tie.Need-returns-2
 unfolding bidWord
-returns-2 c =
-    rw (ne-eqb _ _ (c .before .before .before .before .before .before .if1 .left), eq-eqb _ _ (c .before .before .before .before .before .if2 .taken))
-    (printed-within 25 (omega arith) (c .before .before .word2 .ensures))
-
-returns-3 : tie.Need-returns-3
-unfolding bidWord
-returns-3 c =
-    rw (ne-eqb _ _ (c .before .before .before .before .before .before .if1 .left), ne-eqb _ _ (c .before .before .before .before .before .if2 .left))
-    (c .before .before .field .ensures)
+returns-2 c = rw (ne-eqb _ _ (c .before .before .before .before .before .if1 .left)) (c .before .before .field .ensures)
 
 pub bid-spec : {M : Type 1} → statement M
 bid-spec =
     tie.close (tie.spec (λ c. search needs) (λ c κs. search needs) (λ c. search needs) returns (λ c. search needs) (λ c κs. search needs)
-    (λ c. search needs) returns-2 (λ c. search needs) (λ c κs. search needs) (λ c. search needs) returns-3)
+    (λ c. search needs) returns-2)

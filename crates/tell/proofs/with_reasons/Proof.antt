@@ -25,7 +25,7 @@ loop-holds c = search needs
 loop-again : tie.Need-loop-again Inv-loop μ-loop
 loop-again c =
     let inv = c .before .before .before .loop .inv .1 in
-    let q = c .before .enters .ensures in
+    let q = c .before .in-auction .ensures in
     (omega arith, ⊎-elim (λ w. w .1 ∙ merged-hit _ _ _ _ _ inv q (w .0 .taken)) (λ w. w .1 ∙ merged-miss _ _ _ _ _ inv q (w .0 .left)) (c .if1 .came))
 
 returns : tie.Need-returns Inv-loop μ-loop

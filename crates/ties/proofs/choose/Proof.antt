@@ -1,5 +1,5 @@
 -- `ties::choose` meets its contract.
-use Rattle.rules.specs.Names.{mostNumbers}
+use Rattle.rules.specs.Names.{mostBids}
 use Rattle.ties.proofs.Laws.{choice-is}
 use Rattle.ties.proofs.Lists.{numbers-more, tied-numbers, tied-placed, tied-owned}
 use Rattle.ties.proofs.choose.Statement.{statement}
@@ -18,7 +18,7 @@ best-mask-requires c κs =
 
 combination-requires : tie.Need-combination-requires
 combination-requires c κs = let g = c .before .before .before .before .pre in (
-  numbers-more mostNumbers (g .0 .ready .few) (tied-numbers _ _ _ _ (g .0 .ready) (g .1) (c .before .before .before .gathered .ensures)),
+  numbers-more mostBids (g .0 .ready .few) (tied-numbers _ _ _ _ (g .0 .ready) (g .1) (c .before .before .before .gathered .ensures)),
   tied-placed _ _ _ _ (g .0 .ready) (g .1) (c .before .before .before .gathered .ensures),
 )
 

@@ -5,12 +5,12 @@ use Prim.Native.Nat.{_≤_, _-_}
 use mathlib.Core.Path.{_≡_}
 use Rattle.arrays.proofs.Laws.{done, fill-next}
 use Rattle.arrays.specs.Sets.{fill}
-use Rattle.totals.specs.Totals.{noRow, filled, autoTotal}
+use Rattle.totals.specs.Totals.{noRow, filled, adminTotalOf}
 use Rattle.totals.proofs.admin_totals.Statement.{statement}
 use Rattle.totals.proofs.admin_totals.Tie as tie
 
 abbrev Inv-loop : tie.InvT-loop
-Inv-loop sheet of row₀ years y₀ row y = (y ≤ years) × (row ≡ filled (λ x. autoTotal sheet (of .sealed) x (of .bids)) y)
+Inv-loop sheet of row₀ years y₀ row y = (y ≤ years) × (row ≡ filled (λ x. adminTotalOf sheet x (of .applications)) y)
 
 abbrev μ-loop : tie.MeasureT-loop
 μ-loop sheet of row₀ years y₀ row y = years - y

@@ -6,7 +6,7 @@ use Rattle.pencil.proofs.asked.number.Statement.{statement}
 use Rattle.pencil.proofs.asked.number.Tie as tie
 
 abbrev Inv-loop : tie.InvT-loop
-Inv-loop word n₀ i₀ n i = (i ≤ length word) × (n ≤ 320)
+Inv-loop word n₀ i₀ n i = (i ≤ length word) × (n ≤ 256)
 
 abbrev μ-loop : tie.MeasureT-loop
 μ-loop word n₀ i₀ n i = length word - i

@@ -5,14 +5,14 @@ use Prim.Native.Nat.{_≤_, _-_}
 use mathlib.Core.Path.{_≡_, _∙_, ap}
 use Rattle.arrays.specs.Sets.{fill}
 use Rattle.arrays.proofs.Laws.{fill-next}
-use Rattle.sheet.specs.Sheet.{rowStanding}
+use Rattle.sheet.specs.Sheet.{inAuction}
 use Rattle.pot.specs.Marks.{firstMark, noMarks}
 use Rattle.pot.proofs.Laws.{started-done}
 use Rattle.pot.proofs.start.started.Statement.{statement}
 use Rattle.pot.proofs.start.started.Tie as tie
 
 abbrev Inv-loop : tie.InvT-loop
-Inv-loop sheet marks₀ m i₀ marks i = (i ≤ m) × (marks ≡ fill noMarks (λ k. firstMark (rowStanding sheet k)) i)
+Inv-loop sheet marks₀ m i₀ marks i = (i ≤ m) × (marks ≡ fill noMarks (λ k. firstMark (inAuction sheet k)) i)
 
 abbrev μ-loop : tie.MeasureT-loop
 μ-loop sheet marks₀ m i₀ marks i = m - i
@@ -22,7 +22,7 @@ unfolding fill noMarks
 loop-holds c = search needs
 
 loop-again : tie.Need-loop-again Inv-loop μ-loop
-loop-again c = (omega arith, fill-next _ _ _ (c .before .before .before .loop .inv .1) (c .first-mark .ensures ∙ ap firstMark (c .before .standing .ensures)))
+loop-again c = (omega arith, fill-next _ _ _ (c .before .before .before .loop .inv .1) (c .first-mark .ensures ∙ ap firstMark (c .before .in-auction .ensures)))
 
 returns : tie.Need-returns Inv-loop μ-loop
 returns c = started-done _ _ (c .before .loop .inv .1) (c .before .loop .inv .0) (c .loop-test .left)
