@@ -143,7 +143,7 @@ module _ (sheet : List ℕ) (of : Size) (ok : Ready sheet of) where
           ap (λ (w : ℕ). toldBy sheet of (s .prices) a w (automaticReason P a)) (winning-told a (omega (arith, ok .apps)))
           ∙ told-by a (automaticReason P a) (winnersOf P a) refl
           ∙ (unfold toldIn in rw (t, u));
-      silent = rw (t, u);
+      automatic = rw (t, u);
     }
 
   -- ---- outcomes 0 and 2
@@ -179,7 +179,7 @@ module _ (sheet : List ℕ) (of : Size) (ok : Ready sheet of) where
         ap (λ (w : ℕ). toldBy sheet of none a w (automaticReason P a)) (at-start mostApps a atAdmin 0 (omega (arith, ok .apps)))
         ∙ won-admin a (automaticReason P a)
         ∙ (unfold toldIn potIn in rw (t, lt-ltb a (of .applications) h));
-    silent = rw t;
+    automatic = rw t;
   }
 
   wide : adminFits P ≡ false → wideEnd (auction P) ≡ true → EndedAs sheet of (flatOf 2 (replicate 8 0) becauseTooWide noBid)
@@ -193,7 +193,7 @@ module _ (sheet : List ℕ) (of : Size) (ok : Ready sheet of) where
         ap (λ (w : ℕ). toldBy sheet of none a w (automaticReason P a)) (at-start mostApps a noBid 0 (omega (arith, ok .apps)))
         ∙ lost a (automaticReason P a)
         ∙ (unfold toldIn in rw (t, u));
-    silent = rw (t, u);
+    automatic = rw (t, u);
   }
 
   -- ---- one law for each return of `ended`: t is the answer of the first test, whose totals are `first`
@@ -226,7 +226,7 @@ module _ (sheet : List ℕ) (of : Size) (ok : Ready sheet of) where
 
   pub cleared : {e : End} → EndedAs sheet of e → {reasons automatics : List ℕ} {apps : List Told}
       → reasons ≡ reasonsOf sheet (e .marks) (e .won) (of .entered)
-      → automatics ≡ automaticsOf sheet (e .silent) (of .entered)
+      → automatics ≡ automaticsOf sheet (e .automatic) (of .entered)
       → apps ≡ appsOf sheet of (e .prices) (e .winning) automatics (of .applications)
       → ClearedAs of P (record { outcome = e .outcome; prices = e .prices; totals = e .totals; apps = apps; reasons = reasons })
   cleared {e} E {reasons} {automatics} {apps} er em ea = record {
@@ -248,7 +248,7 @@ module _ (sheet : List ℕ) (of : Size) (ok : Ready sheet of) where
       each-app =
           fill-each noApps (λ a. toldBy sheet of (e .prices) a (getD (e .winning) a 0) (getD automatics a 0)) (toldIn P) (of .applications) untold long blank
           (λ a h. ap (toldBy sheet of (e .prices) a (getD (e .winning) a 0))
-          (ap (λ (l : List ℕ). getD l a 0) em ∙ automatic-told (e .silent) a (omega (arith, ok .apps)) (E .silent))
+          (ap (λ (l : List ℕ). getD l a 0) em ∙ automatic-told (e .automatic) a (omega (arith, ok .apps)) (E .automatic))
           ∙ E .app a h)
         where
           long : of .applications ≤ length noApps

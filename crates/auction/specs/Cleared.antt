@@ -31,5 +31,5 @@ pub record EndedAs (sheet : List ℕ) (of : Size) (e : End) : Type 0 where
   pub total : (y : ℕ) → getD (e .totals) y 0 ≡ pick (ltb y (of .years)) (totalIn (potIn sheet of) y) 0
   pub app : (a : ℕ) → a < of .applications
       → toldBy sheet of (e .prices) a (getD (e .winning) a 0) (automaticReason (potIn sheet of) a) ≡ toldIn (potIn sheet of) a
-  pub silent : e .silent ≡ by (potIn sheet of) becauseAdministrative becauseSilent becauseTooWide
+  pub automatic : e .automatic ≡ by (potIn sheet of) becauseAdministrative becauseSilent becauseTooWide
   pub reason : (k : ℕ) → In k (potIn sheet of .bids) → reasonAt sheet (e .marks) (e .won) k ≡ reason (potIn sheet of) k

@@ -74,7 +74,7 @@ flatOf outcome totals mark w = record {
   marks = replicate mostBids mark;
   won = replicate mostApps false;
   winning = replicate mostApps w;
-  silent = mark;
+  automatic = mark;
 }
 
 -- outcome 1
@@ -86,5 +86,5 @@ soldOf sheet of s = record {
   marks = s .marks;
   won = s .won;
   winning = winningOf sheet (s .marks) (of .bids);
-  silent = becauseSilent;
+  automatic = becauseSilent;
 }

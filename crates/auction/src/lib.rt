@@ -24,7 +24,7 @@ pub struct Cleared {
 }
 
 // How a pot ended: its outcome, clearing prices and totals; the mark of each bid and which applications won, from which the reasons are told; with what
-// each application won: the number of its bid, AT_ADMIN, or NO_BID where it lost; and the reason that is told of one without a sealed bid.
+// each application won: the number of its bid, AT_ADMIN, or NO_BID where it lost; and the automatic reason of one without a sealed bid.
 struct End {
     outcome: u64,
     prices: [u64; MOST_DELIVERIES],
@@ -32,7 +32,7 @@ struct End {
     marks: [u16; BIDS],
     won: [bool; APPS],
     winning: [u64; APPS],
-    silent: u64,
+    automatic: u64,
 }
 
 // No bid has this number: the application won at its administrative price.
@@ -176,7 +176,7 @@ fn flat(outcome: u64, totals: [u64; COLUMNS], mark: u16, w: u64) -> End
         marks: [mark; BIDS],
         won: [false; APPS],
         winning: [w; APPS],
-        silent: mark as u64,
+        automatic: mark as u64,
     }
 }
 
@@ -197,7 +197,7 @@ fn sold(sheet: &Sheet, of: Size, s: PotState) -> End
         marks,
         won,
         winning,
-        silent: names::BECAUSE_SILENT,
+        automatic: names::BECAUSE_SILENT,
     }
 }
 
@@ -238,7 +238,7 @@ pub fn clear_pot(sheet: &Sheet, of: Size) -> Cleared
     let reasons = reasons(sheet, of, marks, won);
     let prices = e.prices;
     let winning = e.winning;
-    let automatics = automatics(sheet, of, e.silent);
+    let automatics = automatics(sheet, of, e.automatic);
     let apps = apps(sheet, of, prices, winning, automatics);
     let totals = e.totals;
     Cleared {

@@ -166,18 +166,18 @@ module _ (R : Round) (S : Sound R) (p a : ℕ) where
   of-test s t h f same e = e ∙ in-test t (unfold adminAt in same (adminsAt + a) (omega arith) ∙ f a h)
 
 -- so far: the prices of the first n applications are right, and those after them as they were
-pub record Priced (R : Round) (p n : ℕ) (s t : List ℕ) : Type 0 where
+pub record Administered (R : Round) (p n : ℕ) (s t : List ℕ) : Type 0 where
   pub right : AdminsRight R p n t
   pub kept : Kept adminsAt s t
   pub rest : Rest (adminsAt + n) s t
   pub same : length t ≡ sheetLength
 
-pub priced-none : (R : Round) (p : ℕ) (s : List ℕ) → length s ≡ sheetLength → Priced R p 0 s s
-priced-none R p s h = record { right = λ a l. absurd (omega arith); kept = λ j l. refl; rest = λ j l. refl; same = h }
+pub admins-none : (R : Round) (p : ℕ) (s : List ℕ) → length s ≡ sheetLength → Administered R p 0 s s
+admins-none R p s h = record { right = λ a l. absurd (omega arith); kept = λ j l. refl; rest = λ j l. refl; same = h }
 
-module _ (R : Round) (p a : ℕ) {s t : List ℕ} (d : Priced R p a s t) where
-  pub priced-own : {g : List ℕ} {x : ℕ} → g ≡ set t (adminsAt + a) x → a < mostApps → x ≡ adminRow R p a .admin → Priced R p (a + 1) s g
-  priced-own {x = x} e h q = rw e (record {
+module _ (R : Round) (p a : ℕ) {s t : List ℕ} (d : Administered R p a s t) where
+  pub admins-own : {g : List ℕ} {x : ℕ} → g ≡ set t (adminsAt + a) x → a < mostApps → x ≡ adminRow R p a .admin → Administered R p (a + 1) s g
+  admins-own {x = x} e h q = rw e (record {
     right = and-next (λ b. getD (set t (adminsAt + a) x) (adminsAt + b) 0 ≡ adminRow R p b .admin) a
         (λ b l. getD-set-other t (adminsAt + a) (adminsAt + b) x 0 (λ z. omega arith) ∙ d .right b l)
         (getD-set-same t (adminsAt + a) x 0 (omega (arith, d .same)) ∙ q);
@@ -186,8 +186,8 @@ module _ (R : Round) (p a : ℕ) {s t : List ℕ} (d : Priced R p a s t) where
     same = length-set t (adminsAt + a) x ∙ d .same;
   })
 
-  pub priced-other : {g : List ℕ} → g ≡ t → a < mostApps → BlankAdmins s → 0 ≡ adminRow R p a .admin → Priced R p (a + 1) s g
-  priced-other e h b q = rw e (record {
+  pub admins-other : {g : List ℕ} → g ≡ t → a < mostApps → BlankAdmins s → 0 ≡ adminRow R p a .admin → Administered R p (a + 1) s g
+  admins-other e h b q = rw e (record {
     right = and-next (λ b. getD t (adminsAt + b) 0 ≡ adminRow R p b .admin) a (d .right)
         (d .rest (adminsAt + a) (omega arith) ∙ b (adminsAt + a) (omega arith) (omega arith) ∙ q);
     kept = d .kept;
@@ -195,8 +195,8 @@ module _ (R : Round) (p a : ℕ) {s t : List ℕ} (d : Priced R p a s t) where
     same = d .same;
   })
 
-pub priced-all : (R : Round) (p : ℕ) {n : ℕ} {s t : List ℕ} → n ≤ mostApps → mostApps ≤ n → Priced R p n s t → AdminsWritten R p s t
-priced-all R p {n} {s} {t} h l d = record {
+pub admins-all : (R : Round) (p : ℕ) {n : ℕ} {s t : List ℕ} → n ≤ mostApps → mostApps ≤ n → Administered R p n s t → AdminsWritten R p s t
+admins-all R p {n} {s} {t} h l d = record {
   right = all-of (λ n. AdminsRight R p n t) (d .right) h l;
   kept = d .kept;
   rest = λ j g. d .rest j (omega arith);

@@ -32,8 +32,8 @@ unfoldable pub costOf : (years : List ℕ) → Row → (price y : ℕ) → ℕ
 costOf years r price y = exactParts (min price (r .admin)) (r .reference y) (r .load y) (energyOf years (r .bid) y) (yearAt years y .tlm) (r .rqm)
 
 -- a pot of y years from the numbers of its bids and of its applications, their rows, and its budgets in pence
-unfoldable pub assemble : (years : List ℕ) (y : ℕ) (bids apps : List ℕ) → (row atAdmin : ℕ → Row) → (ℕ → ℕ) → Pot
-assemble years y bids apps row atAdmin budget = record {
+unfoldable pub assemble : (years : List ℕ) (y : ℕ) (bids apps : List ℕ) → (row adminRow : ℕ → Row) → (ℕ → ℕ) → Pot
+assemble years y bids apps row adminRow budget = record {
   bids = bids;
   apps = apps;
   years = y;
@@ -45,8 +45,8 @@ assemble years y bids apps row atAdmin budget = record {
   budget = budget;
   draw = λ k. row k .draw;
   admin = λ k. row k .admin;
-  adminPrice = λ a. atAdmin a .admin;
-  adminCost = λ a y. costOf years (atAdmin a) (atAdmin a .admin) y;
+  adminPrice = λ a. adminRow a .admin;
+  adminCost = λ a y. costOf years (adminRow a) (adminRow a .admin) y;
 }
 
 module _ (R : Round) where
