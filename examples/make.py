@@ -7,7 +7,7 @@ make.py --check    names those that are not what it would write; the exit status
 A file of tables holds the five sections of a round file, each with its records numbered as the listing numbers them, and the yearly
 figures of the technologies. A table is its name and columns in one line, then its rows, then a blank line; cells stand two spaces or
 more apart; a line that begins with # is a note. Prices are pounds per MWh, capacities MW, money pounds; the totals of a listing are pence.
-A start is the name of a year, for its first day, or a date.
+A start is the name of a year, for its first day, or a date. Where pots have a column cap, in MW or - for none, the file has caps.
 """
 import re
 import sys
@@ -18,7 +18,7 @@ from pathlib import Path
 sys.dont_write_bytecode = True
 here = Path(__file__).resolve().parent
 sys.path.insert(0, str(here.parent / 'tests'))
-from making import round_file
+from making import NO_CAP, round_file
 from reading import listing
 
 # the units of document 01, to a pound per MWh, a MW, one and a pound
@@ -86,6 +86,13 @@ def figures(technology, t):
         yield price, whole(reference[y], PRICE), NO_LOAD if load[y] == '-' else whole(load[y], FACTOR)
 
 
+def caps(pots):
+    """The cap of each pot, or None for a file without."""
+    if 'cap' not in pots[0]:
+        return None
+    return [NO_CAP if r['cap'] == '-' else whole(r['cap'], CAPACITY) for r in pots]
+
+
 def round_of(t):
     """The round file of the tables."""
     year, pot, technology, application, _ = (numbers(t[x]) for x in ('years', 'pots', 'technologies', 'applications', 'bids'))
@@ -99,7 +106,8 @@ def round_of(t):
         [(pot[r['pot']], whole(r['RQM'], FACTOR), list(figures(r, t))) for r in t['technologies']],
         [(technology[r['technology']], *begins(r), whole(r['draw'], 1), whole(r['MW'], CAPACITY), whole(r['declared'], MONEY))
          for r in t['applications']],
-        [(application[r['application']], *begins(r), whole(r['MW'], CAPACITY), whole(r['price'], PRICE)) for r in t['bids']])
+        [(application[r['application']], *begins(r), whole(r['MW'], CAPACITY), whole(r['price'], PRICE)) for r in t['bids']],
+        caps(t['pots']))
 
 
 def made():

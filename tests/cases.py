@@ -1,7 +1,8 @@
-"""cases.py: writes what the test programs are run on, and what they must print, as tests/reading.py reads document 01.
+"""cases.py: writes what the test programs are run on, and what they must print, as tests/reading.py reads document 01 with CR 5, 8 and 11 of 02.
 
 crates/readings: files of every fault at every kind of place, each with its reading: the counts, or the refusal's number and offset.
-crates/listings: the worked cases, pots that reach what chance seldom does, made rounds and damaged ones, each with its listing."""
+crates/listings: the worked cases, pots that reach what chance seldom does, made rounds and damaged ones, each with its listing.
+In both, files with caps come after those without, but for the worked and the directed ones."""
 import collections
 import itertools
 import os
@@ -25,17 +26,22 @@ TABLES = [YEARS, POTS, TECHNOLOGIES, APPLICATIONS, BIDS]
 EDGES = [0, 1, 2, 3, 4, 9, 10, 11, 100, 364, 365, 366, 367, 9999, 10000, 10001, 20000, 65535, 300000, 300001, 500000, 500001, 500010,
          10 ** 12, 10 ** 12 + 1, 2 ** 32 - 1, 2 ** 64 - 1]
 WIDTHS = [[2, 2, 2], [8, 8, 8], [2, 2] + [4, 4, 2] * 3, [2, 2, 2, 2, 4, 8], [2, 2, 2, 4, 4]]
+# the same with caps: one that binds, and none
+CAPS = [250, making.NO_CAP]
+CAPPED_WIDTHS = WIDTHS[:1] + [[8, 8, 8, 4]] + WIDTHS[2:]
+CAP_EDGES = [0, 1, 249, 251, making.MOST_CAP - 1, making.MOST_CAP, making.MOST_CAP + 1, 2 ** 31, making.NO_CAP - 1, making.NO_CAP]
 
 
 def flat(record):
     return [x for f in record for x in (flat(f) if isinstance(f, (list, tuple)) else [f])]
 
 
-def written(tables):
+def written(tables, capped=False):
     """The bytes of tables whose records are flat."""
     out = b''
-    for records, widths in zip(tables, WIDTHS):
-        out += struct.pack('<H', len(records)) + b''.join(x.to_bytes(w, 'little') for r in records for x, w in zip(r, widths))
+    for s, (records, widths) in enumerate(zip(tables, CAPPED_WIDTHS if capped else WIDTHS)):
+        count = len(records) + (making.WITH_CAPS if capped and s == 1 else 0)
+        out += struct.pack('<H', count) + b''.join(x.to_bytes(w, 'little') for r in records for x, w in zip(r, widths))
     return out
 
 
@@ -84,12 +90,60 @@ def many_bids():
             yield four_years([(0, k if apart else 0, 365, 100, p) for k, p in enumerate(prices)])
 
 
-def largest():
-    """A file of 7,866 bytes: every count at its greatest."""
+def capped():
+    """The round with caps: a cap or a budget at an edge, a pot twice or left out, every cut in the pots, faults behind them; and, with caps and
+    without, a count of pots with each thing added."""
+    tables = [[flat(r) for r in records] for records in TABLES]
+    plain = written(tables)
+    pots = tables[1] = [p + [cap] for p, cap in zip(tables[1], CAPS)]
+    whole = written(tables, True)
+    assert whole == making.round_file(*TABLES, CAPS)
+    yield whole
+
+    def with_pots(changed):
+        return written(tables[:1] + [changed] + tables[2:], True)
+    for i, pot in enumerate(pots):
+        for cap in CAP_EDGES:
+            yield with_pots(pots[:i] + [pot[:3] + [cap]] + pots[i + 1:])
+            # a budget out of range beside it, in the same pot and in the other
+            yield with_pots(pots[:i] + [[10 ** 12 + 1] + pot[1:3] + [cap]] + pots[i + 1:])
+            yield with_pots([(p if k == i else [10 ** 12 + 1] + p[1:])[:3] + [cap if k == i else p[3]] for k, p in enumerate(pots)])
+        for f in range(3):
+            for budget in (10 ** 12, 10 ** 12 + 1, 2 ** 64 - 1):
+                yield with_pots(pots[:i] + [pot[:f] + [budget] + pot[f + 1:]] + pots[i + 1:])
+        yield with_pots(pots[:i] + [pot] + pots[i:])
+        yield with_pots(pots[:i] + pots[i + 1:])
+    for n in range(6):
+        yield with_pots([pots[0]] * n)
+    at = len(written(tables[:1]))
+    end = len(written(tables[:2], True))
+    for n in range(at, end + 3):
+        yield whole[:n]
+    for added in (0, 16384, 32768, 49152):
+        for n in range(6):
+            for file in (whole, plain):
+                yield file[:at] + struct.pack('<H', n + added) + file[at + 2:]
+    for n in (8, 32, 8192, 16383, 32767, 49151, 65535):
+        for file in (whole, plain):
+            yield file[:at] + struct.pack('<H', n) + file[at + 2:]
+    for s in (2, 3, 4):
+        for i, record in enumerate(tables[s]):
+            yield written(tables[:s] + [tables[s][:i] + [[65535] + record[1:]] + tables[s][i + 1:]] + tables[s + 1:], True)
+    yield written(tables[:4] + [[b[:4] + [b[4] + 1] for b in tables[4]]], True)
+    for tail in (b'\0', bytes(20)):
+        yield whole + tail
+
+
+def largest(caps=None):
+    """A file of 7,866 bytes, or of 7,882 with caps: every count at its greatest."""
     figures = [(20000 if k < 4 else 0, 0, 10000) for k in range(8)]
     applications = [(a % 32, 0, 365, a, 100, 0) for a in range(64)]
     bids = [(a, k, 365, 100, 4000 + 10 * k) for a in range(64) for k in range(4)]
-    return making.round_file([(365, int(k < 4), 0) for k in range(8)], [(10 ** 6,) * 8] * 4, [(t % 4, 10000, figures) for t in range(32)], applications, bids)
+    return making.round_file([(365, int(k < 4), 0) for k in range(8)], [(10 ** 6,) * 8] * 4, [(t % 4, 10000, figures) for t in range(32)], applications,
+                             bids, caps)
+
+
+LARGEST_CAPS = [0, 1600, making.MOST_CAP, making.NO_CAP]
 
 
 def files():
@@ -104,7 +158,17 @@ def files():
     yield from many_bids()
     rnd = random.Random(1)
     for _ in range(300):
-        yield making.damage(rnd, making.damage(rnd, making.make(rnd)))
+        yield making.harm_anywhere(rnd, making.harm_anywhere(rnd, making.without_caps(rnd)))
+    yield from (bytes(7882), largest(LARGEST_CAPS), largest(LARGEST_CAPS) + b'\0', largest(LARGEST_CAPS)[:-1])
+    a = making.round_a(cap=200)
+    for n in range(len(a) + 1):
+        yield a[:n]
+    yield from capped()
+    rnd = random.Random(3)
+    for k in range(300):
+        file = making.with_caps(rnd) if k % 3 else making.without_caps(rnd)
+        file = making.harm_pots(rnd, file)
+        yield making.harm_anywhere(rnd, file) if k % 4 == 0 else file
 
 
 def pots():
@@ -160,14 +224,61 @@ def pots():
                                     [(0, 0, 366, a, 300000, 0) for a in range(64)], [(a, 0, 366, 300000, 500000) for a in range(bidding)])
 
 
+def pots_with_caps():
+    """Pots that reach with a cap what chance seldom does, beyond making.caps: ties over delivery years, of up to ten that remain and more, chains
+    that another application breaks, every cap for a few small bids, with money for all and not, and the greatest capacity."""
+    def years(d, y, budget, cap, applications, bids):
+        figures = [(20000 if k < d else 0, 0, 10000) for k in range(y)]
+        rows = [(0, start, 365, draw, capacity, 0) for start, draw, capacity in applications]
+        return making.round_file([(365, int(k < d), 0) for k in range(y)], [(budget,) * y], [(0, 10000, figures)], rows, bids, [cap])
+    plenty = 10 ** 7
+    for n in range(2, 13):
+        for d in (1, 3):
+            apps = [(a % d, n - a, 100 + 10 * (a % 3)) for a in range(n)]
+            bids = [(a, a % d, 365, 100 + 10 * (a % 3) - (a % 2), 4000) for a in range(n)]
+            for cap in (110, 219, 220, 329, 120 * n):
+                yield years(d, d + 1, plenty, cap, apps, bids)
+            yield years(d, d + 1, 35040 * 3, 330, apps, bids)
+    # so many that fit the cap alone, beside others that the cap alone drops: ten are chosen from, eleven are outcome 2
+    for n in (0, 1, 10, 11):
+        for more in (1, 2, 11):
+            bids = [(a, 0, 365, 100 if a < n else 201, 4000) for a in range(n + more)]
+            yield years(1, 2, 35040 * 3, 200, [(0, n + more - a, b[3]) for a, b in enumerate(bids)], bids)
+    chain = [(0, 0, 365, 200 - 10 * i, 6000 + 10 * i) for i in range(3)]
+    for other in (None, 6000, 6010, 6020, 7000):
+        bids = chain + ([] if other is None else [(1, 0, 365, 100, other)])
+        for cap in (99, 100, 179, 180, 189, 190, 199, 200, 280, 299, 300):
+            for budget in (plenty, 100000):
+                yield years(1, 2, budget, cap, [(0, 0, 200), (0, 1, 100)], bids)
+            yield years(2, 2, plenty, cap, [(0, 0, 200), (1, 1, 100)], [b if b[0] == 0 else (1, 1) + b[2:] for b in bids])
+    # at 10 and at 20 a hundredth of a MW costs 88 and 176 pence
+    for capacities in ((1, 1, 1), (1, 2, 3), (3, 2, 1), (3, 1, 2), (2, 2, 3), (2, 3, 3)):
+        apps = [(0, a, capacity) for a, capacity in enumerate(capacities)]
+        for prices in ((10, 10, 10), (10, 20, 30)):
+            bids = [(a, 0, 365, capacity, price) for a, (capacity, price) in enumerate(zip(capacities, prices))]
+            for cap in range(sum(capacities)):
+                yield years(1, 1, 10 ** 6, cap, apps, bids)
+                yield years(1, 1, 4, cap, apps, bids)
+    for cap in (making.MOST_CAP, 19200000, 19199999, 300000, 299999):
+        for bidding in (0, 1, 64):
+            yield making.round_file([(366, 1, 0)], [(10 ** 12,)], [(0, 10000, [(500000, 0, 10000)])],
+                                    [(0, 0, 366, a, 300000, 0) for a in range(64)],
+                                    [(a, 0, 366, 300000, 10 * a) for a in range(bidding)], [cap])
+
+
 def rounds():
     yield from making.worked().values()
     yield from making.directed()
     yield from pots()
     rnd = random.Random(2)
     for k in range(400):
-        file = making.make(rnd)
-        yield making.damage(rnd, file) if k % 4 == 0 else file
+        file = making.without_caps(rnd)
+        yield making.harm_anywhere(rnd, file) if k % 4 == 0 else file
+    yield from pots_with_caps()
+    rnd = random.Random(4)
+    for k in range(300):
+        file = making.with_caps(rnd)
+        yield making.damage(rnd, file) if k % 5 == 0 else file
 
 
 def told(file):
@@ -201,6 +312,27 @@ def silent(file):
             yield 'a tie of higher draws'
 
 
+def under_caps(file):
+    """What becomes of each pot with a cap: its outcome, whether its winners reach the cap, and whether all would be the same without."""
+    try:
+        r = reading.read(file)
+    except reading.Refused:
+        return
+    without = r._replace(pots=[p._replace(cap=None) for p in r.pots])
+    for p, limits in enumerate(r.pots):
+        if limits.cap is None:
+            continue
+        pot, applications, reasons = reading.Auction(r, p).cleared()
+        won = sum(r.applications[a].capacity if x.bid == reading.NO_BID else r.bids[x.bid].capacity for a, x in applications.items() if x.won)
+        assert won <= limits.cap
+        yield 'outcome %d' % pot.outcome
+        if won == limits.cap > 0:
+            yield 'reached in outcome %d' % pot.outcome
+        other = reading.Auction(without, p).cleared()
+        if other != (pot, applications, reasons):
+            yield 'without it outcome %d' % other[0].outcome
+
+
 def write(name, cases):
     """cases: (file, what is printed)"""
     folder = os.path.join(ROOT, 'crates', name)
@@ -214,7 +346,7 @@ if __name__ == '__main__':
     cases = [(f, told(f) + '\n') for f in files()]
     write('readings', cases)
     kinds = collections.Counter(' '.join(text.split()[:2]) if text.startswith('refused') else 'accepted' for _, text in cases)
-    assert all(kinds['refused %d' % k] >= 5 for k in range(1, 12)) and len(largest()) == 7866
+    assert all(kinds['refused %d' % k] >= 5 for k in range(1, 12)) and len(largest()) == 7866 and len(largest(LARGEST_CAPS)) == 7882
     for name, file in making.worked().items():
         assert [int(x) for x in re.findall('total ([0-9]+)', reading.listing(file))] == making.TOTALS[name]
     listings = [(f, reading.listing(f)) for f in rounds()]
@@ -224,6 +356,9 @@ if __name__ == '__main__':
     assert all(words['bid reason %d' % k] >= 20 for k in range(1, 8)) and words['pot tie'] >= 5 and len(listings) >= 400
     beside = collections.Counter(x for f, _ in listings for x in silent(f))
     assert len(beside) == 6 and min(beside.values()) >= 10
+    caps = collections.Counter(x for f, _ in listings for x in under_caps(f))
+    assert len(caps) == 8 and min(caps.values()) >= 5
     print('%d rounds:' % len(listings), ', '.join('%s: %d' % x for x in sorted(words.items())))
     print('silent applications:', ', '.join('%s: %d' % x for x in sorted(beside.items())))
+    print('pots with caps:', ', '.join('%s: %d' % x for x in sorted(caps.items())))
     print('%d files:' % len(cases), ', '.join('%s: %d' % x for x in sorted(kinds.items())))

@@ -169,6 +169,12 @@ check 'clear, called from another folder' $?
     refuses 'refused 1 at 16' 'pot 0'
     round $years 5
     refuses 'refused 2 at 14' 'the count of pots'
+    for pots_added in 16385 32768 32773 49153; do
+        round $years $pots_added 8:100000 8:100000 4:100 $technologies $applications 0
+        refuses 'refused 2 at 14' 'the count of pots'
+    done
+    round $years 32769 8:100000 8:100000 100
+    refuses 'refused 1 at 16' 'pot 0'
     round $years $pots 0
     refuses 'refused 2 at 32' 'the count of technologies'
     round $years $pots $technologies 65
@@ -178,6 +184,8 @@ check 'clear, called from another folder' $?
     round 2 365 1 0 364 0 0 $pots $technologies $applications 0
     refuses 'refused 3 at 8' 'year 1'
     round $years 1 8:0 8:1000000000001 $technologies $applications 0
+    refuses 'refused 4 at 16' 'pot 0'
+    round $years 32769 8:0 8:0 4:20000001 $technologies $applications 0
     refuses 'refused 4 at 16' 'pot 0'
     round $years $pots 2 0 10000 4:20000 4:0 10000 4:0 4:0 10000 1 10000 4:20000 4:0 10000 4:0 4:0 10000
     refuses 'refused 5 at 58' 'technology 1'

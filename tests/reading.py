@@ -1,4 +1,4 @@
-"""Document 01, with CR 8 and 11 of 02, read a second time, in Python: tables, loops and a state that changes, and nothing shared with the
+"""Document 01, with CR 5, 8 and 11 of 02, read a second time, in Python: tables, loops and a state that changes, and nothing shared with the
 definitions or the code.
 
 read(file)            the tables of an accepted file, or Refused(number, offset)
@@ -9,6 +9,8 @@ import struct
 from collections import namedtuple
 
 Year = namedtuple('Year', 'days kind tlm')
+# what the winners of a pot must stay within; the cap is None where there is none
+Limits = namedtuple('Limits', 'budgets cap')
 Technology = namedtuple('Technology', 'pot rqm admin reference load')
 Application = namedtuple('Application', 'technology year days draw capacity')
 Bid = namedtuple('Bid', 'application year days capacity price')
@@ -16,8 +18,13 @@ Round = namedtuple('Round', 'years deliveries pots technologies applications bid
 # what is told of a pot, of an application and of the sealed bids
 Pot = namedtuple('Pot', 'outcome prices totals')
 Told = namedtuple('Told', 'won bid reason paid')
+# what winners come to: money for each year, and capacity
+Sums = namedtuple('Sums', 'totals capacity')
 
 NO_PRICE, NO_BID = 4294967295, 65535
+# a count of pots with this added: each pot has a cap
+WITH_CAPS = 32768
+MOST_CAP, NO_CAP = 20000000, 4294967295
 # the exact cost is a whole number of parts; values and totals are pence, and budgets stay in pounds
 PARTS_TO_THE_PENNY, PENCE_TO_THE_POUND = 10 ** 15, 100
 
@@ -32,11 +39,12 @@ class Place:
     def __init__(self, file):
         self.file, self.at = file, 0
 
-    def count(self, low, high):
+    def count(self, low, high, added=(0,)):
+        """The next count: from low to high, with one of these added."""
         if self.at + 2 > len(self.file):
             raise Refused(1, self.at)
         n = int.from_bytes(self.file[self.at:self.at + 2], 'little')
-        if not low <= n <= high:
+        if not any(low <= n - a <= high for a in added):
             raise Refused(2, self.at)
         self.at += 2
         return n
@@ -65,11 +73,13 @@ def read_years(place):
 
 def read_pots(place, y):
     pots = []
-    for _ in range(place.count(1, 4)):
-        budgets, at = place.record('Q' * y)
-        if any(b > 10 ** 12 for b in budgets):
+    with_caps, n = divmod(place.count(1, 4, (0, WITH_CAPS)), WITH_CAPS)
+    for _ in range(n):
+        fields, at = place.record('Q' * y + 'I' * with_caps)
+        budgets, cap = fields[:y], fields[y] if with_caps else NO_CAP
+        if any(b > 10 ** 12 for b in budgets) or MOST_CAP < cap != NO_CAP:
             raise Refused(4, at)
-        pots.append(budgets)
+        pots.append(Limits(budgets, None if cap == NO_CAP else cap))
     return pots
 
 
@@ -143,7 +153,7 @@ class Auction:
     """The clearing of one pot. Bids are (number, Bid); an application is silent where it has none."""
 
     def __init__(self, r, pot):
-        self.r, self.budgets, self.last = r, r.pots[pot], len(r.years) - 1
+        self.r, self.limits, self.last = r, r.pots[pot], len(r.years) - 1
         self.own = [a for a in range(len(r.applications)) if r.technologies[r.applications[a].technology].pot == pot]
         self.sealed = [(k, b) for k, b in enumerate(r.bids) if b.application in self.own]
         self.silent = [a for a in self.own if all(b.application != a for _, b in self.sealed)]
@@ -159,18 +169,21 @@ class Auction:
         margin = max(0, min(price, t.admin[b.year]) - t.reference[y])
         return -(-margin * t.load[y] * hours * b.capacity * (10000 - year.tlm) * t.rqm // PARTS_TO_THE_PENNY)
 
-    def totals(self, winners, price):
-        return [sum(self.value(b, price(b), y) for _, b in winners) for y in range(len(self.r.years))]
+    def sums(self, winners, price):
+        """The capacity that counts is the winning bid's, not its application's."""
+        totals = [sum(self.value(b, price(b), y) for _, b in winners) for y in range(len(self.r.years))]
+        return Sums(totals, sum(b.capacity for _, b in winners))
 
-    def fits(self, totals):
-        return all(t <= PENCE_TO_THE_POUND * b for t, b in zip(totals, self.budgets))
+    def fits(self, sums):
+        money = all(t <= PENCE_TO_THE_POUND * b for t, b in zip(sums.totals, self.limits.budgets))
+        return money and (self.limits.cap is None or sums.capacity <= self.limits.cap)
 
     def trial(self, new):
-        """The totals with these bids added, their years at their price."""
+        """The sums with these bids added, their years at their price."""
         price = dict(self.price)
         for _, b in new:
             price[b.year] = b.price
-        return self.totals(self.winners + new, lambda b: price[b.year])
+        return self.sums(self.winners + new, lambda b: price[b.year])
 
     def administrative(self, a):
         """What the first test counts of an application: its own capacity, year and days, at its administrative price."""
@@ -210,9 +223,10 @@ class Auction:
         best = None
         for number in range(2 ** len(remaining)):
             some = [x for i, x in enumerate(remaining) if number >> (len(remaining) - 1 - i) & 1]
-            totals = self.trial(some)
-            if self.fits(totals) and (best is None or totals[self.last] >= best[0]):
-                best = (totals[self.last], some)
+            sums = self.trial(some)
+            # closest to the budget means money: the cap only decides whether a combination fits
+            if self.fits(sums) and (best is None or sums.totals[self.last] >= best[0]):
+                best = (sums.totals[self.last], some)
         self.win(best[1])
         for k, b in taken:
             if k not in self.marks:
@@ -240,16 +254,16 @@ class Auction:
     def cleared(self):
         """What is told of the pot, of its applications and of its bids."""
         counted = {a: self.administrative(a) for a in self.own}
-        totals = self.totals(counted.items(), lambda b: b.price)
-        if self.fits(totals):
-            return self.same(0, totals, 6, lambda a, why: Told(1, NO_BID, why, counted[a].price))
+        sums = self.sums(counted.items(), lambda b: b.price)
+        if self.fits(sums):
+            return self.same(0, sums.totals, 6, lambda a, why: Told(1, NO_BID, why, counted[a].price))
         if not self.run():
             return self.same(2, [0] * len(self.r.years), 7, lambda a, why: Told(0, NO_BID, why, 0))
         applications = {a: Told(0, NO_BID, 8 if a in self.silent else 0, 0) for a in self.own}
         for k, b in self.winners:
             applications[b.application] = Told(1, k, 0, min(self.price[b.year], self.technology(b).admin[b.year]))
         prices = [self.price.get(d, NO_PRICE) for d in range(self.r.deliveries)]
-        pot = Pot(1, prices, self.totals(self.winners, lambda b: self.price[b.year]))
+        pot = Pot(1, prices, self.sums(self.winners, lambda b: self.price[b.year]).totals)
         return pot, applications, {k: self.marks.get(k, 4 if applications[b.application].won else 5) for k, b in self.sealed}
 
 

@@ -1,5 +1,5 @@
-/* bench: the time that a round takes in the library beside the judge, which is plain C compiled with optimisation for the same processor. Four
- * files: a full round, a full single pot, ties of 10 in every step, and a full round refused for its last bid. */
+/* bench: the time that a round takes in the library beside the judge, which is plain C compiled with optimisation for the same processor. Five
+ * files: a full round, a full single pot, ties of 10 in every step, a full round refused for its last bid, and the full round with caps. */
 #include "gustmirror.h"
 #include "judge.h"
 #include "make.h"
@@ -160,6 +160,41 @@ static void make_refused(struct round_file *f)
     set(f, f->last_bid + 10, 4, 70001);
 }
 
+/* What the winners of a pot hold of a full round of four pots, in hundredths of a MW. */
+static uint32_t capacity_won(const struct round_file *f, const uint8_t *result, unsigned pot)
+{
+    const uint8_t *applications = result + 2 + MOST_POTS * (2 + 4 * DELIVERY_YEARS + 8 * YEARS) + 2;
+    const uint8_t *bids = f->bytes + f->last_bid - 14 * (APPLICATIONS * DELIVERY_YEARS - 1);
+    uint32_t capacity = 0;
+    for (unsigned i = pot; i < APPLICATIONS; i += MOST_POTS) {
+        const uint8_t *application = applications + 10 * i;
+        if (get(application, 2) == 1)
+            capacity += (uint32_t)get(bids + 14 * get(application + 2, 2) + 6, 4);
+    }
+    return capacity;
+}
+
+/* The full round, with a cap of three quarters of what each pot's winners hold without. */
+static void make_capped(struct round_file *f)
+{
+    static struct round_file full;
+    uint8_t result[JUDGE_MAX_RESULT];
+    make_full(&full, MOST_POTS);
+    judge_clear(full.bytes, full.len, result, sizeof result);
+    memcpy(f->bytes, full.bytes, full.budgets);
+    set(f, full.budgets - 2, 2, JUDGE_WITH_CAPS + MOST_POTS);
+    f->len = f->budgets = full.budgets;
+    for (unsigned p = 0; p < MOST_POTS; p++) {
+        memcpy(f->bytes + f->len, full.bytes + full.budgets + 8 * YEARS * p, 8 * YEARS);
+        f->len += 8 * YEARS;
+        add(f, 4, capacity_won(&full, result, p) / 4 * 3);
+    }
+    size_t rest = full.budgets + 8 * YEARS * MOST_POTS;
+    memcpy(f->bytes + f->len, full.bytes + rest, full.len - rest);
+    f->last_bid = full.last_bid + f->len - rest;
+    f->len += full.len - rest;
+}
+
 /* ---- what the files are ---- */
 
 static unsigned bids_of_reason(const struct round_file *f, unsigned reason)
@@ -225,17 +260,20 @@ static void describe(const char *name, const struct round_file *f)
 
 int main(void)
 {
-    static struct round_file full, single, ties, refused;
+    static struct round_file full, single, ties, refused, capped;
     make_full(&full, MOST_POTS);
     make_full(&single, 1);
     make_ties(&ties);
     make_refused(&refused);
+    make_capped(&capped);
     describe("full round", &full);
     describe("single pot", &single);
     describe("ties", &ties);
+    describe("full round with caps", &capped);
     if (bids_of_reason(&ties, 1) != MOST_POTS * DELIVERY_YEARS * WINNERS_OF_A_TIE
         || bids_of_reason(&ties, 3) != MOST_POTS * DELIVERY_YEARS * (TIED - WINNERS_OF_A_TIE)
-        || judge_clear(refused.bytes, refused.len, NULL, 0) >> 32 != 11) {
+        || judge_clear(refused.bytes, refused.len, NULL, 0) >> 32 != 11 || capped.len != JUDGE_MAX_FILE
+        || bids_of_reason(&capped, 1) == 0 || bids_of_reason(&capped, 1) >= bids_of_reason(&full, 1)) {
         printf("these are not the files that they should be\n");
         return 1;
     }
@@ -244,5 +282,6 @@ int main(void)
     measure("full single pot: the same in one pot", &single);
     measure("sixteen ties of 10", &ties);
     measure("refused for its last bid", &refused);
+    measure("full round with caps: the first round, with a cap for each pot", &capped);
     return 0;
 }

@@ -140,14 +140,21 @@ static size_t random_bytes(uint8_t *file)
     return len;
 }
 
-/* Every cut of round A, and every length of its result from 0 to what it needs
- * and beyond. */
+static void compare_cuts(const char *kind, const uint8_t *file, size_t len)
+{
+    for (size_t cut = 0; cut <= len; cut++)
+        compare(kind, cut, file, cut);
+}
+
+/* Every cut of round A, with a cap and without, and every length of its result
+ * from 0 to what it needs and beyond. */
 static void compare_round_a(uint8_t *file)
 {
-    size_t len = make_round_a(file);
+    size_t len = make_round_a_with_cap(200, file);
+    compare_cuts("cut round A with a cap", file, len);
+    len = make_round_a(file);
+    compare_cuts("cut round A", file, len);
     uint64_t needed = judge_result_len(file, len);
-    for (size_t cut = 0; cut <= len; cut++)
-        compare("cut round A", cut, file, cut);
     judge_counting = false;
     for (uint64_t lent_len = 0; lent_len <= needed + LENT_BEYOND; lent_len++) {
         bool same = lent_len < needed ? same_where_short(file, len, lent_len, needed)
@@ -210,10 +217,11 @@ static void compare_longer(uint64_t seed, uint8_t *file)
 static void compare_declared(uint64_t seed, uint8_t *file)
 {
     static uint8_t other[MAKE_CAPACITY];
-    enum { YEAR = 6, BUDGET = 8, HEAD = 4, TECHNOLOGY_YEAR = 10, APPLICATION = 20, COST = 12, COST_BYTES = 8 };
+    enum { YEAR = 6, BUDGET = 8, CAP = 4, HEAD = 4, TECHNOLOGY_YEAR = 10, APPLICATION = 20, COST = 12, COST_BYTES = 8 };
     size_t len = make_round(seed, file);
     uint64_t years = two_bytes(file), pots_at = 2 + years * YEAR, pots = two_bytes(file + pots_at);
-    uint64_t technologies_at = pots_at + 2 + pots * years * BUDGET, technologies = two_bytes(file + technologies_at);
+    uint64_t pot_bytes = years * BUDGET + (pots >= JUDGE_WITH_CAPS ? CAP : 0);
+    uint64_t technologies_at = pots_at + 2 + pots % JUDGE_WITH_CAPS * pot_bytes, technologies = two_bytes(file + technologies_at);
     uint64_t applications_at = technologies_at + 2 + technologies * (HEAD + years * TECHNOLOGY_YEAR);
     uint64_t applications = two_bytes(file + applications_at);
     if (seed % 2 == 0)

@@ -1,7 +1,7 @@
-/* The judge: document 01 in plain C, with CR 8 and 11 of 02: silence is no bid,
- * and values are to the penny.  Sentences of the papers stand quoted in the
- * comments; words like look, trial, winner, live, closed are theirs.  An
- * application is silent where it has no sealed bid. */
+/* The judge: document 01 in plain C, with CR 5, 8 and 11 of 02: pots may have
+ * caps, silence is no bid, and values are to the penny.  Sentences of the papers
+ * stand quoted in the comments; words like look, trial, winner, live, closed are
+ * theirs.  An application is silent where it has no sealed bid. */
 #include "judge.h"
 
 #include <stdarg.h>
@@ -20,7 +20,9 @@ enum {
     MAX_BIDS_OF_APPLICATION = 10,
     MAX_BIDS_IN_YEAR = 3,
     MAX_REMAINING = 10,
-    PENCE_TO_THE_POUND = JUDGE_PENCE_TO_THE_POUND
+    PENCE_TO_THE_POUND = JUDGE_PENCE_TO_THE_POUND,
+    WITH_CAPS = JUDGE_WITH_CAPS,
+    MAX_CAP = JUDGE_MAX_CAP
 };
 
 enum section { YEARS, POTS, TECHNOLOGIES, APPLICATIONS, BIDS };
@@ -41,6 +43,7 @@ enum reason {
 
 #define NO_BID 65535u
 #define NO_PRICE 4294967295u
+#define NO_CAP JUDGE_NO_CAP
 
 /* ---- the round as read ---- */
 
@@ -50,6 +53,7 @@ struct year {
 
 struct pot {
     uint64_t budget[MAX_YEARS]; /* in pounds */
+    uint32_t cap;               /* on the capacity of its winners, or NO_CAP */
 };
 
 struct technology {
@@ -75,6 +79,7 @@ struct bid {
 struct round {
     unsigned year_count, delivery_years;
     unsigned pot_count, technology_count, application_count, bid_count;
+    bool with_caps;
     struct year years[MAX_YEARS];
     struct pot pots[MAX_POTS];
     struct technology technologies[MAX_TECHNOLOGIES];
@@ -169,12 +174,9 @@ static const uint8_t *take(struct reader *r, uint64_t bytes)
     return p;
 }
 
-/* "Five sections stand in this order, each after its 2-byte count"
- * 2: "count outside its range" */
-static bool read_count(struct reader *r, enum section section,
-                       unsigned least, unsigned most, unsigned *count)
+/* "Five sections stand in this order, each after its 2-byte count" */
+static bool take_count(struct reader *r, enum section section, unsigned *count)
 {
-    uint64_t offset = r->place;
     const uint8_t *p = take(r, 2);
     (void)section;
     if (p == NULL) {
@@ -182,12 +184,25 @@ static bool read_count(struct reader *r, enum section section,
         return false;
     }
     *count = (unsigned)number_at(p, 2);
-    if (*count < least || *count > most) {
-        COUNT(if (*count < least) judge_counts.count_low[section]++;
-              else judge_counts.count_high[section]++);
-        return refuse(r, 2, offset);
-    }
     return true;
+}
+
+/* 2: "count outside its range".  The count was the last thing taken. */
+static bool judge_count(struct reader *r, enum section section,
+                        unsigned least, unsigned most, unsigned count)
+{
+    (void)section;
+    if (count >= least && count <= most)
+        return true;
+    COUNT(if (count < least) judge_counts.count_low[section]++;
+          else judge_counts.count_high[section]++);
+    return refuse(r, 2, r->place - 2);
+}
+
+static bool read_count(struct reader *r, enum section section,
+                       unsigned least, unsigned most, unsigned *count)
+{
+    return take_count(r, section, count) && judge_count(r, section, least, most, *count);
 }
 
 static const uint8_t *take_record(struct reader *r, enum section section, uint64_t bytes)
@@ -235,27 +250,55 @@ static bool read_years(struct reader *r, struct round *round)
     return true;
 }
 
-/* 4: "a budget above 1,000,000,000,000" */
+/* 4: "a budget above 1,000,000,000,000" and, by CR 5, "a cap out of range": it is
+ * "up to 20,000,000, or 4,294,967,295 for none". */
 static bool pot_at_fault(const struct round *round, const struct pot *pot)
 {
     for (unsigned y = 0; y < round->year_count; y++)
         if (CLAUSE(budget_above, pot->budget[y] > 1000000000000u))
             return true;
-    return false;
+    return CLAUSE(cap_above, pot->cap > MAX_CAP && pot->cap != NO_CAP);
 }
 
+#ifdef JUDGE_COUNT
+static void count_pots_count(unsigned count)
+{
+    enum { OTHER = 16384 }; /* added, alone or with 32,768, it is outside the range */
+    unsigned pots = count % OTHER, added = count - pots;
+    bool in_range = pots >= 1 && pots <= MAX_POTS;
+    judge_counts.pots_count_0_with_caps += count == WITH_CAPS;
+    judge_counts.pots_count_high_with_caps += added == WITH_CAPS && pots > MAX_POTS;
+    judge_counts.pots_count_with_16384 += added == OTHER && in_range;
+    judge_counts.pots_count_with_49152 += added == OTHER + WITH_CAPS && in_range;
+}
+#endif
+
+/* CR 5: "the pots count of such a file has 32,768 added". */
+static bool read_pot_count(struct reader *r, struct round *round)
+{
+    unsigned count;
+    if (!take_count(r, POTS, &count))
+        return false;
+    COUNT(count_pots_count(count));
+    round->with_caps = count >= WITH_CAPS;
+    round->pot_count = round->with_caps ? count - WITH_CAPS : count;
+    return judge_count(r, POTS, 1, MAX_POTS, round->pot_count);
+}
+
+/* CR 5: "The pot record gains a 4-byte cap after its budgets". */
 static bool read_pots(struct reader *r, struct round *round)
 {
-    if (!read_count(r, POTS, 1, MAX_POTS, &round->pot_count))
+    if (!read_pot_count(r, round))
         return false;
     for (unsigned i = 0; i < round->pot_count; i++) {
         uint64_t offset = r->place;
-        const uint8_t *p = take_record(r, POTS, 8 * round->year_count);
+        const uint8_t *p = take_record(r, POTS, 8 * round->year_count + (round->with_caps ? 4 : 0));
         if (p == NULL)
             return false;
         struct pot *pot = &round->pots[i];
         for (unsigned y = 0; y < round->year_count; y++)
             pot->budget[y] = field(&p, 8);
+        pot->cap = round->with_caps ? (uint32_t)field(&p, 4) : NO_CAP;
         if (pot_at_fault(round, pot))
             return refuse(r, 4, offset);
     }
@@ -475,7 +518,7 @@ static uint64_t read_round(const uint8_t *file, uint64_t file_len, struct round 
     if (read_years(&r, round) && read_pots(&r, round) && read_technologies(&r, round)
         && read_applications(&r, round) && read_bids(&r, round) && read_end(&r)
         && judge_lowest_bids(&r, round)) {
-        COUNT(judge_counts.accepted++);
+        COUNT(judge_counts.accepted++; judge_counts.accepted_with_caps += round->with_caps);
         return 0;
     }
     return r.refusal;
@@ -542,17 +585,20 @@ static uint64_t value_in_year(const struct round *round, const struct bid *bid,
                        round->years[y].tlm, technology->rqm);
 }
 
-/* Clearing prices and year totals, a place for each year. */
+/* Clearing prices and year totals, a place for each year, and the summed
+ * capacity. */
 struct row {
     uint32_t price[MAX_YEARS];
     uint64_t total[MAX_YEARS]; /* in pence */
+    uint64_t capacity;
 #ifdef JUDGE_COUNT
     uint64_t in_pounds[MAX_YEARS]; /* the total of values rounded up to whole pounds */
 #endif
 };
 
-static void empty_totals(struct row *row)
+static void empty_sums(struct row *row)
 {
+    row->capacity = 0;
     for (unsigned y = 0; y < MAX_YEARS; y++) {
         row->total[y] = 0;
         COUNT(row->in_pounds[y] = 0);
@@ -564,14 +610,16 @@ static struct row empty_row(void)
     struct row row;
     for (unsigned y = 0; y < MAX_YEARS; y++)
         row.price[y] = NO_PRICE;
-    empty_totals(&row);
+    empty_sums(&row);
     return row;
 }
 
-static void add_value(const struct round *round, const struct bid *bid,
-                      uint32_t clearing_price, struct row *row)
+/* The capacity is that of the bid, not its application's. */
+static void add_to_sums(const struct round *round, const struct bid *bid,
+                        uint32_t clearing_price, struct row *row)
 {
     uint32_t price = capped_price(round, bid, clearing_price);
+    row->capacity += bid->capacity;
     for (unsigned y = 0; y < round->year_count; y++) {
         uint64_t value = value_in_year(round, bid, price, y);
         row->total[y] += value;
@@ -587,12 +635,24 @@ static uint64_t budget_in_pence(const struct pot *pot, unsigned y)
 }
 
 /* "fits if no year's total exceeds its budget; equal fits." */
-static bool fits(const struct round *round, const struct pot *pot, const struct row *row)
+static bool fits_the_budget(const struct round *round, const struct pot *pot, const struct row *row)
 {
     for (unsigned y = 0; y < round->year_count; y++)
         if (row->total[y] > budget_in_pence(pot, y))
             return false;
     return true;
+}
+
+/* CR 5: "a cap on the summed capacity of its winners". */
+static bool fits_the_cap(const struct pot *pot, const struct row *row)
+{
+    return pot->cap == NO_CAP || row->capacity <= pot->cap;
+}
+
+/* CR 5: "The first test and every trial also check the cap." */
+static bool fits(const struct round *round, const struct pot *pot, const struct row *row)
+{
+    return fits_the_budget(round, pot, row) && fits_the_cap(pot, row);
 }
 
 #ifdef JUDGE_COUNT
@@ -601,12 +661,12 @@ static bool fits_in_pounds(const struct round *round, const struct pot *pot, con
     for (unsigned y = 0; y < round->year_count; y++)
         if (row->in_pounds[y] > pot->budget[y])
             return false;
-    return true;
+    return fits_the_cap(pot, row);
 }
 
 /* Pennies that decided.  A year that fits is over by neither. */
-static void count_tested(const struct round *round, const struct pot *pot, const struct row *row,
-                         enum judge_tested tested)
+static void count_pennies(const struct round *round, const struct pot *pot, const struct row *row,
+                          enum judge_tested tested)
 {
     bool by_pence = true, by_one_penny = true;
     for (unsigned y = 0; y < round->year_count; y++) {
@@ -614,10 +674,35 @@ static void count_tested(const struct round *round, const struct pot *pot, const
         by_pence = by_pence && total < budget + PENCE_TO_THE_POUND;
         by_one_penny = by_one_penny && total <= budget + 1;
     }
-    bool fit = fits(round, pot, row);
-    judge_counts.over_by_less_than_a_pound[tested] += !fit && by_pence;
-    judge_counts.over_by_one_penny[tested] += !fit && by_one_penny;
+    bool fit = fits(round, pot, row), by_money = !fit && fits_the_cap(pot, row);
+    judge_counts.over_by_less_than_a_pound[tested] += by_money && by_pence;
+    judge_counts.over_by_one_penny[tested] += by_money && by_one_penny;
     judge_counts.fits_but_not_in_pounds[tested] += fit && !fits_in_pounds(round, pot, row);
+}
+
+static bool fails_for_the_cap_alone(const struct round *round, const struct pot *pot,
+                                    const struct row *row)
+{
+    return !fits_the_cap(pot, row) && fits_the_budget(round, pot, row);
+}
+
+static void count_cap(const struct round *round, const struct pot *pot, const struct row *row,
+                      enum judge_tested tested)
+{
+    bool money = fits_the_budget(round, pot, row), capacity = fits_the_cap(pot, row);
+    judge_counts.fails_for_the_cap_alone[tested] += money && !capacity;
+    judge_counts.fails_for_money_alone[tested] += !money && capacity;
+    judge_counts.fails_for_both[tested] += !money && !capacity;
+    judge_counts.equals_the_cap[tested] += money && row->capacity > 0 && row->capacity == pot->cap;
+    judge_counts.over_the_cap_by_one[tested] += money && row->capacity == (uint64_t)pot->cap + 1;
+}
+
+static void count_tested(const struct round *round, const struct pot *pot, const struct row *row,
+                         enum judge_tested tested)
+{
+    count_pennies(round, pot, row, tested);
+    if (pot->cap != NO_CAP)
+        count_cap(round, pot, row, tested);
 }
 #endif
 
@@ -659,7 +744,7 @@ static struct row administrative_row(const struct round *round, unsigned pot)
     for (unsigned i = 0; i < round->application_count; i++)
         if (in_pot(round, i, pot)) {
             struct bid own = at_administrative_price(round, i);
-            add_value(round, &own, own.price, &row);
+            add_to_sums(round, &own, own.price, &row);
         }
     return row;
 }
@@ -720,6 +805,10 @@ struct auction {
     unsigned winner_count;
     unsigned winners[MAX_APPLICATIONS]; /* places in bids */
     struct row row;                     /* of the winners */
+#ifdef JUDGE_COUNT
+    bool exceeds_cap[MAX_BIDS];         /* turned down alone for the cap alone */
+    unsigned winners_before[MAX_BIDS];  /* winner_count when it was */
+#endif
 };
 
 /* Some bids of the pot looked at together: at most one of an application, for
@@ -777,14 +866,14 @@ static struct row trial(const struct auction *a, const struct taken *taken)
         const struct bid *bid = &a->bids[taken->bids[i]];
         row.price[bid->year] = bid->price;
     }
-    empty_totals(&row);
+    empty_sums(&row);
     for (unsigned i = 0; i < a->winner_count; i++) {
         const struct bid *bid = &a->bids[a->winners[i]];
-        add_value(a->round, bid, row.price[bid->year], &row);
+        add_to_sums(a->round, bid, row.price[bid->year], &row);
     }
     for (unsigned i = 0; i < taken->count; i++) {
         const struct bid *bid = &a->bids[taken->bids[i]];
-        add_value(a->round, bid, row.price[bid->year], &row);
+        add_to_sums(a->round, bid, row.price[bid->year], &row);
     }
     return row;
 }
@@ -844,14 +933,31 @@ static bool sole_and_of_same_application_and_year(const struct auction *a,
         && bid->year == a->bids[turned_down].year;
 }
 
+#ifdef JUDGE_COUNT
+/* One bid that does not fit. */
+static void count_turned_down(struct auction *a, unsigned bid, const struct row *row)
+{
+    uint32_t capacity = a->bids[bid].capacity;
+    if (!fails_for_the_cap_alone(a->round, a->pot, row))
+        return;
+    a->exceeds_cap[bid] = true;
+    a->winners_before[bid] = a->winner_count;
+    judge_counts.larger_than_the_cap += capacity > a->pot->cap;
+    judge_counts.within_the_cap_but_not_beside_winners += capacity <= a->pot->cap;
+    judge_counts.looked_at_under_a_reached_cap += a->row.capacity > 0 && a->row.capacity == a->pot->cap;
+}
+#endif
+
 /* 2. "If one bid alone was taken and does not fit, it is turned down. While the
  * sole next lowest live bid of the whole pot is of the same application and
  * year, look at it: if it fits it wins and the year closes; if not it is turned
  * down, and look again. Otherwise the year closes." */
-static void turn_down_and_look_further(struct auction *a, unsigned bid)
+static void turn_down_and_look_further(struct auction *a, unsigned bid, const struct row *tried)
 {
     unsigned further_looks = 0;
     bool won = false;
+    (void)tried;
+    COUNT(count_turned_down(a, bid, tried));
     a->reasons[bid] = TURNED_DOWN_ALONE;
     while (!won) {
         struct taken next = take_lowest_live(a);
@@ -863,14 +969,17 @@ static void turn_down_and_look_further(struct auction *a, unsigned bid)
         struct row row = trial(a, &next);
         won = trial_fits(a, &row);
         COUNT(count_tested(a->round, a->pot, &row, JUDGE_ONE_BID));
-        if (won)
+        if (won) {
             win(a, &next, &row);
-        else
-            a->reasons[next.bids[0]] = TURNED_DOWN_ALONE;
+            continue;
+        }
+        COUNT(count_turned_down(a, next.bids[0], &row));
+        a->reasons[next.bids[0]] = TURNED_DOWN_ALONE;
     }
     a->open[a->bids[bid].year] = false;
     COUNT(judge_counts.further_looks[further_looks < 3 ? further_looks : 3]++;
-          judge_counts.chain_won_at[won ? further_looks : 0]++);
+          judge_counts.chain_won_at[won ? further_looks : 0]++;
+          judge_counts.chain_won_under_the_cap += won && a->exceeds_cap[bid]);
 }
 
 static uint32_t draw_of(const struct auction *a, unsigned bid)
@@ -886,6 +995,7 @@ static struct taken remaining_of(const struct auction *a, const struct taken *ta
     for (unsigned i = 0; i < taken->count; i++) {
         struct taken alone = { 1, { taken->bids[i] } };
         struct row row = trial(a, &alone);
+        COUNT(count_tested(a->round, a->pot, &row, JUDGE_ONE_OF_TIED));
         if (!trial_fits(a, &row))
             continue;
         unsigned place = remaining.count++;
@@ -926,6 +1036,28 @@ static void weigh_in_pounds(const struct auction *a, const struct row *row, unsi
     best->total = total;
 }
 
+/* A choice made under a cap, beside the other combinations. */
+static void count_choice_under_cap(const struct auction *a, const struct taken *remaining,
+                                   unsigned number)
+{
+    struct taken best = combination(remaining, number);
+    struct row chosen = trial(a, &best);
+    unsigned last = a->round->year_count - 1;
+    bool dearer = false, equal = false, more_capacity = false;
+    for (unsigned n = 1; n < 1u << remaining->count; n++) {
+        struct taken other = combination(remaining, n);
+        struct row row = trial(a, &other);
+        bool exceeds = fails_for_the_cap_alone(a->round, a->pot, &row);
+        dearer = dearer || (exceeds && row.total[last] > chosen.total[last]);
+        equal = equal || (exceeds && row.total[last] == chosen.total[last] && n > number);
+        more_capacity = more_capacity || (trial_fits(a, &row) && row.capacity > chosen.capacity
+                                          && row.total[last] < chosen.total[last]);
+    }
+    judge_counts.tie_dearer_exceeds_the_cap += dearer;
+    judge_counts.tie_equal_exceeds_the_cap += equal;
+    judge_counts.tie_money_before_capacity += more_capacity;
+}
+
 static void count_choice(const struct auction *a, const struct taken *remaining, unsigned number,
                          const struct choice_in_pounds *in_pounds)
 {
@@ -935,12 +1067,15 @@ static void count_choice(const struct auction *a, const struct taken *remaining,
     judge_counts.tie_none_remain += remaining->count == 0;
     judge_counts.tie_pounds_choose_another += another;
     judge_counts.tie_pounds_prefer_another += another && fits_in_pounds(a->round, a->pot, &row);
+    if (a->pot->cap != NO_CAP)
+        count_choice_under_cap(a, remaining, number);
 }
 #endif
 
 /* "choose the fitting combination whose total in the last year of the file is
  * greatest; if none remain, none is chosen. Among equals, the one holding the
- * lowest-draw bid on which they differ", that is the largest number. */
+ * lowest-draw bid on which they differ", that is the largest number.  CR 5:
+ * "Closest to the budget still means money." */
 static struct taken choose_combination(struct auction *a, const struct taken *remaining)
 {
     unsigned last = a->round->year_count - 1, best = 0;
@@ -985,9 +1120,23 @@ static bool lower_silent_draw(const struct auction *a, const struct taken *taken
     return false;
 }
 
+/* How many would remain without the cap. */
+static unsigned remaining_by_money(const struct auction *a, const struct taken *taken)
+{
+    unsigned count = 0;
+    for (unsigned i = 0; i < taken->count; i++) {
+        struct taken alone = { 1, { taken->bids[i] } };
+        struct row row = trial(a, &alone);
+        count += fits_the_budget(a->round, a->pot, &row);
+    }
+    return count;
+}
+
 static void count_tie(const struct auction *a, const struct taken *taken, unsigned remaining)
 {
     judge_counts.tie[taken->count][remaining]++;
+    judge_counts.tie_narrowed_by_the_cap +=
+        remaining <= MAX_REMAINING && remaining_by_money(a, taken) > MAX_REMAINING;
     judge_counts.tie_with_earlier_winners += a->winner_count > 0;
     judge_counts.tie_beside_a_lower_silent_draw += lower_silent_draw(a, taken);
     for (unsigned i = 1; i < taken->count; i++)
@@ -1048,7 +1197,7 @@ static enum outcome hold_auction(struct auction *a)
             COUNT(judge_counts.ties_that_fit[taken.count]++);
             win(a, &taken, &row);
         } else if (taken.count == 1) {
-            turn_down_and_look_further(a, taken.bids[0]);
+            turn_down_and_look_further(a, taken.bids[0], &row);
         } else if (!break_tie(a, &taken)) {
             return TIE;
         }
@@ -1090,7 +1239,7 @@ static void count_winner(const struct auction *a, const struct bid *bid)
     const struct round *round = a->round;
     const struct technology *technology = technology_of(round, bid);
     struct row row = empty_row();
-    add_value(round, bid, a->row.price[bid->year], &row);
+    add_to_sums(round, bid, a->row.price[bid->year], &row);
     bool zero = true, other_cap = false;
     for (unsigned y = 0; y < round->year_count; y++)
         zero = zero && row.total[y] == 0;
@@ -1129,6 +1278,25 @@ static void count_silent_that_would_fit(const struct auction *a)
     }
 }
 
+/* Bids turned down for the cap alone after which a smaller one of another
+ * application won, and what the winners' applications come to. */
+static void count_winners_under_cap(const struct auction *a)
+{
+    uint64_t of_applications = 0;
+    for (unsigned w = 0; w < a->winner_count; w++)
+        of_applications += a->round->applications[a->bids[a->winners[w]].application].capacity;
+    judge_counts.winners_within_the_cap_by_bids += of_applications > a->pot->cap;
+    for (unsigned i = 0; i < a->bid_count; i++) {
+        bool smaller = false;
+        for (unsigned w = a->exceeds_cap[i] ? a->winners_before[i] : a->winner_count; w < a->winner_count; w++) {
+            const struct bid *winner = &a->bids[a->winners[w]];
+            smaller = smaller || (winner->application != a->bids[i].application
+                                  && winner->capacity < a->bids[i].capacity);
+        }
+        judge_counts.smaller_won_later += smaller;
+    }
+}
+
 static void count_years_closed(const struct auction *a)
 {
     unsigned open = 0;
@@ -1153,7 +1321,8 @@ static void set_winner(const struct auction *a, const struct bid *bid, struct cl
 static void set_auction_result(const struct auction *a, unsigned pot, struct clearing *clearing)
 {
     set_pot_result(a->round, &clearing->pots[pot], AUCTION, &a->row);
-    COUNT(count_years_closed(a); count_silent_that_would_fit(a));
+    COUNT(count_years_closed(a); count_silent_that_would_fit(a);
+          if (a->pot->cap != NO_CAP) count_winners_under_cap(a));
     for (unsigned i = 0; i < a->bid_count; i++)
         clearing->bid_reasons[a->bids[i].number] = final_reason(a, i);
     for (unsigned i = 0; i < a->round->application_count; i++)
@@ -1200,13 +1369,41 @@ static void count_silent(const struct round *round, unsigned pot, const struct c
         winners += result->won;
         judge_counts.silent_won_in_outcome_0 += is_silent && outcome == ADMINISTRATIVE && result->won;
         if (!is_silent)
-            add_value(round, &own, own.price, &row);
+            add_to_sums(round, &own, own.price, &row);
     }
     judge_counts.silent_in_outcome_2 += outcome == TIE ? silent_ones : 0;
     judge_counts.silent_beside_a_winner += outcome == AUCTION && winners > 0 ? silent_ones : 0;
     judge_counts.auction_without_a_bid += outcome == AUCTION && others == 0;
     judge_counts.constrained_by_the_silent +=
         outcome != ADMINISTRATIVE && others > 0 && fits(round, &round->pots[pot], &row);
+}
+
+/* The capacity of a pot's winners: an application's own in outcome 0, and its
+ * bid's in outcome 1. */
+static uint64_t capacity_won(const struct round *round, unsigned pot, const struct clearing *clearing)
+{
+    uint64_t capacity = 0;
+    for (unsigned i = 0; i < round->application_count; i++) {
+        const struct application_result *result = &clearing->applications[i];
+        if (in_pot(round, i, pot) && result->won)
+            capacity += result->bid == NO_BID ? round->applications[i].capacity
+                                              : round->bids[result->bid].capacity;
+    }
+    return capacity;
+}
+
+static void count_cap_of_pot(const struct round *round, unsigned pot, const struct clearing *clearing,
+                             bool empty)
+{
+    uint32_t outcome = clearing->pots[pot].outcome, cap = round->pots[pot].cap;
+    uint64_t capacity = capacity_won(round, pot, clearing);
+    bool reached = capacity > 0 && capacity == cap;
+    judge_counts.pot_without_a_cap += round->with_caps && cap == NO_CAP;
+    judge_counts.cap_0_administrative += cap == 0 && empty && outcome == ADMINISTRATIVE;
+    judge_counts.cap_0_auction += cap == 0 && outcome == AUCTION;
+    judge_counts.cap_20000000 += cap == MAX_CAP;
+    judge_counts.cap_reached_administrative += reached && outcome == ADMINISTRATIVE;
+    judge_counts.cap_reached_auction += reached && outcome == AUCTION;
 }
 
 static void count_clearing(const struct round *round, const struct clearing *clearing)
@@ -1228,6 +1425,7 @@ static void count_clearing(const struct round *round, const struct clearing *cle
         judge_counts.budget_equals_total_administrative += equal && result->outcome == ADMINISTRATIVE;
         judge_counts.budget_equals_total_auction += equal && result->outcome == AUCTION;
         count_silent(round, p, clearing);
+        count_cap_of_pot(round, p, clearing, empty);
     }
     for (unsigned i = 0; i < round->bid_count; i++)
         judge_counts.sealed_reason[clearing->bid_reasons[i]]++;

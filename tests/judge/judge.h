@@ -1,6 +1,6 @@
 /* A judge of the clearing: document 01 ("What the clearing build is and its
- * rules") with CR 8 and 11 of 02, read a second time, in plain C, apart from the
- * crates. */
+ * rules") with CR 5, 8 and 11 of 02, read a second time, in plain C, apart from
+ * the crates. */
 #ifndef JUDGE_H
 #define JUDGE_H
 
@@ -15,13 +15,17 @@ enum {
     JUDGE_MAX_TECHNOLOGIES = 32,
     JUDGE_MAX_APPLICATIONS = 64,
     JUDGE_MAX_BIDS = 256,
-    JUDGE_MAX_FILE = 7866,
+    JUDGE_MAX_FILE = 7882,
     JUDGE_PENCE_TO_THE_POUND = 100,
+    JUDGE_WITH_CAPS = 32768, /* added to the pots count of a file with caps */
+    JUDGE_MAX_CAP = 20000000,
     /* 6 + P(2 + 4D + 8Y) + 10N + 2B at the limits */
     JUDGE_MAX_RESULT = 6 + 4 * (2 + 4 * 4 + 8 * 8) + 10 * 64 + 2 * 256,
     /* enough for the longest listing */
     JUDGE_LISTING_CAP = 32768
 };
+
+#define JUDGE_NO_CAP 4294967295u
 
 /* 0 when cleared: exactly the result's bytes are written, those after stay.
  * Otherwise refusal number * 2^32 + offset, and result is untouched. */
@@ -48,7 +52,7 @@ extern bool judge_counting;
 #define JUDGE_CLAUSES(X) \
     X(3, year_days) X(3, year_kind) X(3, year_tlm) X(3, year_0_not_delivery) \
     X(3, delivery_after_valuation_only) X(3, fifth_delivery_year) \
-    X(4, budget_above) \
+    X(4, budget_above) X(4, cap_above) \
     X(5, pot_not_in_file) X(5, rqm_above) X(5, load_factor_above) X(5, reference_above) \
     X(5, administrative_below_10) X(5, administrative_above) \
     X(5, administrative_not_multiple) X(5, administrative_not_0) \
@@ -66,9 +70,16 @@ extern bool judge_counting;
 #define JUDGE_CLAUSE_NAME(number, name) JUDGE_CLAUSE_##name,
 enum judge_clause { JUDGE_CLAUSES(JUDGE_CLAUSE_NAME) JUDGE_CLAUSE_COUNT };
 
-/* What was held against the budgets: all at administrative prices, one bid, or
- * bids tied, all that were taken or those chosen. */
-enum judge_tested { JUDGE_FIRST_TEST, JUDGE_ONE_BID, JUDGE_TIED_BIDS, JUDGE_TESTED_COUNT };
+/* What was held against the budgets and the cap: all at administrative prices,
+ * one bid, bids tied, all that were taken or those chosen, or one of these
+ * alone. */
+enum judge_tested {
+    JUDGE_FIRST_TEST,
+    JUDGE_ONE_BID,
+    JUDGE_TIED_BIDS,
+    JUDGE_ONE_OF_TIED,
+    JUDGE_TESTED_COUNT
+};
 
 struct judge_counts {
     uint64_t accepted;
@@ -76,6 +87,10 @@ struct judge_counts {
     uint64_t clause[JUDGE_CLAUSE_COUNT];
     uint64_t cut_count[5], cut_record[5];      /* refusal 1 by section */
     uint64_t count_low[5], count_high[5];      /* refusal 2 by section */
+    uint64_t pots_count_0_with_caps;           /* refusal 2 for 32,768 and no more */
+    uint64_t pots_count_high_with_caps;
+    uint64_t pots_count_with_16384;            /* refusal 2 for 16,384 and a number of pots */
+    uint64_t pots_count_with_49152;            /* and for both */
     uint64_t outcome[3];
     uint64_t outcome_of_empty_pot;
     uint64_t sealed_reason[8], automatic_reason[9];
@@ -117,6 +132,33 @@ struct judge_counts {
     uint64_t over_by_one_penny[JUDGE_TESTED_COUNT];
     uint64_t fits_but_not_in_pounds[JUDGE_TESTED_COUNT];
     uint64_t closed_some_but_not_all;          /* pots ending with open and closed years */
+    uint64_t accepted_with_caps;
+    /* Of the pots of such files: */
+    uint64_t pot_without_a_cap;
+    uint64_t cap_0_administrative, cap_0_auction;
+    uint64_t cap_20000000;
+    uint64_t cap_reached_administrative;       /* by all, and equal fits */
+    uint64_t cap_reached_auction;              /* by the winners at the end */
+    /* By what was tested in a pot with a cap: why it did not fit; or it just
+     * fits the cap, or exceeds it by a hundredth of a MW. */
+    uint64_t fails_for_the_cap_alone[JUDGE_TESTED_COUNT];
+    uint64_t fails_for_money_alone[JUDGE_TESTED_COUNT];
+    uint64_t fails_for_both[JUDGE_TESTED_COUNT];
+    uint64_t equals_the_cap[JUDGE_TESTED_COUNT];
+    uint64_t over_the_cap_by_one[JUDGE_TESTED_COUNT];
+    /* One bid turned down for the cap alone: it is larger than the cap, or it is
+     * not but does not fit beside the winners, which may have reached the cap
+     * before: that closes nothing. */
+    uint64_t larger_than_the_cap;
+    uint64_t within_the_cap_but_not_beside_winners;
+    uint64_t looked_at_under_a_reached_cap;
+    uint64_t smaller_won_later;                /* of another application */
+    uint64_t chain_won_under_the_cap;          /* its first bid turned down for the cap alone */
+    uint64_t winners_within_the_cap_by_bids;   /* their applications together exceed it */
+    uint64_t tie_narrowed_by_the_cap;          /* without it more than 10 would remain */
+    uint64_t tie_dearer_exceeds_the_cap;       /* than the one chosen, and money would do */
+    uint64_t tie_equal_exceeds_the_cap;        /* of a larger number */
+    uint64_t tie_money_before_capacity;        /* one of more capacity fits, for less */
 };
 
 extern struct judge_counts judge_counts;

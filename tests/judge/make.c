@@ -1,6 +1,7 @@
 /* Makers of round files: a plan is drawn from the seed, legal by construction,
  * its budgets in pounds are set by what some of its bids would cost in pence,
- * and it is written out.  Damage works on the bytes of a well-formed round. */
+ * its caps, if it has any, by the capacity of some, and it is written out.
+ * Damage works on the bytes of a well-formed round. */
 #include "make.h"
 
 #include "judge.h"
@@ -38,6 +39,8 @@ static unsigned between(struct rng *rng, unsigned least, unsigned most)
 enum { MAX_Y = 8, MAX_D = 4, MAX_P = 4, MAX_T = 32, MAX_N = 64, MAX_B = 256 };
 enum { MAX_ADMINISTRATIVE = 500000, MAX_CAPACITY = 300000, MAX_FACTOR = 10000 };
 enum { PENCE_TO_THE_POUND = JUDGE_PENCE_TO_THE_POUND };
+enum { WITH_CAPS = JUDGE_WITH_CAPS, MAX_CAP = JUDGE_MAX_CAP };
+#define NO_CAP JUDGE_NO_CAP
 #define MAX_BUDGET 1000000000000u
 
 struct plan_year {
@@ -66,6 +69,8 @@ struct plan {
     unsigned years, delivery, pots, technologies, applications, bids;
     struct plan_year year[MAX_Y];
     uint64_t budget[MAX_P][MAX_Y]; /* in pounds */
+    bool with_caps;
+    uint32_t cap[MAX_P];
     struct plan_technology technology[MAX_T];
     struct plan_application application[MAX_N];
     struct plan_bid bid[MAX_B];
@@ -716,6 +721,128 @@ static void plan_budget(struct plan *plan, unsigned pot, uint64_t *budget)
             budget[y] = MAX_BUDGET;
 }
 
+/* ---- caps ---- */
+
+static uint64_t capacity_of(const struct choice *choice)
+{
+    uint64_t capacity = 0;
+    for (unsigned i = 0; i < choice->count; i++)
+        capacity += choice->bid[i].capacity;
+    return capacity;
+}
+
+static uint64_t capacity_of_pot(const struct plan *plan, unsigned pot)
+{
+    uint64_t capacity = 0;
+    for (unsigned i = 0; i < plan->applications; i++)
+        if (of_pot(plan, i, pot))
+            capacity += plan->application[i].capacity;
+    return capacity;
+}
+
+/* A limit that is met exactly, missed by one, or neither. */
+static uint64_t at_or_near(struct rng *rng, uint64_t limit)
+{
+    switch (rng_below(rng, 6)) {
+    case 0:
+    case 1:
+    case 2:
+        return limit;
+    case 3:
+    case 4:
+        return limit - (limit > 0);
+    default:
+        return limit * between(rng, 90, 160) / 100;
+    }
+}
+
+/* What a choice of bids costs and holds: the budgets and the cap meet it both,
+ * or one of them, or neither. */
+static uint64_t plan_budget_and_cap(struct plan *plan, const struct stack *stack, uint64_t *budget)
+{
+    struct rng *rng = &plan->rng;
+    struct choice choice;
+    uint64_t totals[MAX_Y];
+    choose_some(plan, stack, &choice);
+    choice_totals(plan, &choice, totals);
+    pounds_for(plan, totals, budget);
+    if (rng_chance(rng, 50))
+        one_pound_less(&budget[rng_below(rng, plan->years)]);
+    return at_or_near(rng, capacity_of(&choice));
+}
+
+/* The first test in money and capacity. */
+static uint64_t plan_first_test(struct plan *plan, unsigned pot, uint64_t *budget)
+{
+    struct rng *rng = &plan->rng;
+    uint64_t totals[MAX_Y];
+    administrative_totals(plan, pot, totals);
+    pounds_for(plan, totals, budget);
+    if (rng_chance(rng, 40))
+        one_pound_less(&budget[rng_below(rng, plan->years)]);
+    return at_or_near(rng, capacity_of_pot(plan, pot));
+}
+
+/* The cap of a bid alone: it fits, or does not, before any has won. */
+static uint64_t plan_cap_of_one(struct plan *plan, const struct stack *stack)
+{
+    uint64_t capacity = 0;
+    if (stack->count > 0)
+        capacity = stack->bid[rng_below(&plan->rng, stack->count)].capacity;
+    return at_or_near(&plan->rng, capacity);
+}
+
+static uint64_t some_extreme_cap(struct rng *rng)
+{
+    static const uint32_t caps[] = { 0, 0, 1, MAX_CAP, NO_CAP, NO_CAP, NO_CAP };
+    return caps[rng_below(rng, sizeof caps / sizeof *caps)];
+}
+
+/* So much money that the cap decides, in most of the years or in all. */
+static void lift_budgets(struct plan *plan, uint64_t *budget)
+{
+    struct rng *rng = &plan->rng;
+    unsigned binding = rng_chance(rng, 25) ? (unsigned)rng_below(rng, plan->years) : MAX_Y;
+    for (unsigned y = 0; y < plan->years; y++)
+        if (y != binding)
+            budget[y] = MAX_BUDGET;
+}
+
+/* Budgets as they were planned, or lifted, or planned again beside the cap. */
+static void plan_cap(struct plan *plan, unsigned pot)
+{
+    struct rng *rng = &plan->rng;
+    struct stack stack;
+    struct choice choice;
+    uint64_t *budget = plan->budget[pot], cap;
+    unsigned kind = (unsigned)rng_below(rng, 100);
+    stack_of_pot(plan, pot, &stack);
+    choose_some(plan, &stack, &choice);
+    cap = at_or_near(rng, capacity_of(&choice));
+    if (kind < 45)
+        lift_budgets(plan, budget);
+    else if (kind < 60)
+        cap = plan_budget_and_cap(plan, &stack, budget);
+    else if (kind < 68)
+        cap = plan_first_test(plan, pot, budget);
+    else if (kind < 76)
+        cap = plan_cap_of_one(plan, &stack);
+    else if (kind < 86)
+        cap = some_extreme_cap(rng);
+    if (rng_chance(rng, 10))
+        lift_budgets(plan, budget);
+    if (cap > MAX_CAP && cap != NO_CAP)
+        cap = MAX_CAP;
+    plan->cap[pot] = (uint32_t)cap;
+}
+
+static void plan_caps(struct plan *plan)
+{
+    plan->with_caps = true;
+    for (unsigned pot = 0; pot < plan->pots; pot++)
+        plan_cap(plan, pot);
+}
+
 /* ---- writing a plan ---- */
 
 static void put(uint8_t **p, unsigned bytes, uint64_t n)
@@ -732,10 +859,13 @@ static void write_years_and_pots(const struct plan *plan, uint8_t **p)
         put(p, 2, y < plan->delivery);
         put(p, 2, plan->year[y].tlm);
     }
-    put(p, 2, plan->pots);
-    for (unsigned i = 0; i < plan->pots; i++)
+    put(p, 2, plan->pots + (plan->with_caps ? WITH_CAPS : 0));
+    for (unsigned i = 0; i < plan->pots; i++) {
         for (unsigned y = 0; y < plan->years; y++)
             put(p, 8, plan->budget[i][y]);
+        if (plan->with_caps)
+            put(p, 4, plan->cap[i]);
+    }
 }
 
 static void write_technologies(const struct plan *plan, uint8_t **p)
@@ -916,6 +1046,8 @@ static size_t make_from_style(struct plan *plan, const struct style *style, uint
     plan_bids(plan, style);
     for (unsigned pot = 0; pot < plan->pots; pot++)
         plan_budget(plan, pot, plan->budget[pot]);
+    if (rng_chance(&plan->rng, 45))
+        plan_caps(plan);
     return write_plan(plan, out);
 }
 
@@ -949,7 +1081,7 @@ size_t make_pot(uint64_t seed, uint8_t *out)
  * 100,000 each; one technology, administrative 20,000, reference 0, load and
  * RQM 10,000. Applications of 1.00 MW, 365 days, in years 0, 0, 1; draws 0, 1,
  * 2; one bid each for the same, at 4,000, 6,000, 5,000." */
-size_t make_round_a(uint8_t *out)
+static struct plan plan_of_round_a(void)
 {
     static const unsigned years[] = { 0, 0, 1 };
     static const uint32_t prices[] = { 4000, 6000, 5000 };
@@ -968,11 +1100,25 @@ size_t make_round_a(uint8_t *out)
         plan.application[i] = application;
         plan.bid[i] = bid;
     }
+    return plan;
+}
+
+size_t make_round_a(uint8_t *out)
+{
+    struct plan plan = plan_of_round_a();
     return write_plan(&plan, out);
 }
 
-/* 8 years of which 4 delivery, 4 pots, 32 technologies, 64 applications, 256
- * bids: 4 a head, over the years from the application's on, 3 in a year at
+size_t make_round_a_with_cap(uint32_t cap, uint8_t *out)
+{
+    struct plan plan = plan_of_round_a();
+    plan.with_caps = true;
+    plan.cap[0] = cap;
+    return write_plan(&plan, out);
+}
+
+/* 8 years of which 4 delivery, 4 pots with caps, 32 technologies, 64
+ * applications, 256 bids: 4 a head, over the years from the application's on, 3 in a year at
  * most. */
 size_t make_largest(uint8_t *out)
 {
@@ -997,6 +1143,7 @@ size_t make_largest(uint8_t *out)
     shuffle_bids(&plan);
     for (unsigned pot = 0; pot < plan.pots; pot++)
         plan_budget(&plan, pot, plan.budget[pot]);
+    plan_caps(&plan);
     return write_plan(&plan, out);
 }
 
@@ -1008,6 +1155,7 @@ struct layout {
     size_t count_at[5], first[5], size[5];
     size_t end;
     unsigned delivery;
+    bool with_caps;
 };
 
 enum { YEARS, POTS, TECHNOLOGIES, APPLICATIONS, BIDS };
@@ -1032,9 +1180,14 @@ static struct layout layout_of(const uint8_t *file)
     struct layout l = { 0 };
     size_t place = 0;
     for (unsigned s = YEARS; s <= BIDS; s++) {
-        const size_t sizes[5] = { 6, 8 * l.count[YEARS], 4 + 10 * l.count[YEARS], 20, 14 };
         l.count_at[s] = place;
         l.count[s] = (unsigned)get(file + place, 2);
+        if (s == POTS && l.count[POTS] >= WITH_CAPS) {
+            l.with_caps = true;
+            l.count[POTS] -= WITH_CAPS;
+        }
+        const size_t sizes[5] = { 6, 8 * l.count[YEARS] + (l.with_caps ? 4 : 0),
+                                  4 + 10 * l.count[YEARS], 20, 14 };
         l.first[s] = place + 2;
         l.size[s] = sizes[s];
         place += 2 + l.count[s] * l.size[s];
@@ -1104,6 +1257,8 @@ static bool cut(struct wreck *w)
     if (rng_chance(w->rng, 60) && w->l.count[s] > 0)
         at = record_at(&w->l, s, (unsigned)rng_below(w->rng, w->l.count[s]));
     at += rng_below(w->rng, 3);
+    if (s == POTS && w->l.with_caps && rng_chance(w->rng, 30)) /* in the first cap, or just before it */
+        at = w->l.first[POTS] + 8 * w->l.count[YEARS] + rng_below(w->rng, 4);
     if (rng_chance(w->rng, 20) && at > 0)
         at -= 1;
     if (at >= w->l.end)
@@ -1123,11 +1278,44 @@ static bool append(struct wreck *w)
     return true;
 }
 
+/* 2: what is added to the count of pots, or left out; or the file is read as if
+ * it had caps, or none. */
+static bool change_what_is_added(struct wreck *w)
+{
+    enum { OTHER = 16384 };
+    unsigned pots = w->l.count[POTS], added = w->l.with_caps ? WITH_CAPS : 0;
+    switch (rng_below(w->rng, 7)) {
+    case 0:
+    case 1:
+        added = WITH_CAPS - added;
+        break;
+    case 2:
+        added = OTHER;
+        break;
+    case 3:
+        added = OTHER + WITH_CAPS;
+        break;
+    case 4:
+        added = WITH_CAPS;
+        pots = 0;
+        break;
+    case 5:
+        added = WITH_CAPS;
+        pots = MAX_P + 1;
+        break;
+    default:
+        added = 1u << between(w->rng, 3, 15);
+    }
+    set(w->file + w->l.count_at[POTS], 2, pots + added);
+    return true;
+}
+
 /* 2 (or, after a count that is only wrong, whatever comes of it). */
 static bool change_count(struct wreck *w)
 {
     unsigned s = (unsigned)rng_below(w->rng, 5);
     unsigned count = w->l.count[s];
+    bool keep_what_is_added = s == POTS && w->l.with_caps && rng_chance(w->rng, 50);
     switch (rng_below(w->rng, 6)) {
     case 0:
         count = 0;
@@ -1145,6 +1333,8 @@ static bool change_count(struct wreck *w)
     default:
         count = (unsigned)above(w, most_records[s], 2);
     }
+    if (keep_what_is_added && count < WITH_CAPS)
+        count += WITH_CAPS;
     set(w->file + w->l.count_at[s], 2, count);
     return true;
 }
@@ -1214,6 +1404,36 @@ static bool harm_budget(struct wreck *w)
     uint8_t *pot = some_record(w, POTS, &i);
     unsigned y = (unsigned)rng_below(w->rng, w->l.count[YEARS]);
     set(pot + 8 * y, 8, above(w, MAX_BUDGET, 8));
+    return true;
+}
+
+static uint8_t *some_cap(struct wreck *w)
+{
+    unsigned i;
+    return w->l.with_caps ? some_record(w, POTS, &i) + 8 * w->l.count[YEARS] : NULL;
+}
+
+/* 4: above the greatest cap, and not none. */
+static bool harm_cap(struct wreck *w)
+{
+    uint8_t *cap = some_cap(w);
+    if (cap == NULL)
+        return false;
+    uint64_t wrong = above(w, MAX_CAP, 4);
+    set(cap, 4, wrong == NO_CAP ? NO_CAP - 1 : wrong);
+    return true;
+}
+
+/* Another cap that is allowed: at its limits, none, or one more or less. */
+static bool change_cap(struct wreck *w)
+{
+    uint8_t *cap = some_cap(w);
+    if (cap == NULL)
+        return false;
+    uint64_t old = get(cap, 4);
+    const uint64_t others[] = { 0, MAX_CAP, NO_CAP, old < MAX_CAP ? old + 1 : old,
+                                old > 0 && old != NO_CAP ? old - 1 : old };
+    set(cap, 4, others[rng_below(w->rng, 5)]);
     return true;
 }
 
@@ -1570,7 +1790,7 @@ static bool move_to_limit(struct wreck *w)
 {
     unsigned i;
     unsigned y = (unsigned)rng_below(w->rng, w->l.count[YEARS]);
-    switch (rng_below(w->rng, 8)) {
+    switch (rng_below(w->rng, 10)) {
     case 0:
         set(year_record(w, y) + 4, 2, MAX_FACTOR);
         return true;
@@ -1595,6 +1815,9 @@ static bool move_to_limit(struct wreck *w)
     case 6:
         set(year_record(w, y), 2, 366);
         return true;
+    case 7:
+    case 8:
+        return change_cap(w);
     default:
         if (w->l.count[BIDS] == 0)
             return false;
@@ -1607,7 +1830,7 @@ static bool move_to_limit(struct wreck *w)
 /* Faults inside the records; the places of the layout stay true. */
 static bool harm_a_record(struct wreck *w)
 {
-    switch (rng_below(w->rng, 16)) {
+    switch (rng_below(w->rng, 17)) {
     case 0:
         return harm_year_field(w);
     case 1:
@@ -1634,6 +1857,8 @@ static bool harm_a_record(struct wreck *w)
         return harm_bid_twice(w);
     case 14:
         return move_to_limit(w);
+    case 15:
+        return harm_cap(w);
     default:
         return change_delivery_years(w);
     }
@@ -1642,7 +1867,7 @@ static bool harm_a_record(struct wreck *w)
 /* Faults of the file as a whole; nothing may rely on the layout after them. */
 static bool harm_the_file(struct wreck *w)
 {
-    switch (rng_below(w->rng, 6)) {
+    switch (rng_below(w->rng, 7)) {
     case 0:
     case 1:
         return cut(w);
@@ -1651,6 +1876,8 @@ static bool harm_the_file(struct wreck *w)
     case 3:
     case 4:
         return change_count(w);
+    case 5:
+        return change_what_is_added(w);
     default:
         return flip_bytes(w);
     }

@@ -67,6 +67,10 @@ static void print_refusals(void)
         if (s < 3)
             occurs_in_section("2: too few %s", s, rounds.count_low[s], all.count_low[s]);
     }
+    OCCURS(pots_count_0_with_caps);
+    OCCURS(pots_count_high_with_caps);
+    OCCURS(pots_count_with_16384);
+    OCCURS(pots_count_with_49152);
     printf("refusals 3 to 11 by clause\n");
 #define CLAUSE_LINE(number, name) \
     must_occur(#number ": " #name, rounds.clause[JUDGE_CLAUSE_##name], all.clause[JUDGE_CLAUSE_##name]);
@@ -75,7 +79,7 @@ static void print_refusals(void)
 
 static void occurs_in_tests(const char *what, const uint64_t *of_rounds, const uint64_t *of_all)
 {
-    static const char *const tested[] = { "first test", "one bid", "tied bids" };
+    static const char *const tested[] = { "first test", "one bid", "tied bids", "one of tied bids" };
     for (unsigned t = 0; t < JUDGE_TESTED_COUNT; t++) {
         char name[64];
         snprintf(name, sizeof name, "%s: %s", tested[t], what);
@@ -93,6 +97,36 @@ static void print_pennies(void)
                     all.fits_but_not_in_pounds);
     OCCURS(tie_pounds_choose_another);
     OCCURS(tie_pounds_prefer_another);
+}
+
+static void print_caps(void)
+{
+    printf("caps\n");
+    OCCURS(accepted_with_caps);
+    OCCURS(pot_without_a_cap);
+    OCCURS(cap_0_administrative);
+    OCCURS(cap_0_auction);
+    OCCURS(cap_20000000);
+    OCCURS(cap_reached_administrative);
+    OCCURS(cap_reached_auction);
+    occurs_in_tests("fails for the cap alone", rounds.fails_for_the_cap_alone,
+                    all.fails_for_the_cap_alone);
+    occurs_in_tests("fails for money alone", rounds.fails_for_money_alone,
+                    all.fails_for_money_alone);
+    occurs_in_tests("fails for both", rounds.fails_for_both, all.fails_for_both);
+    occurs_in_tests("equals the cap", rounds.equals_the_cap, all.equals_the_cap);
+    occurs_in_tests("over the cap by 0.01 MW", rounds.over_the_cap_by_one,
+                    all.over_the_cap_by_one);
+    OCCURS(larger_than_the_cap);
+    OCCURS(within_the_cap_but_not_beside_winners);
+    OCCURS(looked_at_under_a_reached_cap);
+    OCCURS(smaller_won_later);
+    OCCURS(chain_won_under_the_cap);
+    OCCURS(winners_within_the_cap_by_bids);
+    OCCURS(tie_narrowed_by_the_cap);
+    OCCURS(tie_dearer_exceeds_the_cap);
+    OCCURS(tie_equal_exceeds_the_cap);
+    OCCURS(tie_money_before_capacity);
 }
 
 static void print_outcomes(void)
@@ -215,6 +249,7 @@ unsigned print_occurrences(const struct judge_counts *of_rounds, const struct ju
     print_refusals();
     print_outcomes();
     print_pennies();
+    print_caps();
     print_reasons();
     print_silent();
     print_chains();

@@ -1,6 +1,6 @@
 #!/bin/sh
 # run.sh [ROUNDS] [DAMAGED] [SEED]: the judge is held to the paper's worked cases, then the library to the judge, byte for byte, on made rounds
-# and damaged ones. Prints how often each refusal, outcome, reason and tie occurred; one that never did is a failure (below some 20,000 rounds
+# and damaged ones. Prints how often each refusal, outcome, reason and tie occurred; one that never did is a failure (below some 40,000 rounds
 # the rarest may be missing). The last line is 'N passed, 0 failed'.
 set -eu
 cd "$(dirname "$0")/../.."

@@ -1,6 +1,7 @@
 /* The judge itself is held to all worked cases of document 01, in pence, to
- * totals within a penny of the budget, to what becomes of silence, to every cut
- * of round A and to the order of the refusals. */
+ * totals within a penny of the budget, to what becomes of silence, to caps that
+ * are reached and exceeded, to every cut of round A, with a cap and without, and
+ * to the order of the refusals. */
 #include "judge.h"
 #include "make.h"
 
@@ -93,6 +94,20 @@ static struct round_file round_a(uint64_t budget_0, uint64_t budget_1)
     set(&f, 16, 8, budget_0);
     set(&f, 24, 8, budget_1);
     return f;
+}
+
+/* The same round of one pot with a cap. */
+static struct round_file with_cap(const struct round_file *f, uint32_t cap)
+{
+    struct round_file g = { .len = 0 };
+    size_t years = (size_t)get(f->bytes, 2), count_at = 2 + 6 * years, cap_at = count_at + 2 + 8 * years;
+    memcpy(g.bytes, f->bytes, cap_at);
+    set(&g, count_at, 2, JUDGE_WITH_CAPS + 1);
+    g.len = cap_at;
+    add(&g, 4, cap);
+    memcpy(g.bytes + g.len, f->bytes + cap_at, f->len - cap_at);
+    g.len += f->len - cap_at;
+    return g;
 }
 
 static void lists(const struct round_file *f, const char *listing)
@@ -280,6 +295,17 @@ static struct round_file tie(uint64_t budget)
     return f;
 }
 
+static struct round_file flexible(uint64_t budget)
+{
+    struct round_file f = start_of_year_0_alone(budget);
+    add(&f, 2, 1);
+    add_application(&f, 0, 0, 200);
+    add(&f, 2, 2);
+    add_bid(&f, 0, 0, 200, 6000);
+    add_bid(&f, 0, 0, 100, 6001);
+    return f;
+}
+
 static void ties_and_flexible_bid(void)
 {
     struct round_file t1 = tie(105120);
@@ -302,12 +328,7 @@ static void ties_and_flexible_bid(void)
           "bid 0 reason 3\n"
           "bid 1 reason 1\n"
           "bid 2 reason 1\n");
-    struct round_file f1 = start_of_year_0_alone(60000);
-    add(&f1, 2, 1);
-    add_application(&f1, 0, 0, 200);
-    add(&f1, 2, 2);
-    add_bid(&f1, 0, 0, 200, 6000);
-    add_bid(&f1, 0, 0, 100, 6001);
+    struct round_file f1 = flexible(60000);
     lists(&f1,
           "pot 0 auction\n"
           "year 0 price 6001 total 5256876\n"
@@ -611,6 +632,178 @@ static void silent_beside_a_tie(void)
     }
 }
 
+/* ---- caps ---- */
+
+enum { PLENTY = 1000000 };
+
+/* Two of 1.00 MW, with bids for so much of it. */
+static struct round_file two_bids(uint64_t budget, uint32_t capacity, uint32_t second_price)
+{
+    struct round_file f = two_applications(budget);
+    add(&f, 2, 2);
+    add_bid(&f, 0, 0, capacity, 4000);
+    add_bid(&f, 1, 0, capacity, second_price);
+    return f;
+}
+
+static void caps_200_and_199(void)
+{
+    static const uint8_t all_win[] = {
+        1, 0,
+        0, 0, 0xFF, 0xFF, 0xFF, 0xFF, 0, 0xAB, 0x16, 0x02, 0, 0, 0, 0,
+        2, 0,
+        1, 0, 0xFF, 0xFF, 0, 0, 0x20, 0x4E, 0, 0,
+        1, 0, 0xFF, 0xFF, 0, 0, 0x20, 0x4E, 0, 0,
+        2, 0, 6, 0, 6, 0,
+    };
+    static const uint8_t one_wins[] = {
+        1, 0,
+        1, 0, 0xA0, 0x0F, 0, 0, 0x80, 0x77, 0x35, 0, 0, 0, 0, 0,
+        2, 0,
+        1, 0, 0, 0, 0, 0, 0xA0, 0x0F, 0, 0,
+        0, 0, 0xFF, 0xFF, 0, 0, 0, 0, 0, 0,
+        2, 0, 1, 0, 2, 0,
+    };
+    struct round_file f = two_bids(PLENTY, 100, 5000);
+    struct round_file reached = with_cap(&f, 200), exceeded = with_cap(&f, 199), none = with_cap(&f, JUDGE_NO_CAP);
+    gives(&f, all_win, sizeof all_win);
+    gives(&none, all_win, sizeof all_win);
+    gives(&reached, all_win, sizeof all_win);
+    gives(&exceeded, one_wins, sizeof one_wins);
+}
+
+/* 3.00 MW would cost 105,120 and do not fit: of 2.00 MW for 70,080 each, the two
+ * hold the lowest draw. */
+static void t1_under_a_cap(void)
+{
+    static const uint8_t last_two_win[] = {
+        1, 0,
+        1, 0, 0xA0, 0x0F, 0, 0, 0, 0xEF, 0x6A, 0, 0, 0, 0, 0,
+        3, 0,
+        0, 0, 0xFF, 0xFF, 0, 0, 0, 0, 0, 0,
+        1, 0, 1, 0, 0, 0, 0xA0, 0x0F, 0, 0,
+        1, 0, 2, 0, 0, 0, 0xA0, 0x0F, 0, 0,
+        3, 0, 3, 0, 1, 0, 1, 0,
+    };
+    struct round_file t1 = tie(105120), capped = with_cap(&t1, 250);
+    gives(&capped, last_two_win, sizeof last_two_win);
+}
+
+/* The bids' reasons, a digit for each, at the end of the result. */
+static void reasons_under_cap(const struct round_file *f, uint32_t cap, const char *reasons)
+{
+    uint8_t result[JUDGE_MAX_RESULT];
+    struct round_file capped = with_cap(f, cap);
+    size_t bids = strlen(reasons);
+    uint64_t len = judge_result_len(capped.bytes, capped.len);
+    assert(judge_clear(capped.bytes, capped.len, result, sizeof result) == 0);
+    assert(get(result + len - 2 * bids - 2, 2) == bids);
+    for (size_t i = 0; i < bids; i++)
+        if (get(result + len - 2 * bids + 2 * i, 2) != (uint64_t)(reasons[i] - '0')) {
+            fprintf(stderr, "cap %u, expected reasons %s, got %u at bid %u\n", cap, reasons,
+                    result[len - 2 * bids + 2 * i], (unsigned)i);
+            assert(!"reasons");
+        }
+}
+
+/* Money and cap with just enough of both, and a pound or a hundredth of a MW
+ * less: for the second bid, for two tied bids, and for each alone. */
+static void cap_and_budget(void)
+{
+    static const struct { uint64_t budget; uint32_t cap, second_price; const char *reasons; } cases[] = {
+        { 87600, 200, 5000, "11" }, { 87600, 199, 5000, "12" }, { 87599, 200, 5000, "12" },
+        { 87599, 199, 5000, "12" }, { 87600, JUDGE_NO_CAP, 5000, "11" }, { 87600, JUDGE_MAX_CAP, 5000, "11" },
+        { PLENTY, 100, 5000, "12" }, { PLENTY, 99, 5000, "25" }, { PLENTY, 0, 5000, "25" },
+        { 35039, 100, 5000, "25" }, { 35039, 99, 5000, "25" },
+        { 70080, 200, 4000, "11" }, { 70080, 199, 4000, "13" }, { 70079, 200, 4000, "13" },
+        { 70079, 199, 4000, "13" }, { PLENTY, 100, 4000, "13" }, { PLENTY, 99, 4000, "33" },
+        { 35039, 100, 4000, "33" }, { 35039, 99, 4000, "33" }, { PLENTY, 0, 4000, "33" },
+    };
+    for (size_t i = 0; i < sizeof cases / sizeof *cases; i++) {
+        struct round_file f = two_bids(cases[i].budget, 100, cases[i].second_price);
+        reasons_under_cap(&f, cases[i].cap, cases[i].reasons);
+    }
+}
+
+/* T1: a pair that does not fit for the cap, for money, for both; and the first
+ * bid, which does not fit alone. */
+static void cap_and_budget_in_t1(void)
+{
+    static const struct { uint64_t budget; uint32_t cap; const char *reasons; } cases[] = {
+        { PLENTY, 300, "113" }, { PLENTY, 299, "311" }, { 105119, 300, "311" }, { 105119, 299, "311" },
+        { PLENTY, 200, "311" }, { PLENTY, 199, "313" }, { 70079, 200, "313" }, { 70079, 199, "313" },
+        { PLENTY, 100, "313" }, { PLENTY, 99, "333" },
+    };
+    for (size_t i = 0; i < sizeof cases / sizeof *cases; i++) {
+        struct round_file f = tie(cases[i].budget);
+        reasons_under_cap(&f, cases[i].cap, cases[i].reasons);
+    }
+}
+
+/* The first test sums the applications' capacities, a trial the bids'. */
+static void capacity_of_the_bid(void)
+{
+    struct round_file f = two_bids(PLENTY, 90, 5000);
+    reasons_under_cap(&f, 200, "66");
+    reasons_under_cap(&f, 199, "11");
+    reasons_under_cap(&f, 180, "11");
+    reasons_under_cap(&f, 179, "12");
+    struct round_file f1 = flexible(PLENTY);
+    reasons_under_cap(&f1, 200, "66");
+    reasons_under_cap(&f1, 199, "21");
+    reasons_under_cap(&f1, 100, "21");
+    reasons_under_cap(&f1, 99, "22");
+    struct round_file short_of_money = flexible(52568);
+    reasons_under_cap(&short_of_money, 199, "22");
+}
+
+/* Turned down for the cap, and year 0 closes; the smaller one of year 1 still
+ * wins, and then the cap is reached, which closes nothing. */
+static void cap_over_years(void)
+{
+    struct round_file f = round_a(PLENTY, PLENTY);
+    set(&f, 142, 4, 60);   /* the second bid, 6,000 in year 0 */
+    set(&f, 156, 4, 50);   /* the third bid, 5,000 in year 1 */
+    set(&f, 146, 4, 4500); /* the second now comes before it */
+    reasons_under_cap(&f, 150, "121");
+    reasons_under_cap(&f, 160, "112");
+    reasons_under_cap(&f, 210, "111");
+    set(&f, 146, 4, 6000); /* the second comes last: the cap is reached before */
+    reasons_under_cap(&f, 150, "121");
+}
+
+/* 1.10 MW for 100 days cost less than 1.00 MW for all: the money decides. */
+static void cap_and_most_money(void)
+{
+    struct round_file f = start_of_year_0_alone(PLENTY);
+    add(&f, 2, 2);
+    add_application(&f, 0, 0, 110);
+    add_application(&f, 0, 1, 100);
+    add(&f, 2, 2);
+    add_bid(&f, 0, 0, 110, 4000);
+    set(&f, f.len - 10, 2, 100);
+    add_bid(&f, 1, 0, 100, 4000);
+    reasons_under_cap(&f, 209, "31");
+    reasons_under_cap(&f, 110, "31");
+    reasons_under_cap(&f, 99, "33");
+}
+
+/* Twelve tied: without the cap more than 10 would remain. */
+static void cap_and_wide_tie(void)
+{
+    struct round_file f = start_of_year_0_alone(PLENTY);
+    add(&f, 2, 12);
+    for (unsigned i = 0; i < 12; i++)
+        add_application(&f, 0, 100 - i, i < 9 ? 200 : 60);
+    add(&f, 2, 12);
+    for (unsigned i = 0; i < 12; i++)
+        add_bid(&f, i, 0, i < 9 ? 200 : 60, 4000);
+    reasons_under_cap(&f, 200, "777777777777");
+    reasons_under_cap(&f, 199, "333333333111");
+    reasons_under_cap(&f, 179, "333333333311");
+    reasons_under_cap(&f, 59, "333333333333");
+}
+
 /* ---- beyond the worked cases: wide ties, valuation-only ---- */
 
 static struct round_file tied_at_4000(unsigned applications)
@@ -702,18 +895,55 @@ static void refusals_of_round_a(void)
     }
 }
 
-static void cuts_of_round_a(void)
+/* With a cap: technologies at 36, and all that follows four bytes later too. */
+static void refusals_of_round_a_with_cap(void)
 {
-    static const size_t starts[] = { 0, 2, 8, 14, 16, 32, 34, 58, 60, 80, 100, 120, 122, 136, 150, 164 };
-    for (size_t len = 0; len < 164; len++) {
-        struct round_file f = round_a(100000, 100000);
+    static const struct { size_t at; unsigned bytes; uint64_t n; unsigned number; size_t offset; } cases[] = {
+        { 14, 2, 32768, 2, 14 },   { 14, 2, 32773, 2, 14 },   { 14, 2, 16385, 2, 14 },
+        { 14, 2, 49153, 2, 14 },   { 14, 2, 65535, 2, 14 },   { 14, 2, 5, 2, 14 },
+        { 32, 4, 20000001, 4, 16 },{ 32, 4, 4294967294u, 4, 16 },
+        { 24, 8, 1000000000001u, 4, 16 },
+        { 14, 2, 1, 2, 32 },       /* the cap is then the count of technologies */
+        { 14, 2, 32770, 4, 36 },   /* a budget is then made of technology 0 */
+        { 36, 2, 0, 2, 36 },       { 62, 2, 65, 2, 62 },      { 124, 2, 257, 2, 124 },
+    };
+    static const uint32_t lawful[] = { 0, 1, 20000000, 4294967295u };
+    for (size_t i = 0; i < sizeof cases / sizeof *cases; i++) {
+        struct round_file f;
+        f.len = make_round_a_with_cap(200, f.bytes);
+        assert(f.len == 168);
+        set(&f, cases[i].at, cases[i].bytes, cases[i].n);
+        refused(&f, cases[i].number, cases[i].offset);
+    }
+    for (size_t i = 0; i < sizeof lawful / sizeof *lawful; i++) {
+        struct round_file f;
+        f.len = make_round_a_with_cap(lawful[i], f.bytes);
+        assert(judge_result_len(f.bytes, f.len) == 6 + 26 + 30 + 6);
+    }
+    struct round_file f = round_a(100000, 100000);
+    set(&f, 14, 2, 32769); /* without a cap: its four bytes are the next section's */
+    refused(&f, 2, 36);
+}
+
+static void refused_by_1_where_cut(const struct round_file *whole, const size_t *starts)
+{
+    for (size_t len = 0; len < whole->len; len++) {
+        struct round_file f = *whole;
         size_t i = 0;
         while (starts[i + 1] <= len)
             i++;
         f.len = len;
         refused(&f, 1, starts[i]);
     }
-    struct round_file f = round_a(100000, 100000);
+}
+
+static void cuts_of_round_a(void)
+{
+    static const size_t starts[] = { 0, 2, 8, 14, 16, 32, 34, 58, 60, 80, 100, 120, 122, 136, 150, 164 };
+    static const size_t capped_starts[] = { 0, 2, 8, 14, 16, 36, 38, 62, 64, 84, 104, 124, 126, 140, 154, 168 };
+    struct round_file f = round_a(100000, 100000), capped = with_cap(&f, 200);
+    refused_by_1_where_cut(&f, starts);
+    refused_by_1_where_cut(&capped, capped_starts);
     add(&f, 1, 0);
     refused(&f, 10, 164);
     lists(&f, "refused 10 at 164\n");
@@ -779,9 +1009,18 @@ int main(void)
     silent_in_outcome_0();
     silent_makes_the_first_test_fail();
     silent_beside_a_tie();
+    caps_200_and_199();
+    t1_under_a_cap();
+    cap_and_budget();
+    cap_and_budget_in_t1();
+    capacity_of_the_bid();
+    cap_over_years();
+    cap_and_most_money();
+    cap_and_wide_tie();
     widest_ties();
     valuation_only_year();
     refusals_of_round_a();
+    refusals_of_round_a_with_cap();
     cuts_of_round_a();
     order_of_refusals();
     largest_file();

@@ -3,8 +3,8 @@
  * expected LAST KINDS: prints how often each kind of working occurs in the
  * texts of the seeds 1 to LAST, and fails if one never does.
  *
- * The values are worked out from document 01 alone, with no code of the library
- * or the judge, so that a slip of theirs is not made here too. */
+ * The values are worked out from document 01, with CR 5 and 11 of 02, alone,
+ * with no code of the library or the judge, so that a slip of theirs is not made here too. */
 #include <stdbool.h>
 #include <stdint.h>
 #include <stdio.h>
@@ -81,7 +81,9 @@ enum { YEARS = 8, DELIVERY = 4, MOST_POTS = 4, TECHNOLOGIES = 32, APPLICATIONS =
 enum { BIDS_EACH = 4, MOST_BIDS_A_YEAR = 3, BIDS = APPLICATIONS * BIDS_EACH };
 enum { MOST_PRICE = 500000, MOST_CAPACITY = 300000, ONE = 10000, PRICE_STEP = 10 };
 enum { COMMON_DAYS = 365, LEAP_DAYS = 366, HOURS_A_DAY = 24 };
+enum { MOST_CAP = 20000000, WITH_CAPS = 32768 };
 #define MOST_BUDGET 1000000000000u
+#define NO_CAP UINT32_MAX
 
 struct year {
     uint32_t days, tlm;
@@ -107,6 +109,8 @@ struct round {
     uint32_t pots;
     struct year year[YEARS];
     uint64_t budget[MOST_POTS][YEARS];
+    bool with_caps;
+    uint32_t cap[MOST_POTS];
     struct technology technology[TECHNOLOGIES];
     struct application application[APPLICATIONS];
     struct bid bid[BIDS];
@@ -131,6 +135,16 @@ static void make_pots(struct round *round)
     for (unsigned p = 0; p < round->pots; p++)
         for (unsigned y = 0; y < YEARS; y++)
             round->budget[p][y] = chance(rng, 10) ? MOST_BUDGET : next(rng) % MOST_BUDGET;
+}
+
+/* No cap bears on it either, but all that follows stands four bytes a pot
+ * later. */
+static void make_caps(struct round *round)
+{
+    struct rng *rng = &round->rng;
+    round->with_caps = chance(rng, 50);
+    for (unsigned p = 0; p < round->pots; p++)
+        round->cap[p] = chance(rng, 25) ? NO_CAP : factor(rng, ANY, 0, MOST_CAP);
 }
 
 /* References come later: they are set by the prices that are bid. */
@@ -303,6 +317,7 @@ static void make_round(struct round *round, uint64_t seed)
     for (unsigned t = 0; t < TECHNOLOGIES; t++)
         for (unsigned y = 0; y < YEARS; y++)
             round->technology[t].reference[y] = some_reference(round, t);
+    make_caps(round);
 }
 
 /* ---- the file ---- */
@@ -321,10 +336,13 @@ static void write_years_and_pots(const struct round *round)
         put(y < DELIVERY, 2);
         put(round->year[y].tlm, 2);
     }
-    put(round->pots, 2);
-    for (unsigned p = 0; p < round->pots; p++)
+    put(round->pots + (round->with_caps ? WITH_CAPS : 0), 2);
+    for (unsigned p = 0; p < round->pots; p++) {
         for (unsigned y = 0; y < YEARS; y++)
             put(round->budget[p][y], 8);
+        if (round->with_caps)
+            put(round->cap[p], 4);
+    }
 }
 
 static void write_technologies(const struct round *round)
@@ -553,6 +571,7 @@ enum { KIND_COUNT = 0 KINDS(ONE_EACH) };
 
 static uint64_t of_kind[KIND_COUNT], of_digits[MOST_DIGITS + 1];
 static uint64_t nothing_over[LINES], something_over[LINES];
+static uint64_t with_caps, without_caps;
 static bool missing;
 
 static unsigned digits_of(wide number)
@@ -589,6 +608,8 @@ static void count_working(const struct working *w)
 
 static void count_round(const struct round *round)
 {
+    with_caps += round->with_caps;
+    without_caps += !round->with_caps;
     for (unsigned b = 0; b < BIDS; b++)
         for (unsigned y = 0; y < YEARS; y++) {
             struct working w = work(round, &round->bid[b], y);
@@ -621,6 +642,8 @@ static void print_kinds(void)
         snprintf(name, sizeof name, "product of %u digits", digits);
         must_occur(name, "", of_digits[digits]);
     }
+    must_occur("rounds with caps", "", with_caps);
+    must_occur("rounds without caps", "", without_caps);
 }
 
 /* ---- the three uses ---- */
