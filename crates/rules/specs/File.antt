@@ -1,7 +1,9 @@
 -- "Units and the round file": the sections of a file, and the fields of their records. Assumes nothing.
-use Prim.Native.Nat.{ℕ, zero, suc, _+_, _*_}
+use Prim.Native.Nat.{ℕ, zero, suc, _+_, _-_, _*_}
 use mathlib.Core.List.{List}
-use Rattle.rules.specs.Names.{countWidth, yearWidth, potWidth, techWidth, appWidth, bidWidth}
+use lib.Dec.{ltb}
+use Rattle.rules.specs.Names.{countWidth, yearWidth, capWidth, capsAdded, potWidth, techWidth, appWidth, bidWidth}
+use Rattle.rules.specs.Lists.{pick}
 use Rattle.rules.specs.Bytes.{le, part}
 use Rattle.rules.specs.declared.Sections.{Sections}
 
@@ -19,9 +21,19 @@ unfoldable pub deliveries : List ℕ → ℕ → ℕ
 deliveries s zero = 0
 deliveries s (suc n) = deliveries s n + yearAt s n .kind
 
--- "pots: budget 8 for each year", of y years
-abbrev pub budgetAt : (y : ℕ) → List ℕ → (i k : ℕ) → ℕ
-budgetAt y s i k = le 8 s (i * potWidth y + 8 * k)
+-- "the pots count of such a file has 32,768 added" (02, CR 5): how many pots a count tells, and how many bytes of cap each pot's record then has
+unfoldable pub potsTold : (count : ℕ) → ℕ
+potsTold n = pick (ltb n capsAdded) n (n - capsAdded)
+
+unfoldable pub capTold : (count : ℕ) → ℕ
+capTold n = pick (ltb n capsAdded) 0 capWidth
+
+-- "pots: budget 8 for each year", of y years; "a 4-byte cap after its budgets" (02, CR 5), where a record has c bytes of cap
+abbrev pub budgetAt : (y c : ℕ) → List ℕ → (i k : ℕ) → ℕ
+budgetAt y c s i k = le 8 s (i * potWidth y c + 8 * k)
+
+abbrev pub capAt : (y c : ℕ) → List ℕ → (i : ℕ) → ℕ
+capAt y c s i = le 4 s (i * potWidth y c + 8 * y)
 
 -- "technologies: pot 2, RQM 2, then for each year: administrative price 4, reference price 4, load factor 2"
 pub record Tech : Type 0 where
@@ -74,8 +86,8 @@ bidAt s i = record {
   price = le 4 s (i * bidWidth + 10);
 }
 
--- The parts of a file that its sections' records occupy, and how many records each has: y years, d of them delivery years, p pots, t technologies,
--- n applications, b bids
+-- The parts of a file that its sections' records occupy, and how many records each has: y years, d of them delivery years, p pots with c bytes of cap each,
+-- t technologies, n applications, b bids
 pub record Round : Type 0 where
   pub years : List ℕ
   pub pots : List ℕ
@@ -84,6 +96,7 @@ pub record Round : Type 0 where
   pub bids : List ℕ
   pub y : ℕ
   pub d : ℕ
+  pub c : ℕ
   pub p : ℕ
   pub t : ℕ
   pub n : ℕ
@@ -93,28 +106,29 @@ pub record Round : Type 0 where
 abbrev pub potsAt : (y : ℕ) → ℕ
 potsAt y = countWidth + y * yearWidth
 
-abbrev pub techsAt : (y p : ℕ) → ℕ
-techsAt y p = potsAt y + countWidth + p * potWidth y
+abbrev pub techsAt : (y c p : ℕ) → ℕ
+techsAt y c p = potsAt y + countWidth + p * potWidth y c
 
-abbrev pub appsAt : (y p t : ℕ) → ℕ
-appsAt y p t = techsAt y p + countWidth + t * techWidth y
+abbrev pub appsAt : (y c p t : ℕ) → ℕ
+appsAt y c p t = techsAt y c p + countWidth + t * techWidth y
 
-abbrev pub bidsAt : (y p t n : ℕ) → ℕ
-bidsAt y p t n = appsAt y p t + countWidth + n * appWidth
+abbrev pub bidsAt : (y c p t n : ℕ) → ℕ
+bidsAt y c p t n = appsAt y c p t + countWidth + n * appWidth
 
-abbrev pub endAt : (y p t n b : ℕ) → ℕ
-endAt y p t n b = bidsAt y p t n + countWidth + b * bidWidth
+abbrev pub endAt : (y c p t n b : ℕ) → ℕ
+endAt y c p t n b = bidsAt y c p t n + countWidth + b * bidWidth
 
 -- "Five sections stand in this order, each after its 2-byte count." The sections of a file whose counts are these
-unfoldable pub sections : List ℕ → (y p t n b : ℕ) → Round
-sections s y p t n b = record {
+unfoldable pub sections : List ℕ → (y c p t n b : ℕ) → Round
+sections s y c p t n b = record {
   years = part s countWidth (potsAt y);
-  pots = part s (potsAt y + countWidth) (techsAt y p);
-  techs = part s (techsAt y p + countWidth) (appsAt y p t);
-  apps = part s (appsAt y p t + countWidth) (bidsAt y p t n);
-  bids = part s (bidsAt y p t n + countWidth) (endAt y p t n b);
+  pots = part s (potsAt y + countWidth) (techsAt y c p);
+  techs = part s (techsAt y c p + countWidth) (appsAt y c p t);
+  apps = part s (appsAt y c p t + countWidth) (bidsAt y c p t n);
+  bids = part s (bidsAt y c p t n + countWidth) (endAt y c p t n b);
   y = y;
   d = deliveries (part s countWidth (potsAt y)) y;
+  c = c;
   p = p;
   t = t;
   n = n;
@@ -125,23 +139,25 @@ sections s y p t n b = record {
 unfoldable pub roundOf : List ℕ → Round
 roundOf s =
     let y = le countWidth s 0 in
-    let p = le countWidth s (potsAt y) in
-    let t = le countWidth s (techsAt y p) in
-    let n = le countWidth s (appsAt y p t) in
-    let b = le countWidth s (bidsAt y p t n) in
-    sections s y p t n b
+    let c = capTold (le countWidth s (potsAt y)) in
+    let p = potsTold (le countWidth s (potsAt y)) in
+    let t = le countWidth s (techsAt y c p) in
+    let n = le countWidth s (appsAt y c p t) in
+    let b = le countWidth s (bidsAt y c p t n) in
+    sections s y c p t n b
 
 -- "hands on each section as the part of the file that it occupies": the counts and the places of the sections
 unfoldable pub sectionsOf : Round → Sections
 sectionsOf R = record {
   years = R .y;
   deliveries = R .d;
+  «cap_width» = R .c;
   pots = R .p;
   technologies = R .t;
   applications = R .n;
   bids = R .b;
   «pots_at» = potsAt (R .y);
-  «technologies_at» = techsAt (R .y) (R .p);
-  «applications_at» = appsAt (R .y) (R .p) (R .t);
-  «bids_at» = bidsAt (R .y) (R .p) (R .t) (R .n);
+  «technologies_at» = techsAt (R .y) (R .c) (R .p);
+  «applications_at» = appsAt (R .y) (R .c) (R .p) (R .t);
+  «bids_at» = bidsAt (R .y) (R .c) (R .p) (R .t) (R .n);
 }

@@ -1,4 +1,4 @@
--- Every number that document 01 gives a meaning, named once. Assumes nothing.
+-- Every number that documents 01 and 02 give a meaning, named once. Assumes nothing.
 use Prim.Native.Nat.{ℕ, _+_, _*_}
 
 -- ---- "When the file is turned away": the refusals
@@ -71,8 +71,16 @@ countWidth = 2
 abbrev pub yearWidth : ℕ
 yearWidth = 6
 
-abbrev pub potWidth : (years : ℕ) → ℕ
-potWidth y = 8 * y
+-- "The pot record gains a 4-byte cap after its budgets .. the pots count of such a file has 32,768 added" (02, CR 5)
+abbrev pub capWidth : ℕ
+capWidth = 4
+
+abbrev pub capsAdded : ℕ
+capsAdded = 32768
+
+-- of so many years, and with so many bytes of cap: `capWidth`, or none
+abbrev pub potWidth : (years cap : ℕ) → ℕ
+potWidth y c = 8 * y + c
 
 abbrev pub techWidth : (years : ℕ) → ℕ
 techWidth y = 4 + 10 * y
@@ -120,6 +128,13 @@ whole = 10000
 -- in pounds, as it stands in the file
 abbrev pub highestBudget : ℕ
 highestBudget = 1000000000000
+
+-- "up to 20,000,000, or 4,294,967,295 for none" (02, CR 5): a cap, in hundredths of a MW as capacities are
+abbrev pub highestCap : ℕ
+highestCap = 20000000
+
+abbrev pub noCap : ℕ
+noCap = 4294967295
 
 -- of an administrative and of a reference price
 abbrev pub highestPrice : ℕ

@@ -3,6 +3,7 @@
 -- what had won "by the end of the step that turned it down" is `winners` of the trace from that step on.
 use Prim.Native.Nat.{ℕ, zero, suc, _+_, _-_, _/_, _%_, _^_, min}
 use mathlib.Core.Bool.{Bool, true, false, not, _&&_}
+use mathlib.Core.Option.{Option, none, some}
 use mathlib.Core.List.{List, [], _∷_, _++_, map}
 use lib.Dec.{eqb, leb, ltb}
 use lib.ListN.{length}
@@ -13,8 +14,9 @@ use Rattle.rules.specs.Lists.{pick, memb, sift, sum}
 
 -- "Pots are cleared apart": what the clearing of one pot reads. `bids` are the numbers of its sealed bids, `apps` those of its applications; years are numbered
 -- below `years`; `cost b p y` is the exact cost in parts of bid b in year y where the clearing price of its start year is p, with `scale` parts to the penny;
--- `budget y` is in pence; `admin` is the administrative price of a bid's technology in its start year. Of application a `adminPrice` is its administrative
--- price, and `adminCost a y` the exact cost in parts of its own capacity, year and days at that price.
+-- `budget y` is in pence; `admin` is the administrative price of a bid's technology in its start year, and `capacity` the bid's capacity; `cap` is the most
+-- capacity of all winners, where there is a cap. Of application a `adminPrice` is its administrative price, `adminCost a y` the exact cost in parts of its own
+-- capacity, year and days at that price, and `appCapacity` its own capacity.
 pub record Pot : Type 0 where
   pub bids : List ℕ
   pub apps : List ℕ
@@ -27,8 +29,11 @@ pub record Pot : Type 0 where
   pub budget : ℕ → ℕ
   pub draw : ℕ → ℕ
   pub admin : ℕ → ℕ
+  pub capacity : ℕ → ℕ
+  pub cap : Option ℕ
   pub adminPrice : ℕ → ℕ
   pub adminCost : ℕ → ℕ → ℕ
+  pub appCapacity : ℕ → ℕ
 
 -- What a step did: the bids that it let win, those that it turned down and the reason that they are given, the years that it closed, and the year that it
 -- left open though it turned a bid down there, since the next look is at the same application's next bid (2); whether more bids remained than are searched (3)
@@ -77,6 +82,11 @@ unfoldable pub mark : Trace → ℕ → ℕ
 mark [] b = noReason
 mark (e ∷ s) b = pick (memb b (e .wins)) becauseWon (pick (memb b (e .downs)) (e .why) (mark s b))
 
+-- "equal fits": a number is not above a limit, where there is one
+unfoldable pub atMost : Option ℕ → ℕ → Bool
+atMost none n = true
+atMost (some limit) n = leb n limit
+
 -- "one binary place for each remaining bid": is place i in the combination number m?
 abbrev pub has : ℕ → ℕ → Bool
 has m i = eqb (m / 2 ^ i % 2) 1
@@ -120,13 +130,21 @@ module _ (P : Pot) where
   abbrev pub counted : List ℕ → ℕ
   counted ws = length (sift (λ b. memb b ws) (P .bids))
 
+  -- "the summed capacity of its winners" (02, CR 5): that of the bids, in every year the same
+  abbrev pub summedCapacity : List ℕ → ℕ
+  summedCapacity ws = summed (λ b p y. P .capacity b) ws 0
+
   -- "fits if no year's total exceeds its budget; equal fits": of the first n years
   unfoldable pub within : (ℕ → ℕ) → ℕ → Bool
   within tot zero = true
   within tot (suc n) = leb (tot n) (P .budget n) && within tot n
 
+  -- "The first test and every trial also check the cap" (02, CR 5): year totals and a summed capacity that fit
+  abbrev pub fitting : (tot : ℕ → ℕ) → (capacity : ℕ) → Bool
+  fitting tot capacity = within tot (P .years) && atMost (P .cap) capacity
+
   abbrev pub fits : List ℕ → Bool
-  fits ws = within (total ws) (P .years)
+  fits ws = fitting (total ws) (summedCapacity ws)
 
   -- "Live bids are those not yet looked at, of an application that has not won, in an open year"
   unfoldable pub live : Trace → ℕ → Bool
@@ -175,7 +193,7 @@ module _ (P : Pot) where
   combination r m = sift (λ b. has m (rank r b)) r
 
   -- "choose the fitting combination whose total in the last year of the file is greatest; if none remain, none is chosen. Among equals, the one holding the
-  -- lowest-draw bid on which they differ": the one with the largest number
+  -- lowest-draw bid on which they differ": the one with the largest number. "Closest to the budget still means money" (02, CR 5): the total, not the capacity
   unfoldable pub chosen : List ℕ → List ℕ → List ℕ
   chosen ws r = combination r (best (λ m. fits (combination r m ++ ws)) (λ m. total (combination r m ++ ws) (P .years - 1)) (2 ^ length r))
 
@@ -234,8 +252,12 @@ module _ (P : Pot) where
   unfoldable pub adminTotal : ℕ → ℕ
   adminTotal y = sum (λ a. ceilDiv (P .adminCost a y) (P .scale)) (P .apps)
 
+  -- their summed capacity: that of the applications (02, CR 5)
+  unfoldable pub adminCapacity : ℕ
+  adminCapacity = sum (P .appCapacity) (P .apps)
+
   unfoldable pub adminFits : Bool
-  adminFits = within adminTotal (P .years)
+  adminFits = fitting adminTotal adminCapacity
 
   -- one of three by the outcome: "fit its budget in every year, all win at those prices (outcome 0) .. Otherwise outcome 1", and 2 after a tie too wide
   abbrev pub by : {A : Type 0} → A → A → A → A

@@ -1,5 +1,5 @@
 -- "When the file is turned away": refusals 1 to 11. Assumes nothing.
-use Prim.Native.Nat.{ℕ, zero, suc, _+_, _*_, _%_}
+use Prim.Native.Nat.{ℕ, zero, suc, _+_, _*_, _%_, _≤_}
 use mathlib.Core.Path.{_≡_}
 use mathlib.Core.List.{List}
 use lib.ListN.{length}
@@ -7,10 +7,11 @@ use native.Mathlib.Decide.{decLe, decLt, ℕ-discrete}
 use Rattle.rules.specs.Names.{endsEarly, countOutside, yearBroken, potBroken, techBroken, appBroken, bidBroken, priceTwice, bidsTooMany, bytesAfter}
 use Rattle.rules.specs.Names.{lowestUneven, mostYears, mostPots, mostTechs, mostApps, mostBids, countWidth, yearWidth, potWidth, techWidth, appWidth}
 use Rattle.rules.specs.Names.{bidWidth, valuationOnly, delivery, mostDeliveries, shortYear, longYear, whole, highestBudget, highestPrice, priceStep}
-use Rattle.rules.specs.Names.{largestCapacity, bidsEach, bidsAYear}
+use Rattle.rules.specs.Names.{highestCap, noCap, largestCapacity, bidsEach, bidsAYear}
 use Rattle.rules.specs.Lists.{given, both, when, never, every, howMany}
 use Rattle.rules.specs.Bytes.{le}
-use Rattle.rules.specs.File.{Round, roundOf, sectionsOf, yearAt, deliveries, budgetAt, techAt, appAt, bidAt, potsAt, techsAt, appsAt, bidsAt, endAt}
+use Rattle.rules.specs.File.{Round, roundOf, sectionsOf, yearAt, deliveries, potsTold, budgetAt, capAt, techAt, appAt, bidAt, potsAt, techsAt, appsAt}
+use Rattle.rules.specs.File.{bidsAt, endAt}
 use Rattle.rules.specs.declared.Reading.{Reading}
 use Rattle.rules.specs.declared.Reading.the-variants.{Accepted, Refused}
 
@@ -38,19 +39,24 @@ unfoldable pub scan : (fault : ℕ → ℕ) → (width base i k : ℕ) → Readi
 scan fault width base i zero r = r
 scan fault width base i (suc k) r = orElse (fault i) (base + i * width) (scan fault width base (i + 1) k r)
 
+-- how many records a count tells: as many as it says, but for the pots', which may tell of caps as well (`potsTold`)
+abbrev pub plain : (count : ℕ) → ℕ
+plain n = n
+
 -- 1 and 2 of a count: "the file ends before the end of this count", "count outside its range"
-unfoldable pub countFault : List ℕ → (at low high : ℕ) → ℕ
-countFault s at low high =
-    given (decLe (at + countWidth) (length s)) (given (both (decLe low (le countWidth s at)) (decLe (le countWidth s at) high)) 0 countOutside) endsEarly
+unfoldable pub countFault : (told : ℕ → ℕ) → List ℕ → (at low high : ℕ) → ℕ
+countFault told s at low high =
+    let n = told (le countWidth s at) in
+    given (decLe (at + countWidth) (length s)) (given (both (decLe low n) (decLe n high)) 0 countOutside) endsEarly
 
 -- "within one, 1 comes first": record i of those that occupy a part is whole, and then what else is wrong with it
 unfoldable pub recordFault : (recs : List ℕ) (width : ℕ) → (ℕ → ℕ) → ℕ → ℕ
 recordFault recs width fault i = given (decLe (i * width + width) (length recs)) (fault i) endsEarly
 
--- a section: its count at `at`, which is to be from `low` to `high`, its records, then what follows
-unfoldable pub section : List ℕ → (at low high width : ℕ) → List ℕ → (ℕ → ℕ) → Reading → Reading
-section s at low high width recs fault r =
-    orElse (countFault s at low high) at (scan (recordFault recs width fault) width (at + countWidth) 0 (le countWidth s at) r)
+-- a section: its count at `at`, which is to tell from `low` to `high` records, these, then what follows
+unfoldable pub section : (told : ℕ → ℕ) → List ℕ → (at low high width : ℕ) → List ℕ → (ℕ → ℕ) → Reading → Reading
+section told s at low high width recs fault r =
+    orElse (countFault told s at low high) at (scan (recordFault recs width fault) width (at + countWidth) 0 (told (le countWidth s at)) r)
 
 -- 3: "days not 365 or 366; kind above 1; TLM above 10,000; year 0 not a delivery year; a delivery year after a valuation-only one; a fifth delivery year"
 unfoldable pub yearFault : List ℕ → ℕ → ℕ
@@ -67,9 +73,13 @@ yearFault years i =
     0
     yearBroken
 
--- 4: "a budget above 1,000,000,000,000"
-unfoldable pub potFault : (y : ℕ) → List ℕ → ℕ → ℕ
-potFault y pots i = given (every y (λ k. decLe (budgetAt y pots i k) highestBudget)) 0 potBroken
+-- "up to 20,000,000, or 4,294,967,295 for none" (02, CR 5)
+abbrev pub capRight? : (n : ℕ) → Dec ((n ≡ noCap → ⊥) → n ≤ highestCap)
+capRight? n = when (never (ℕ-discrete n noCap)) (decLe n highestCap)
+
+-- 4: "a budget above 1,000,000,000,000"; "also covers a cap out of range" (02, CR 5), where a record has c bytes of cap
+unfoldable pub potFault : (y c : ℕ) → List ℕ → ℕ → ℕ
+potFault y c pots i = given (both (every y (λ k. decLe (budgetAt y c pots i k) highestBudget)) (when (decLt 0 c) (capRight? (capAt y c pots i)))) 0 potBroken
 
 -- 5: "pot not in the file; RQM or load factor above 10,000; reference above 500,000; administrative price not a multiple of 10 from 10 to 500,000 in a
 -- delivery year, or not 0 in another"
@@ -151,13 +161,13 @@ module _ (R : Round) where
 -- "Records are judged in file order .. Then 10, 11 (first such bid in the file)": the refusal of a file, or what follows where there is none
 unfoldable pub judged : Round → List ℕ → Reading → Reading
 judged R s r =
-    let at = bidsAt (R .y) (R .p) (R .t) (R .n) in
-    let end = endAt (R .y) (R .p) (R .t) (R .n) (R .b) in
-    section s 0 1 mostYears yearWidth (R .years) (yearFault (R .years))
-    (section s (potsAt (R .y)) 1 mostPots (potWidth (R .y)) (R .pots) (potFault (R .y) (R .pots))
-    (section s (techsAt (R .y) (R .p)) 1 mostTechs (techWidth (R .y)) (R .techs) (techFault (R .y) (R .d) (R .p) (R .techs))
-    (section s (appsAt (R .y) (R .p) (R .t)) 0 mostApps appWidth (R .apps) (appFault (R .years) (R .d) (R .t) (R .apps))
-    (section s at 0 mostBids bidWidth (R .bids) (bidFault R)
+    let at = bidsAt (R .y) (R .c) (R .p) (R .t) (R .n) in
+    let end = endAt (R .y) (R .c) (R .p) (R .t) (R .n) (R .b) in
+    section plain s 0 1 mostYears yearWidth (R .years) (yearFault (R .years))
+    (section potsTold s (potsAt (R .y)) 1 mostPots (potWidth (R .y) (R .c)) (R .pots) (potFault (R .y) (R .c) (R .pots))
+    (section plain s (techsAt (R .y) (R .c) (R .p)) 1 mostTechs (techWidth (R .y)) (R .techs) (techFault (R .y) (R .d) (R .p) (R .techs))
+    (section plain s (appsAt (R .y) (R .c) (R .p) (R .t)) 0 mostApps appWidth (R .apps) (appFault (R .years) (R .d) (R .t) (R .apps))
+    (section plain s at 0 mostBids bidWidth (R .bids) (bidFault R)
     (orElse (given (decLe (length s) end) 0 bytesAfter) end
     (scan (elevenOf R) bidWidth (at + countWidth) 0 (R .b) r))))))
 

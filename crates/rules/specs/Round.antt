@@ -1,12 +1,13 @@
 -- The pots of a round file. Assumes nothing.
 use Prim.Native.Nat.{ℕ, _*_, min}
 use mathlib.Core.Bool.{Bool, _&&_}
+use mathlib.Core.Option.{Option, none, some}
 use mathlib.Core.List.{List}
 use lib.Dec.{eqb, ltb}
 use Rattle.rules.specs.Lists.{pick, sift, below}
-use Rattle.rules.specs.Names.{pencePerPound}
+use Rattle.rules.specs.Names.{pencePerPound, noCap}
 use Rattle.rules.specs.Value.{exactParts, hoursOf, penny}
-use Rattle.rules.specs.File.{Round, Tech, App, Bid, yearAt, budgetAt, techAt, appAt, bidAt}
+use Rattle.rules.specs.File.{Round, Tech, App, Bid, yearAt, budgetAt, capAt, techAt, appAt, bidAt}
 use Rattle.rules.specs.Pot.{Pot}
 
 -- what the clearing reads of one bid, or of an application at its administrative price: its own fields, the draw of its application, and the figures of its
@@ -31,9 +32,9 @@ energyOf years b y = hoursOf y (b .year) (b .days) (yearAt years y .days) * b .c
 unfoldable pub costOf : (years : List ℕ) → Row → (price y : ℕ) → ℕ
 costOf years r price y = exactParts (min price (r .admin)) (r .reference y) (r .load y) (energyOf years (r .bid) y) (yearAt years y .tlm) (r .rqm)
 
--- a pot of y years from the numbers of its bids and of its applications, their rows, and its budgets in pence
-unfoldable pub assemble : (years : List ℕ) (y : ℕ) (bids apps : List ℕ) → (row adminRow : ℕ → Row) → (ℕ → ℕ) → Pot
-assemble years y bids apps row adminRow budget = record {
+-- a pot of y years from the numbers of its bids and of its applications, their rows, its budgets in pence and its cap
+unfoldable pub assemble : (years : List ℕ) (y : ℕ) (bids apps : List ℕ) → (row adminRow : ℕ → Row) → (budget : ℕ → ℕ) → (cap : Option ℕ) → Pot
+assemble years y bids apps row adminRow budget cap = record {
   bids = bids;
   apps = apps;
   years = y;
@@ -45,8 +46,11 @@ assemble years y bids apps row adminRow budget = record {
   budget = budget;
   draw = λ k. row k .draw;
   admin = λ k. row k .admin;
+  capacity = λ k. row k .bid .capacity;
+  cap = cap;
   adminPrice = λ a. adminRow a .admin;
   adminCost = λ a y. costOf years (adminRow a) (adminRow a .admin) y;
+  appCapacity = λ a. adminRow a .bid .capacity;
 }
 
 module _ (R : Round) where
@@ -81,7 +85,13 @@ module _ (R : Round) where
 
   -- "budgets in the file stay in pounds and are compared a hundredfold" (02, CR 11): pot p's in year y, in pence. A year that the file does not have has none
   abbrev pub budgetOf : (p y : ℕ) → ℕ
-  budgetOf p y = pick (ltb y (R .y)) (pencePerPound * budgetAt (R .y) (R .pots) p y) 0
+  budgetOf p y = pick (ltb y (R .y)) (pencePerPound * budgetAt (R .y) (R .c) (R .pots) p y) 0
+
+  -- "up to 20,000,000, or 4,294,967,295 for none" (02, CR 5): pot p's cap. A file without caps has none
+  unfoldable pub capOf : (p : ℕ) → Option ℕ
+  capOf p =
+      let n = capAt (R .y) (R .c) (R .pots) p in
+      pick (ltb 0 (R .c)) (pick (eqb n noCap) none (some n)) none
 
   -- "Pots are cleared apart"; "an application without a sealed bid takes no part in the auction" (02, CR 8): the auction's bids are the file's
   unfoldable pub potOf : ℕ → Pot
@@ -89,4 +99,4 @@ module _ (R : Round) where
       assemble (R .years) (R .y) (sift (mine p) (below (R .b))) (sift (appMine p) (below (R .n)))
       (λ k. pick (mine p k) (rowFor (bidAt (R .bids) k)) blank)
       (λ a. pick (appMine p a) (rowFor (atAdminPrice a)) blank)
-      (budgetOf p)
+      (budgetOf p) (capOf p)

@@ -5,17 +5,19 @@ use mathlib.Core.Path.{_≡_, refl}
 use mathlib.Core.List.{List, [], _∷_, _++_}
 use native.Mathlib.Decide.{decLe, decLt, ℕ-discrete}
 use lib.ListN.{length, replicate}
-use Rattle.rules.specs.Names.{noPrice}
+use Rattle.rules.specs.Names.{capsAdded, noCap, noPrice}
 use Rattle.rules.specs.Lists.{given, both, when, never, one-more, every, howMany, sum}
 use Rattle.rules.specs.Bytes.{le, bytes, each, onto}
 use Rattle.rules.specs.Value.{exactParts, hoursOf}
-use Rattle.rules.specs.File.{deliveries, sections, roundOf, sectionsOf}
+use Rattle.rules.specs.File.{deliveries, potsTold, capTold, sections, roundOf, sectionsOf}
 use Rattle.rules.specs.Refusals.{orElse, orFault, scan, countFault, recordFault, section, yearFault, potFault, techFault, appFault, sevenOf, eightOf}
 use Rattle.rules.specs.Refusals.{nineOf, bidFault, elevenOf, judged, reading, refusal, place}
-use Rattle.rules.specs.Pot.{winners, downs, seen, closed, hanging, wideEnd, mark, best, value, priceFrom, tally, within, live, least, lowest, taken}
-use Rattle.rules.specs.Pot.{follows, remaining, rank, combination, chosen, choose, tied, alone, lost, look, run, auction, adminTotal, adminFits, outcome}
+use Rattle.rules.specs.Pot.{winners, downs, seen, closed, hanging, wideEnd, mark, atMost, best, value, priceFrom, tally, within, live, least, lowest}
+use Rattle.rules.specs.Pot.{taken}
+use Rattle.rules.specs.Pot.{follows, remaining, rank, combination, chosen, choose, tied, alone, lost, look, run, auction, adminTotal, adminCapacity}
+use Rattle.rules.specs.Pot.{adminFits, outcome}
 use Rattle.rules.specs.Pot.{priceIn, totalIn, paid, unlookedReason, auctionReason, reason, silent, automaticReason, winnersOf}
-use Rattle.rules.specs.Round.{energyOf, costOf, assemble, atAdminPrice, mine, appMine, rowFor, potOf}
+use Rattle.rules.specs.Round.{energyOf, costOf, assemble, atAdminPrice, mine, appMine, rowFor, capOf, potOf}
 use Rattle.rules.specs.Result.{told, toldIn, appTold, appBytes, potBytes, bidBytes, potsPart, appsPart, bidsPart, resultBytes, needed, answerTo, answerOf}
 use Rattle.rules.specs.Result.{after, clearOf, refusedAs, refusedAt, codeOf, lengthTo, lengthOf}
 use Rattle.rules.specs.declared.Answer.the-variants.{Cleared, Refused}
@@ -79,6 +81,16 @@ file years pots techs apps bids = counted years ++ (counted pots ++ (counted tec
 -- "year 0 alone, with round A's technology", and a budget
 abbrev pub single : (budget : ℕ) → (apps bids : List (List ℕ)) → List ℕ
 single b apps bids = file (year ∷ []) (budgets (b ∷ []) ∷ []) (tech 0 10000 (figures ∷ []) ∷ []) apps bids
+
+-- the same with a cap: "the pots count of such a file has 32,768 added" (02, CR 5)
+abbrev pub potUnder : (budgets : List ℕ) → (cap : ℕ) → List ℕ
+potUnder l cap = budgets l ++ bytes 4 cap
+
+abbrev pub potsUnder : List (List ℕ) → List ℕ
+potsUnder pots = bytes 2 (capsAdded + length pots) ++ joined pots
+
+abbrev pub singleUnder : (budget cap : ℕ) → (techs apps bids : List (List ℕ)) → List ℕ
+singleUnder b cap techs apps bids = counted (year ∷ []) ++ (potsUnder (potUnder (b ∷ []) cap ∷ []) ++ (counted techs ++ (counted apps ++ counted bids)))
 
 -- what is told of a pot; of an application; and the result
 abbrev potTold : (outcome : ℕ) → (prices totals : List ℕ) → List ℕ
@@ -217,6 +229,59 @@ Own =
     × Gives (single 10 (app 0 0 8 ∷ app 0 1 9 ∷ []) (bid 0 0 8 10 ∷ bid 1 0 9 10 ∷ []))
     (result (potTold 1 (10 ∷ []) (789 ∷ []) ∷ []) (line 0 65535 0 ∷ line 1 1 10 ∷ []) (3 ∷ 1 ∷ []))
 
+-- ---- caps (02, CR 5)
+
+-- round A's technology in year 0
+abbrev techA : List (List ℕ)
+techA = tech 0 10000 (figures ∷ []) ∷ []
+
+-- two of 1.00 MW, bids at 4,000 and 5,000, money for both at any price
+abbrev twoUnder : (cap : ℕ) → List ℕ
+twoUnder cap = singleUnder 1000000 cap techA (app 0 0 100 ∷ app 0 1 100 ∷ []) (bid 0 0 100 4000 ∷ bid 1 0 100 5000 ∷ [])
+
+abbrev bothAtAdmin : List ℕ
+bothAtAdmin = result (potTold 0 (noPrice ∷ []) (35040000 ∷ []) ∷ []) (line 1 65535 20000 ∷ line 1 65535 20000 ∷ []) (6 ∷ 6 ∷ [])
+
+abbrev firstAlone : List ℕ
+firstAlone = result (potTold 1 (4000 ∷ []) (3504000 ∷ []) ∷ []) (line 1 0 4000 ∷ line 0 65535 0 ∷ []) (1 ∷ 2 ∷ [])
+
+-- of the tie of T1 the last two win
+abbrev lastTwo : List ℕ
+lastTwo = result (potTold 1 (4000 ∷ []) (7008000 ∷ []) ∷ []) (line 0 65535 0 ∷ line 1 1 4000 ∷ line 1 2 4000 ∷ []) (3 ∷ 1 ∷ 1 ∷ [])
+
+abbrev Caps : Type 0
+Caps =
+    -- their capacity is the cap, or no cap at all: the first test passes
+    Gives (twoUnder 200) bothAtAdmin
+    × Gives (twoUnder noCap) bothAtAdmin
+    × Gives (twoUnder 20000000) bothAtAdmin
+    -- one hundredth of a MW too much: the first test fails, and the second bid is turned down beside the first; equal fits
+    × Gives (twoUnder 199) firstAlone
+    × Gives (twoUnder 100) firstAlone
+    × Gives (twoUnder 0) (result (potTold 1 (noPrice ∷ []) (0 ∷ []) ∷ []) (line 0 65535 0 ∷ line 0 65535 0 ∷ []) (2 ∷ 5 ∷ []))
+    -- T1 with cap 250: the last two win; with 300 it is T1; with 199 and money for all the tie's first bid does not fit alone
+    × Gives (singleUnder 105120 250 techA (app 0 5 200 ∷ app 0 3 100 ∷ app 0 4 100 ∷ []) (bid 0 0 200 4000 ∷ bid 1 0 100 4000 ∷ bid 2 0 100 4000 ∷ [])) lastTwo
+    × Gives (singleUnder 105120 300 techA (app 0 5 200 ∷ app 0 3 100 ∷ app 0 4 100 ∷ []) (bid 0 0 200 4000 ∷ bid 1 0 100 4000 ∷ bid 2 0 100 4000 ∷ []))
+    (result (potTold 1 (4000 ∷ []) (10512000 ∷ []) ∷ []) (line 1 0 4000 ∷ line 1 1 4000 ∷ line 0 65535 0 ∷ []) (1 ∷ 1 ∷ 3 ∷ []))
+    × Gives (singleUnder 1000000 199 techA (app 0 3 100 ∷ app 0 5 200 ∷ []) (bid 0 0 100 4000 ∷ bid 1 0 200 4000 ∷ []))
+    (result (potTold 1 (4000 ∷ []) (3504000 ∷ []) ∷ []) (line 1 0 4000 ∷ line 0 65535 0 ∷ []) (1 ∷ 3 ∷ []))
+    -- "Closest to the budget still means money": of two tied bids, of which one fits beside neither, the dearer wins, not the larger or the lower draw
+    × Gives (singleUnder 1000000 250 (tech 0 10000 (figures ∷ []) ∷ tech 0 2500 (figures ∷ []) ∷ []) (app 0 1 100 ∷ appWith 1 0 365 0 200 0 ∷ [])
+    (bid 0 0 100 4000 ∷ bid 1 0 200 4000 ∷ []))
+    (result (potTold 1 (4000 ∷ []) (3504000 ∷ []) ∷ []) (line 1 0 4000 ∷ line 0 65535 0 ∷ []) (1 ∷ 3 ∷ []))
+    -- the capacity of the bid is summed, not its application's: two of 2.00 MW that bid for 1.00 MW
+    × Gives (singleUnder 1000000 200 techA (app 0 0 200 ∷ app 0 1 200 ∷ []) (bid 0 0 100 4000 ∷ bid 1 0 100 5000 ∷ []))
+    (result (potTold 1 (5000 ∷ []) (8760000 ∷ []) ∷ []) (line 1 0 5000 ∷ line 1 1 5000 ∷ []) (1 ∷ 1 ∷ []))
+    -- a cap that is reached closes nothing: in the year that is open a further bid is looked at, and turned down; then the application's own smaller bid
+    × Gives (singleUnder 1000000 100 techA (app 0 0 100 ∷ app 0 1 100 ∷ []) (bid 0 0 60 4000 ∷ bid 1 0 100 5000 ∷ bid 1 0 40 5001 ∷ []))
+    (result (potTold 1 (5001 ∷ []) (4380877 ∷ []) ∷ []) (line 1 0 5001 ∷ line 1 2 5001 ∷ []) (1 ∷ 2 ∷ 1 ∷ []))
+    -- money and cap: there is room for the capacity of the second bid, not for its cost
+    × Gives (singleUnder 60000 200 techA (app 0 0 100 ∷ app 0 1 100 ∷ []) (bid 0 0 100 4000 ∷ bid 1 0 100 5000 ∷ [])) firstAlone
+    -- two pots, of which the second alone has a cap
+    × Gives (counted (year ∷ []) ++ (potsUnder (potUnder (1000000 ∷ []) noCap ∷ potUnder (1000000 ∷ []) 99 ∷ []) ++ (counted (tech 0 10000 (figures ∷ []) ∷
+    tech 1 10000 (figures ∷ []) ∷ []) ++ (counted (app 0 0 100 ∷ appWith 1 0 365 1 100 0 ∷ []) ++ counted (bid 0 0 100 4000 ∷ bid 1 0 100 5000 ∷ [])))))
+    (result (potTold 0 (noPrice ∷ []) (17520000 ∷ []) ∷ potTold 1 (noPrice ∷ []) (0 ∷ []) ∷ []) (line 1 65535 20000 ∷ line 0 65535 0 ∷ []) (6 ∷ 2 ∷ []))
+
 -- ---- files that are turned away
 
 -- the file is refused so, and the three bytes lent stay
@@ -231,6 +296,9 @@ upTo counts (t ∷ l) = counted (year ∷ []) ++ (counted (budgets (100000 ∷ [
 -- files with nothing after the section at fault
 abbrev ofYears : List (List ℕ) → List ℕ
 ofYears years = file years [] [] [] []
+
+abbrev ofPots : (count : ℕ) → List ℕ → List ℕ
+ofPots n pots = counted (year ∷ []) ++ (bytes 2 n ++ pots)
 
 abbrev ofTech : List ℕ → List ℕ
 ofTech t = file (year ∷ []) (budgets (100000 ∷ []) ∷ []) (t ∷ []) [] []
@@ -259,8 +327,17 @@ Refusals =
     × Refuses (ofYears (yearWith 365 0 0 ∷ [])) 3 2
     × Refuses (ofYears (year ∷ yearWith 365 0 0 ∷ year ∷ [])) 3 14
     × Refuses (ofYears (year ∷ year ∷ year ∷ year ∷ year ∷ [])) 3 26)
-    -- 4
-    × Refuses (file (year ∷ []) (budgets (100000 ∷ []) ∷ budgets (1000000000001 ∷ []) ∷ []) [] [] []) 4 18
+    -- 2 of the pots with caps: none, a fifth, and 16,384 added, alone or as well; and 1 within a cap
+    × (Refuses (ofPots 32768 []) 2 8
+    × Refuses (ofPots 32773 []) 2 8
+    × Refuses (ofPots 16385 (potUnder (1 ∷ []) 1)) 2 8
+    × Refuses (ofPots 49153 (potUnder (1 ∷ []) 1)) 2 8
+    × Refuses (ofPots 32769 (budgets (1 ∷ []) ++ nums 1 (0 ∷ 0 ∷ 0 ∷ []))) 1 10)
+    -- 4: a budget, without caps and with them; a cap above the highest, and one that is just not none
+    × (Refuses (file (year ∷ []) (budgets (100000 ∷ []) ∷ budgets (1000000000001 ∷ []) ∷ []) [] [] []) 4 18
+    × Refuses (ofPots 32770 (potUnder (1 ∷ []) 1 ++ potUnder (1000000000001 ∷ []) 1)) 4 22
+    × Refuses (ofPots 32769 (potUnder (1 ∷ []) 20000001)) 4 10
+    × Refuses (ofPots 32770 (potUnder (1 ∷ []) noCap ++ potUnder (1 ∷ []) 4294967294)) 4 22)
     -- 5: pot, RQM, load factor, reference, administrative price
     × (Refuses (ofTech (tech 1 10000 (figures ∷ []))) 5 20
     × Refuses (ofTech (tech 0 10001 (figures ∷ []))) 5 20
@@ -314,36 +391,40 @@ Answers =
     × ((refusal (reading (2 ∷ [])) ≡ 1) × (place (reading (counted (year ∷ []))) ≡ 8))
     × ((lengthOf (roundA 100000 100000) ≡ 68) × (lengthOf (2 ∷ []) ≡ 0))
 
-pub worked : Marked × (Own × (Refusals × Answers))
-unfolding times counted joined nums given both when never one-more every howMany sum le bytes each onto exactParts hoursOf deliveries sections roundOf
-    sectionsOf
+pub worked : Marked × (Own × (Caps × (Refusals × Answers)))
+unfolding times counted joined nums given both when never one-more every howMany sum le bytes each onto exactParts hoursOf deliveries potsTold capTold sections
+    roundOf sectionsOf
     orElse orFault scan countFault recordFault section yearFault potFault techFault appFault sevenOf
     eightOf nineOf bidFault elevenOf judged reading winners downs
-    seen closed hanging wideEnd mark best value priceFrom tally within live least lowest taken follows remaining rank combination chosen choose tied alone lost
-    look run auction adminTotal adminFits outcome priceIn totalIn paid unlookedReason auctionReason
+    seen closed hanging wideEnd mark atMost best value priceFrom tally within live least lowest taken follows remaining rank combination chosen choose tied
+    alone lost look run auction adminTotal adminCapacity adminFits outcome priceIn totalIn paid unlookedReason auctionReason
     reason silent automaticReason winnersOf energyOf costOf assemble atAdminPrice mine
-    appMine rowFor potOf told toldIn appTold appBytes potBytes bidBytes potsPart appsPart bidsPart resultBytes needed answerTo answerOf after clearOf
+    appMine rowFor capOf potOf told toldIn appTold appBytes potBytes bidBytes potsPart appsPart bidsPart resultBytes needed answerTo answerOf after clearOf
     refusal place refusedAs refusedAt codeOf lengthTo lengthOf decLe decLt ℕ-discrete
 worked = (
   (refl, refl, refl, refl, refl, refl, refl, refl, refl, refl, refl, refl, refl, refl),
   (
     (refl, refl, refl, refl, refl, refl, refl, refl, refl, refl, refl, refl, refl, refl, refl, refl),
     (
+      (refl, refl, refl, refl, refl, refl, refl, refl, refl, refl, refl, refl, refl, refl),
       (
-        (refl, refl, refl),
-        (refl, refl, refl, refl, refl, refl, refl, refl),
-        (refl, refl, refl, refl, refl, refl, refl),
-        refl,
-        (refl, refl, refl, refl, refl, refl, refl, refl),
-        (refl, refl, refl, refl, refl, refl, refl),
-        (refl, refl, refl, refl, refl, refl, refl, refl, refl, refl),
-        refl,
-        (refl, refl),
-        refl,
-        refl,
-        refl,
+        (
+          (refl, refl, refl),
+          (refl, refl, refl, refl, refl, refl, refl, refl),
+          (refl, refl, refl, refl, refl, refl, refl),
+          (refl, refl, refl, refl, refl),
+          (refl, refl, refl, refl),
+          (refl, refl, refl, refl, refl, refl, refl, refl),
+          (refl, refl, refl, refl, refl, refl, refl),
+          (refl, refl, refl, refl, refl, refl, refl, refl, refl, refl),
+          refl,
+          (refl, refl),
+          refl,
+          refl,
+          refl,
+        ),
+        ((refl, refl, refl, refl), (refl, refl), (refl, refl), (refl, refl), (refl, refl)),
       ),
-      ((refl, refl, refl, refl), (refl, refl), (refl, refl), (refl, refl), (refl, refl)),
     ),
   ),
 )
