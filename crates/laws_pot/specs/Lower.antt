@@ -11,13 +11,13 @@ use lib.ListN.{length}
 use lib.Dec.{eqb}
 use borrow.Author.Tests.{eqb-true, eq-eqb, ne-eqb}
 use Rattle.rules.specs.Lists.{pick, memb}
-use Rattle.rules.specs.Pot.{Pot, Event, Trace, winners, downs, seen, closed, hanging, value, priceFrom, clearing, tally, total, fits, live, taken, won, down}
-use Rattle.rules.specs.Pot.{endedWide, follows, alone, lost, look, run, onward, auction}
+use Rattle.rules.specs.Pot.{Pot, Event, Trace, winners, downs, seen, closed, hanging, value, priceFrom, clearing, tally, summed, total, summedCapacity, fits}
+use Rattle.rules.specs.Pot.{live, taken, won, down, endedWide, follows, alone, lost, look, run, onward, auction}
 use Rattle.laws_pot.specs.Lists.{case, clash, and-true, In, here, memb-in, in-memb, in-none, in-one, in-tail, in-left, in-right, in-cases, memb-parts}
 use Rattle.laws_pot.specs.Lists.{memb-join}
 use Rattle.laws_pot.specs.Taken.{live-is, is-live, Lows, taken-lows}
-use Rattle.laws_pot.specs.Money.{within-true, within-false}
-use Rattle.laws_pot.specs.Mono.{Lawful, value-mono}
+use Rattle.laws_pot.specs.Money.{Fit, Unfit, over-budget, over-cap, fits-true, fits-false}
+use Rattle.laws_pot.specs.Mono.{Lawful, Rising, value-mono}
 use Rattle.laws_pot.specs.Steps.{Step, look-wide}
 use Rattle.laws_pot.specs.Runs.{Inv, inv-none, live-back, won-seen, price-up, run-keeps, step-of, Went, stepped, ended, looked-next, inv-looked}
 use Rattle.laws_pot.specs.Runs as r
@@ -107,17 +107,17 @@ module _ (P : Pot) (b : ℕ) (pr : ℕ → ℕ) (W : Lowered P b pr) (L : Lawful
 
   -- ---- b fits at its new price wherever it won later at the old one
 
-  cross : (on more : ℕ → Bool) (at up : ℕ → ℕ) (y : ℕ) (bs : List ℕ) → ((k : ℕ) → on k ≡ true → more k ≡ true) → ((d : ℕ) → at d ≤ up d)
-      → tally Q (value Q) on at y bs ≤ tally P (value P) more up y bs
-  unfolding tally value
-  cross on more at up y [] h k = omega arith
-  cross on more at up y (v ∷ vs) h k =
-      let z = cross on more at up y vs h k in
-      case (on v) (λ t. rw (t, h v t) (omega (arith, value-mono P L v (at (P .yr v)) (up (P .yr v)) y (k (P .yr v))))) (λ f. rw f (omega arith))
+  cross : (f : ℕ → ℕ → ℕ → ℕ) → Rising f → (on more : ℕ → Bool) (at up : ℕ → ℕ) (y : ℕ) (bs : List ℕ) → ((k : ℕ) → on k ≡ true → more k ≡ true)
+      → ((d : ℕ) → at d ≤ up d) → tally Q f on at y bs ≤ tally P f more up y bs
+  unfolding tally
+  cross f r on more at up y [] h k = omega arith
+  cross f r on more at up y (v ∷ vs) h k =
+      let z = cross f r on more at up y vs h k in
+      case (on v) (λ t. rw (t, h v t) (omega (arith, r v (at (P .yr v)) (up (P .yr v)) y (k (P .yr v))))) (λ u. rw u (omega arith))
 
   b-fits : (n : ℕ) (s : Trace) → Inv P s → memb b (winners s) ≡ false → In b (winners (run P n s)) → fits Q (b ∷ winners s) ≡ true
   unfolding priceFrom
-  b-fits n s I m i = case (fits Q (b ∷ winners s)) (λ t. t) (λ f. absurd (no-room (within-false Q (total Q (b ∷ winners s)) (P .years) f)))
+  b-fits n s I m i = case (fits Q (b ∷ winners s)) (λ t. t) (λ f. absurd (no-room (fits-false Q (b ∷ winners s) f)))
     where
       F : Trace
       F = run P n s
@@ -134,12 +134,22 @@ module _ (P : Pot) (b : ℕ) (pr : ℕ → ℕ) (W : Lowered P b pr) (L : Lawful
       stay : (k : ℕ) → memb k (b ∷ winners s) ≡ true → memb k (winners F) ≡ true
       stay k t = ⊎-elim (λ e. rw e (in-memb i)) (λ j. rw (A .grown) (in-memb (in-right (A .new) j))) (in-tail (memb-in k (b ∷ winners s) t))
 
-      no-room : ((y : ℕ) × (y < P .years) × (P .budget y < total Q (b ∷ winners s) y)) → ⊥
-      no-room z =
-          let y = z .0 in
-          let a = cross (λ k. memb k (b ∷ winners s)) (λ k. memb k (winners F)) (clearing Q (b ∷ winners s)) (clearing P (winners F)) y (P .bids) stay dearer in
-          let d : total P (winners F) y ≤ P .budget y = within-true P (total P (winners F)) (P .years) (A .inv .fit) y (z .1) in
-          omega (arith, z .2)
+      less : (f : ℕ → ℕ → ℕ → ℕ) → Rising f → (y : ℕ) → summed Q f (b ∷ winners s) y ≤ summed P f (winners F) y
+      less f r y =
+          cross f r (λ k. memb k (b ∷ winners s)) (λ k. memb k (winners F)) (clearing Q (b ∷ winners s)) (clearing P (winners F)) y (P .bids) stay dearer
+
+      cheaper : (y : ℕ) → total Q (b ∷ winners s) y ≤ total P (winners F) y
+      cheaper y = unfold value in less (value P) (value-mono P L) y
+
+      smaller : summedCapacity Q (b ∷ winners s) ≤ summedCapacity P (winners F)
+      smaller = less (λ k p y. P .capacity k) (λ k p q y l. omega arith) 0
+
+      fit : Fit P (winners F)
+      fit = fits-true P (winners F) (A .inv .fit)
+
+      no-room : Unfit Q (b ∷ winners s) → ⊥
+      no-room (over-budget y h l) = omega (arith, cheaper y, fit .budget y h)
+      no-room (over-cap limit e l) = omega (arith, smaller, fit .cap limit e)
 
   -- ---- a year that hangs closes before b is looked at
 

@@ -10,10 +10,10 @@ use lib.Dec.{eqb, leb}
 use borrow.Author.Tests.{eqb-true, eqb-false, eq-eqb, ne-eqb, leb-true, leb-false}
 use Rattle.rules.specs.Lists.{memb, sift}
 use Rattle.laws_pot.specs.Lists.{case, clash, memb-join, In, here, there, memb-in, in-memb, in-none, memb-parts, sift-in, in-sift, sift-same, sift-sift}
-use Rattle.rules.specs.Pot.{Pot, Trace, winners, seen, closed, value, priceFrom, clearing, tally, total, fits, live, least, lowest, taken, down, follows}
-use Rattle.rules.specs.Pot.{rank, combination, remaining, chosen, choose, tied, alone, lost, look}
+use Rattle.rules.specs.Pot.{Pot, Trace, winners, seen, closed, value, priceFrom, clearing, tally, summed, total, summedCapacity, fits, live, least, lowest}
+use Rattle.rules.specs.Pot.{taken, down, follows, rank, combination, remaining, chosen, choose, tied, alone, lost, look}
 use Rattle.laws_pot.specs.Taken.{least-le, least-met}
-use Rattle.laws_pot.specs.Money.{within-same}
+use Rattle.laws_pot.specs.Money.{fitting-same}
 use Rattle.laws_pot.specs.Tie.{combination-in, best-same}
 
 -- the pot with other prices
@@ -30,8 +30,11 @@ priced P pr = record {
   budget = P .budget;
   draw = P .draw;
   admin = P .admin;
+  capacity = P .capacity;
+  cap = P .cap;
   adminPrice = P .adminPrice;
   adminCost = P .adminCost;
+  appCapacity = P .appCapacity;
 }
 
 pub record Lowered (P : Pot) (b : ℕ) (pr : ℕ → ℕ) : Type 0 where
@@ -60,16 +63,22 @@ module _ (P : Pot) (b : ℕ) (pr : ℕ → ℕ) (W : Lowered P b pr) where
   clearing-same (w ∷ ws) d f =
       rw (W .same w (other w (w ∷ ws) (here refl) f), clearing-same ws d (memb-parts b (w ∷ []) ws f .1))
 
-  tally-same : (on : ℕ → Bool) (at to : ℕ → ℕ) (y : ℕ) (bs : List ℕ) → ((d : ℕ) → at d ≡ to d) → tally Q (value Q) on at y bs ≡ tally P (value P) on to y bs
-  unfolding tally value
-  tally-same on at to y [] h = refl
-  tally-same on at to y (w ∷ ws) h = rw (h (P .yr w), tally-same on at to y ws h)
+  tally-same : (f : ℕ → ℕ → ℕ → ℕ) (on : ℕ → Bool) (at to : ℕ → ℕ) (y : ℕ) (bs : List ℕ) → ((d : ℕ) → at d ≡ to d) → tally Q f on at y bs ≡ tally P f on to y bs
+  unfolding tally
+  tally-same f on at to y [] h = refl
+  tally-same f on at to y (w ∷ ws) h = rw (h (P .yr w), tally-same f on at to y ws h)
+
+  summed-same : (f : ℕ → ℕ → ℕ → ℕ) (ws : List ℕ) (y : ℕ) → memb b ws ≡ false → summed Q f ws y ≡ summed P f ws y
+  summed-same f ws y m = tally-same f (λ k. memb k ws) (clearing Q ws) (clearing P ws) y (P .bids) (λ d. clearing-same ws d m)
 
   total-same : (ws : List ℕ) (y : ℕ) → memb b ws ≡ false → total Q ws y ≡ total P ws y
-  total-same ws y f = tally-same (λ k. memb k ws) (clearing Q ws) (clearing P ws) y (P .bids) (λ d. clearing-same ws d f)
+  unfolding value
+  total-same ws y f = summed-same (value P) ws y f
 
   fits-same : (ws : List ℕ) → memb b ws ≡ false → fits Q ws ≡ fits P ws
-  fits-same ws f = within-same Q P (total Q ws) (total P ws) (P .years) (λ y. refl) (λ y. total-same ws y f)
+  fits-same ws f =
+      fitting-same Q P (total Q ws) (total P ws) (summedCapacity Q ws) (summedCapacity P ws) refl refl (λ y. refl) (λ y. total-same ws y f)
+      (summed-same (λ b p y. P .capacity b) ws 0 f)
 
   -- ---- what is taken: without b the same, as long as something live is cheaper than b's new price; and then b alone
 

@@ -2,12 +2,14 @@
 -- them is refused here, by computation alone. Assumes nothing.
 use Prim.Native.Nat.{ℕ, _+_, _*_}
 use mathlib.Core.Path.{_≡_, refl}
-use mathlib.Core.Bool.{Bool, true, false, _&&_, _||_}
+use mathlib.Core.Bool.{Bool, true, false, not, _&&_, _||_}
+use mathlib.Core.Option.{Option, none, some}
 use mathlib.Core.List.{List, [], _∷_, _++_, map}
 use lib.Dec.{eqb, leb, ltb}
 use Rattle.rules.specs.Lists.{pick, memb, below}
-use Rattle.rules.specs.Pot.{Pot, Trace, winners, downs, seen, closed, hanging, wideEnd, best, value, priceFrom, tally, within, total, exact, counted, live}
-use Rattle.rules.specs.Pot.{least, lowest, taken, follows, remaining, rank, combination, chosen, choose, tied, alone, lost, look, run, auction}
+use Rattle.rules.specs.Pot.{Pot, Trace, winners, downs, seen, closed, hanging, wideEnd, atMost, best, value, priceFrom, tally, within, total, exact, counted}
+use Rattle.rules.specs.Pot.{summedCapacity, live, least, lowest, taken, follows, remaining, rank, combination, chosen, choose, tied, alone, lost, look, run}
+use Rattle.rules.specs.Pot.{auction}
 
 unfoldable pub all : {A : Type 0} → (A → Bool) → List A → Bool
 all f [] = true
@@ -16,6 +18,11 @@ all f (x ∷ l) = f x && all f l
 unfoldable pub any : {A : Type 0} → (A → Bool) → List A → Bool
 any f [] = false
 any f (x ∷ l) = f x || any f l
+
+-- "more capacity than the cap, exactly" (02, CR 5)
+unfoldable pub more : Option ℕ → ℕ → Bool
+more none n = false
+more (some limit) n = ltb limit n
 
 module _ (P : Pot) where
   -- 1: "winners at the prices paid cost no more than the budget in any year"
@@ -28,14 +35,19 @@ module _ (P : Pot) where
       all (λ y. leb (exact P (winners s) y) (total P (winners s) y * P .scale)
       && leb (total P (winners s) y * P .scale) (exact P (winners s) y + counted P (winners s) * P .scale)) (below (P .years))
 
+  -- "adds that the winners stay within the cap" (02, CR 5)
+  abbrev small : Trace → Bool
+  small s = not (more (P .cap) (summedCapacity P (winners s)))
+
   -- 4: "every bid looked at and turned down would, added at its own price to all that had won by the end of its step, revalued, have cost in some year more
-  -- than the budget less one penny for each bid counted"
+  -- than the budget less one penny for each bid counted", "or more capacity than the cap, exactly" (02, CR 5)
+  abbrev tooMuch : List ℕ → Bool
+  tooMuch ws =
+      any (λ y. ltb (P .budget y * P .scale) (exact P ws y + counted P ws * P .scale)) (below (P .years)) || more (P .cap) (summedCapacity P ws)
+
   unfoldable pub dear : Trace → Bool
   dear [] = true
-  dear (e ∷ s) =
-      all (λ c. let ws = c ∷ (e .wins ++ winners s) in any (λ y. ltb (P .budget y * P .scale) (exact P ws y + counted P ws * P .scale)) (below (P .years)))
-      (e .downs)
-      && dear s
+  dear (e ∷ s) = all (λ c. tooMuch (c ∷ (e .wins ++ winners s))) (e .downs) && dear s
 
   -- 5: "every bid never looked at belongs to an application that won, or to a delivery year in which a cheaper bid had been turned down"
   abbrev unlooked : Trace → Bool
@@ -47,9 +59,9 @@ module _ (P : Pot) where
   abbrev shut : Trace → Bool
   shut s = all (λ c. memb (P .yr c) (closed s)) (downs s)
 
--- a pot of one year, ten parts to the penny, whose bid k is of application k and costs `parts k` at a price of 1
-abbrev pot : (bids : List ℕ) (price parts : ℕ → ℕ) (budget : ℕ) → Pot
-pot bids price parts budget = record {
+-- a pot of one year, ten parts to the penny, whose bid k is of application k, costs `parts k` at a price of 1 and has a capacity of as many
+abbrev potWith : (cap : Option ℕ) → (bids : List ℕ) (price parts : ℕ → ℕ) (budget : ℕ) → Pot
+potWith cap bids price parts budget = record {
   bids = bids;
   apps = [];
   years = 1;
@@ -61,9 +73,16 @@ pot bids price parts budget = record {
   budget = λ y. budget;
   draw = λ k. k;
   admin = λ k. 100;
+  capacity = parts;
+  cap = cap;
   adminPrice = λ a. 100;
   adminCost = λ a y. 0;
+  appCapacity = λ a. 0;
 }
+
+-- and no cap
+abbrev pot : (bids : List ℕ) (price parts : ℕ → ℕ) (budget : ℕ) → Pot
+pot bids price parts budget = potWith none bids price parts budget
 
 -- two bids at 10 and 20, of 3 parts each: the second fits alone, but not beside the first at its price
 abbrev dearer : Pot
@@ -77,12 +96,23 @@ tenth = pot (0 ∷ []) (λ k. 1) (λ k. 31) 100
 abbrev unordered : Pot
 unordered = pot (0 ∷ 1 ∷ 2 ∷ []) (λ k. pick (eqb k 0) 20 (pick (eqb k 1) 10 30)) (λ k. pick (eqb k 0) 9 1) 12
 
+-- three tied bids of 3, 2 and 2, and a cap that any two fit under and all do not, with money for all; and a fourth, dearer one
+abbrev full : Pot
+full = potWith (some 5) (3 ∷ 2 ∷ 1 ∷ 0 ∷ []) (λ k. pick (eqb k 3) 20 10) (λ k. pick (eqb k 0) 3 2) 1000
+
+-- two bids at 10 and 20, of 3 and 2, which together are the cap
+abbrev even : Pot
+even = potWith (some 5) (1 ∷ 0 ∷ []) (λ k. 10 + 10 * k) (λ k. pick (eqb k 0) 3 2) 1000
+
 pub small-pots :
     (affordable dearer (auction dearer) ≡ true)
     × (near tenth (auction tenth) ≡ true)
     × (dear dearer (auction dearer) ≡ true)
     × (unlooked unordered (auction unordered) ≡ true)
     × (shut dearer (auction dearer) ≡ true)
-unfolding all any dear winners downs seen closed hanging wideEnd best value priceFrom tally within live least lowest taken follows remaining rank
+    × (small full (auction full) ≡ true)
+    × (dear full (auction full) ≡ true)
+    × (dear even (auction even) ≡ true)
+unfolding all any more dear winners downs seen closed hanging wideEnd atMost best value priceFrom tally within live least lowest taken follows remaining rank
     combination chosen choose tied alone lost look run auction
-small-pots = (refl, refl, refl, refl, refl)
+small-pots = (refl, refl, refl, refl, refl, refl, refl, refl)

@@ -14,6 +14,7 @@ use Rattle.laws_pot.specs.Lists.{sift-le, sift-less, in-sift, in-length}
 use Rattle.rules.specs.Pot.{Pot, Event, Trace, winners, downs, seen, closed, hanging, value, clearing, tally, total, within, fits, live, taken, look, run}
 use Rattle.rules.specs.Pot.{onward, auction, wideEnd, endedWide}
 use Rattle.laws_pot.specs.Taken.{live-is, is-live, Dead, looked, app-won, year-closed, not-live, Lows, taken-lows}
+use Rattle.laws_pot.specs.Money.{at-most-none}
 use Rattle.laws_pot.specs.Mono.{Lawful, clearing-below, clearing-more, clearing-new}
 use Rattle.laws_pot.specs.Steps.{Step, look-step, look-wide}
 use Rattle.laws_pot.specs.Tie.{choice-of}
@@ -71,10 +72,13 @@ module _ (P : Pot) where
   within-none zero = refl
   within-none (suc n) = rw (tally-none (value P) (clearing P []) n (P .bids), leb·zero, within-none n)
 
+  fits-none : fits P [] ≡ true
+  fits-none = rw (within-none (P .years), tally-none (λ b p y. P .capacity b) (clearing P []) 0 (P .bids), at-most-none (P .cap))
+
   pub inv-none : Inv []
   unfolding winners downs seen hanging live closed
   inv-none = record {
-    fit = within-none (P .years);
+    fit = fits-none;
     up = λ k j i h v. in-none i;
     paid = λ w i. in-none i;
     hang = λ y i. in-none i;

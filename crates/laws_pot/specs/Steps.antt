@@ -14,7 +14,7 @@ use Rattle.laws_pot.specs.Lists.{sift-in, in-sift}
 use Rattle.rules.specs.Pot.{Pot, Event, Trace, winners, hanging, clearing, fits, live, taken, won, down, follows, remaining, choose, others, shared}
 use Rattle.rules.specs.Pot.{endedWide, tied, alone, lost, look}
 use Rattle.laws_pot.specs.Taken.{Lows}
-use Rattle.laws_pot.specs.Mono.{Lawful, fits-less, clearing-below, total-more}
+use Rattle.laws_pot.specs.Mono.{Lawful, fits-less, clearing-below, dearer-more}
 
 -- What the tie rule's choice is good for: some of those taken, which fit, and to which no other of them can be added
 pub record Choice (P : Pot) : Type 0 where
@@ -92,7 +92,7 @@ module _ (P : Pot) where
               let r = sift-in c test l i in
               ⊎-elim
               (λ f. fits-less P (c ∷ winners s) (c ∷ (ch ++ winners s))
-              (λ y. total-more P L c ch (winners s) y (λ a d j. clearing-below P (P .price a) (winners s) d (λ v k. up v a k (C .among (winners s) l a j)))) f)
+              (dearer-more P L c ch (winners s) (λ a d j. clearing-below P (P .price a) (winners s) d (λ v k. up v a k (C .among (winners s) l a j)))) f)
               (λ f. f)
               (C .most (winners s) l (h .low) c w (λ a j. (h .sound a j .0, h .sound a j .2))
               (λ d. clearing-below P (h .low) (winners s) d (λ v k. omega (arith, up v c k (r .0), h .sound c (r .0) .2))) (r .0) (not-is-true _ (r .1)));

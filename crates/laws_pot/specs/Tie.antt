@@ -12,10 +12,11 @@ use borrow.Author.Tests.{eqb-true, eqb-false, eq-eqb, ne-eqb, leb-true, leb-fals
 use Rattle.rules.specs.Lists.{memb, pick, sift}
 use Rattle.laws_pot.specs.Lists.{case, clash, and-true, and-false, In, here, there, memb-in, in-memb, in-tail, in-left, in-right, in-cases, in-map}
 use Rattle.laws_pot.specs.Lists.{map-in, sift-in, in-sift, sift-le, sift-less}
-use Rattle.rules.specs.Pot.{Pot, value, priceFrom, clearing, tally, total, fits, has, rank, combination, best, remaining, chosen, choose}
+use Rattle.rules.specs.Pot.{Pot, value, priceFrom, clearing, tally, summed, total, summedCapacity, fits, has, rank, combination, best, remaining, chosen}
+use Rattle.rules.specs.Pot.{choose}
 use Rattle.laws_pot.specs.Bits.{has-none, add-lt, add-adds, add-other}
-use Rattle.laws_pot.specs.Money.{within-same}
-use Rattle.laws_pot.specs.Mono.{Lawful, total-mono}
+use Rattle.laws_pot.specs.Money.{fitting-same}
+use Rattle.laws_pot.specs.Mono.{Lawful, Dearer, dearer}
 use Rattle.laws_pot.specs.Steps.{Choice}
 
 -- two lists with the same members
@@ -172,9 +173,10 @@ module _ (P : Pot) where
       let r = tally-same f on in′ at to y bs (λ c i. h c (there i)) (λ c i. k c (there i)) in
       case (on b) (λ t. rw (t, sym (h b (here refl)) ∙ t, k b (here refl) t, r)) (λ g. rw (g, sym (h b (here refl)) ∙ g, r))
 
-  pub total-alike : (q : ℕ) (a b ws : List ℕ) (y : ℕ) → Alike a b → ((x : ℕ) → In x b → P .price x ≡ q) → total P (a ++ ws) y ≡ total P (b ++ ws) y
-  total-alike q a b ws y A h =
-      tally-same (value P) (λ k. memb k (a ++ ws)) (λ k. memb k (b ++ ws)) (clearing P (a ++ ws)) (clearing P (b ++ ws)) y (P .bids)
+  summed-alike : (f : ℕ → ℕ → ℕ → ℕ) (q : ℕ) (a b ws : List ℕ) (y : ℕ) → Alike a b → ((x : ℕ) → In x b → P .price x ≡ q)
+      → summed P f (a ++ ws) y ≡ summed P f (b ++ ws) y
+  summed-alike f q a b ws y A h =
+      tally-same f (λ k. memb k (a ++ ws)) (λ k. memb k (b ++ ws)) (clearing P (a ++ ws)) (clearing P (b ++ ws)) y (P .bids)
       (λ k i. memb-alike k (alike-join ws A)) (λ k i t. clearing-alike q a b ws (P .yr k) A h)
 
   clearing-joined : (q : ℕ) (ns ws : List ℕ) (d : ℕ) → ((a : ℕ) → In a ns → P .price a ≡ q) → clearing P ws d ≤ q → clearing P (ns ++ ws) d ≤ q
@@ -185,9 +187,9 @@ module _ (P : Pot) where
 
   module _ (L : Lawful P) where
     -- one more bid, no cheaper than the clearing prices, never lowers a total
-    total-grows : (c : ℕ) (vs : List ℕ) (y : ℕ) → ((d : ℕ) → clearing P vs d ≤ P .price c) → total P vs y ≤ total P (c ∷ vs) y
+    grows : (c : ℕ) (vs : List ℕ) → ((d : ℕ) → clearing P vs d ≤ P .price c) → Dearer P vs (c ∷ vs)
     unfolding priceFrom
-    total-grows c vs y h = total-mono P L vs (c ∷ vs) y (λ b i. there i) (λ d. case (eqb (P .yr c) d) (λ t. rw t (h d)) (λ f. rw f (omega arith)))
+    grows c vs h = dearer P L vs (c ∷ vs) (λ b i. there i) (λ d. case (eqb (P .yr c) d) (λ t. rw t (h d)) (λ f. rw f (omega arith)))
 
     -- the choice among the remaining bids r
     module _ (ws r : List ℕ) (w : fits P ws ≡ true) where
@@ -212,12 +214,14 @@ module _ (P : Pot) where
             (λ (u : last n < last k).
             absurd (omega (
               arith,
-              same (P .years - 1),
-              total-grows c (combination P r k ++ ws) (P .years - 1) (λ d.
-                  omega (arith, pq c i .1, clearing-joined q (combination P r k) ws d (λ a j. pq a (combination-in a k r j) .1) (cl d))),
+              same (value P) (P .years - 1),
+              grows c (combination P r k ++ ws) (λ d.
+                  omega (arith, pq c i .1, clearing-joined q (combination P r k) ws d (λ a j. pq a (combination-in a k r j) .1) (cl d))) .money (P .years - 1),
             )))
             (λ u. absurd (omega (arith, z .1, u .1)))
-            (B .top n (z .2) (within-same P P (total P (combination P r n ++ ws)) (total P (c ∷ (combination P r k ++ ws))) (P .years) (λ y. refl) same ∙ t)))
+            (B .top n (z .2)
+            (fitting-same P P (total P (combination P r n ++ ws)) (total P (c ∷ (combination P r k ++ ws))) (summedCapacity P (combination P r n ++ ws)) _
+            refl refl (λ y. refl) (same (value P)) (same (λ b p y. P .capacity b) 0) ∙ t)))
             (λ g. g)
           where
             z : (n : ℕ) × (k < n) × (n < 2 ^ length r) × Alike (combination P r n) (c ∷ combination P r k)
@@ -226,8 +230,8 @@ module _ (P : Pot) where
             n : ℕ
             n = z .0
 
-            same : (y : ℕ) → total P (combination P r n ++ ws) y ≡ total P (c ∷ (combination P r k ++ ws)) y
-            same y = total-alike q (combination P r n) (c ∷ combination P r k) ws y (z .3)
+            same : (f : ℕ → ℕ → ℕ → ℕ) (y : ℕ) → summed P f (combination P r n ++ ws) y ≡ summed P f (c ∷ (combination P r k ++ ws)) y
+            same f y = summed-alike f q (combination P r n) (c ∷ combination P r k) ws y (z .3)
                 (λ x j. ⊎-elim (λ e. ap (P .price) e ∙ pq c i .1) (λ h. pq x (combination-in x k r h) .1) (in-tail j))
 
         pub chosen-most : memb c (chosen P ws r) ≡ false → fits P (c ∷ (chosen P ws r ++ ws)) ≡ false

@@ -9,8 +9,8 @@ use native.Mathlib.Nat.{not-suc-le-zero}
 use Rattle.rules.specs.Names.{mostYears, mostPots, mostTechs, mostApps, mostBids, countWidth, yearWidth, potWidth, techWidth, appWidth, bidWidth, bytesAfter}
 use Rattle.rules.specs.Lists.{given}
 use Rattle.rules.specs.Bytes.{le, part}
-use Rattle.rules.specs.File.{Round, roundOf, sections, sectionsOf, appAt, bidAt, potsAt, techsAt, appsAt, bidsAt, endAt}
-use Rattle.rules.specs.Refusals.{refusal, orElse, scan, countFault, recordFault, section, yearFault, potFault, techFault, appFault, bidFault, elevenOf}
+use Rattle.rules.specs.File.{Round, potsTold, roundOf, sections, sectionsOf, appAt, bidAt, potsAt, techsAt, appsAt, bidsAt, endAt}
+use Rattle.rules.specs.Refusals.{refusal, orElse, scan, plain, countFault, recordFault, section, yearFault, potFault, techFault, appFault, bidFault, elevenOf}
 use Rattle.rules.specs.Refusals.{judged, reading, IsAccepted}
 use Rattle.rules.specs.declared.Sections.{Sections}
 use Rattle.rules.specs.declared.Reading.{Reading}
@@ -20,8 +20,10 @@ use Rattle.laws_reading.specs.Reading.{holds, all-passed, all-whole, Sou
 
 -- ---- the five sections
 
--- where a section's count stands, from what to what it may be, how wide the records are, the part that they occupy, and what is wrong with each
+-- how many records a section's count tells, where it stands, from what to what it may tell, how wide the records are, the part that they occupy, and what is
+-- wrong with each
 pub record Table : Type 0 where
+  pub told : ℕ → ℕ
   pub at : ℕ
   pub low : ℕ
   pub high : ℕ
@@ -31,14 +33,23 @@ pub record Table : Type 0 where
 
 module _ (R : Round) where
   abbrev pub years : Table
-  years = record { at = 0; low = 1; high = mostYears; width = yearWidth; recs = R .years; fault = yearFault (R .years) }
+  years = record { told = plain; at = 0; low = 1; high = mostYears; width = yearWidth; recs = R .years; fault = yearFault (R .years) }
 
   abbrev pub pots : Table
-  pots = record { at = potsAt (R .y); low = 1; high = mostPots; width = potWidth (R .y); recs = R .pots; fault = potFault (R .y) (R .pots) }
+  pots = record {
+    told = potsTold;
+    at = potsAt (R .y);
+    low = 1;
+    high = mostPots;
+    width = potWidth (R .y) (R .c);
+    recs = R .pots;
+    fault = potFault (R .y) (R .c) (R .pots);
+  }
 
   abbrev pub techs : Table
   techs = record {
-    at = techsAt (R .y) (R .p);
+    told = plain;
+    at = techsAt (R .y) (R .c) (R .p);
     low = 1;
     high = mostTechs;
     width = techWidth (R .y);
@@ -48,7 +59,8 @@ module _ (R : Round) where
 
   abbrev pub apps : Table
   apps = record {
-    at = appsAt (R .y) (R .p) (R .t);
+    told = plain;
+    at = appsAt (R .y) (R .c) (R .p) (R .t);
     low = 0;
     high = mostApps;
     width = appWidth;
@@ -57,7 +69,15 @@ module _ (R : Round) where
   }
 
   abbrev pub bids : Table
-  bids = record { at = bidsAt (R .y) (R .p) (R .t) (R .n); low = 0; high = mostBids; width = bidWidth; recs = R .bids; fault = bidFault R }
+  bids = record {
+    told = plain;
+    at = bidsAt (R .y) (R .c) (R .p) (R .t) (R .n);
+    low = 0;
+    high = mostBids;
+    width = bidWidth;
+    recs = R .bids;
+    fault = bidFault R;
+  }
 
   -- in the order of the file
   abbrev pub tables : List Table
@@ -65,22 +85,22 @@ module _ (R : Round) where
 
   -- where the last record ends
   abbrev pub ends : ℕ
-  ends = endAt (R .y) (R .p) (R .t) (R .n) (R .b)
+  ends = endAt (R .y) (R .c) (R .p) (R .t) (R .n) (R .b)
 
 module _ (s : List ℕ) where
-  -- what a section's count says, what is wrong with it, and with record i
+  -- how many records a section's count tells, what is wrong with it, and with record i
   abbrev pub says : Table → ℕ
-  says T = le countWidth s (T .at)
+  says T = T .told (le countWidth s (T .at))
 
   abbrev pub countIs : Table → ℕ
-  countIs T = countFault s (T .at) (T .low) (T .high)
+  countIs T = countFault (T .told) s (T .at) (T .low) (T .high)
 
   abbrev pub recordIs : Table → ℕ → ℕ
   recordIs T i = recordFault (T .recs) (T .width) (T .fault) i
 
   -- a section is judged, then what follows; and sections one after the other
   abbrev pub judges : Table → Reading → Reading
-  judges T q = section s (T .at) (T .low) (T .high) (T .width) (T .recs) (T .fault) q
+  judges T q = section (T .told) s (T .at) (T .low) (T .high) (T .width) (T .recs) (T .fault) q
 
   abbrev pub judgesAll : List Table → Reading → Reading
   judgesAll [] q = q

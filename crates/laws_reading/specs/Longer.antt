@@ -8,18 +8,19 @@ use native.Mathlib.Nat.{mul-le-mul}
 use native.Mathlib.Decide.{decLe}
 use lib.ListN.{length, getD, take, length-take}
 use lib.Seq.{getD-take}
-use Rattle.rules.specs.Names.{bytesAfter, mostYears, mostPots, mostTechs, mostApps, mostBids, countWidth, yearWidth, potWidth, techWidth, appWidth, bidWidth}
+use Rattle.rules.specs.Names.{bytesAfter, mostYears, mostPots, mostTechs, mostApps, mostBids, countWidth, yearWidth, capWidth, potWidth, techWidth, appWidth}
+use Rattle.rules.specs.Names.{bidWidth}
 use Rattle.rules.specs.Lists.{given, both}
 use Rattle.rules.specs.Bytes.{le, part}
-use Rattle.rules.specs.File.{Round, sections, roundOf, sectionsOf, deliveries, potsAt, techsAt, appsAt, bidsAt, endAt}
-use Rattle.rules.specs.Refusals.{refusal, orElse, scan, countFault, recordFault, section, yearFault, potFault, techFault, appFault, bidFault, elevenOf}
+use Rattle.rules.specs.File.{Round, sections, roundOf, sectionsOf, deliveries, potsTold, capTold, potsAt, techsAt, appsAt, bidsAt, endAt}
+use Rattle.rules.specs.Refusals.{refusal, orElse, scan, plain, countFault, recordFault, section, yearFault, potFault, techFault, appFault, bidFault, elevenOf}
 use Rattle.rules.specs.Refusals.{judged, reading}
 use Rattle.rules.specs.declared.Sections.{Sections}
 use Rattle.rules.specs.declared.Reading.{Reading}
 use Rattle.rules.specs.declared.Reading.the-variants.{Accepted}
 use Rattle.laws_reading.specs.Walk.{given-yes, given-no}
 use Rattle.laws_reading.specs.Alike.{le-same, part-same}
-use Rattle.laws_reading.specs.Reading.{holds}
+use Rattle.laws_reading.specs.Reading.{holds, cap-told, cap-most}
 use Rattle.laws_reading.specs.Fault.{handed-on, ends-there}
 use Rattle.laws_reading.specs.Small.{largest}
 
@@ -33,31 +34,36 @@ module _ (s : List ℕ) where
   ending : Round → (at : ℕ) → Reading
   ending R end =
       orElse (given (decLe (length s) end) 0 bytesAfter) end
-      (scan (elevenOf R) bidWidth (bidsAt (R .y) (R .p) (R .t) (R .n) + countWidth) 0 (R .b) (Accepted (sectionsOf R)))
+      (scan (elevenOf R) bidWidth (bidsAt (R .y) (R .c) (R .p) (R .t) (R .n) + countWidth) 0 (R .b) (Accepted (sectionsOf R)))
 
-  ofBids : (y p t n b : ℕ) → Reading
-  ofBids y p t n b =
-      let R = sections s y p t n b in
-      section s (bidsAt y p t n) 0 mostBids bidWidth (part s (bidsAt y p t n + countWidth) (endAt y p t n b)) (bidFault R) (ending R (endAt y p t n b))
+  ofBids : (y c p t n b : ℕ) → Reading
+  ofBids y c p t n b =
+      let R = sections s y c p t n b in
+      let bids = part s (bidsAt y c p t n + countWidth) (endAt y c p t n b) in
+      section plain s (bidsAt y c p t n) 0 mostBids bidWidth bids (bidFault R) (ending R (endAt y c p t n b))
 
-  ofApps : (y p t n : ℕ) → Reading
-  ofApps y p t n =
-      let apps = part s (appsAt y p t + countWidth) (bidsAt y p t n) in
-      section s (appsAt y p t) 0 mostApps appWidth apps (appFault (years y) (deliveries (years y) y) t apps)
-      (ofBids y p t n (le countWidth s (bidsAt y p t n)))
+  ofApps : (y c p t n : ℕ) → Reading
+  ofApps y c p t n =
+      let apps = part s (appsAt y c p t + countWidth) (bidsAt y c p t n) in
+      section plain s (appsAt y c p t) 0 mostApps appWidth apps (appFault (years y) (deliveries (years y) y) t apps)
+      (ofBids y c p t n (le countWidth s (bidsAt y c p t n)))
 
-  ofTechs : (y p t : ℕ) → Reading
-  ofTechs y p t =
-      let techs = part s (techsAt y p + countWidth) (appsAt y p t) in
-      section s (techsAt y p) 1 mostTechs (techWidth y) techs (techFault y (deliveries (years y) y) p techs) (ofApps y p t (le countWidth s (appsAt y p t)))
+  ofTechs : (y c p t : ℕ) → Reading
+  ofTechs y c p t =
+      let techs = part s (techsAt y c p + countWidth) (appsAt y c p t) in
+      section plain s (techsAt y c p) 1 mostTechs (techWidth y) techs (techFault y (deliveries (years y) y) p techs)
+      (ofApps y c p t (le countWidth s (appsAt y c p t)))
 
-  ofPots : (y p : ℕ) → Reading
-  ofPots y p =
-      let pots = part s (potsAt y + countWidth) (techsAt y p) in
-      section s (potsAt y) 1 mostPots (potWidth y) pots (potFault y pots) (ofTechs y p (le countWidth s (techsAt y p)))
+  -- after a count of pots, which tells of their caps as well
+  ofPots : (y count : ℕ) → Reading
+  ofPots y q =
+      let c = capTold q in
+      let p = potsTold q in
+      let pots = part s (potsAt y + countWidth) (techsAt y c p) in
+      section potsTold s (potsAt y) 1 mostPots (potWidth y c) pots (potFault y c pots) (ofTechs y c p (le countWidth s (techsAt y c p)))
 
   ofYears : (y : ℕ) → Reading
-  ofYears y = section s 0 1 mostYears yearWidth (years y) (yearFault (years y)) (ofPots y (le countWidth s (potsAt y)))
+  ofYears y = section plain s 0 1 mostYears yearWidth (years y) (yearFault (years y)) (ofPots y (le countWidth s (potsAt y)))
 
   is-reading : reading s ≡ ofYears (le countWidth s 0)
   unfolding reading judged roundOf sections ofYears ofPots ofTechs ofApps ofBids ending
@@ -66,16 +72,16 @@ module _ (s : List ℕ) where
 -- ---- what is the same in the first bytes
 
 -- a section is the same where its count is, and, if that is in its range, its records and what follows
-section-same : (s t : List ℕ) (at low high w : ℕ) (l m : List ℕ) (f g : ℕ → ℕ) (q r : Reading)
-    → countFault s at low high ≡ countFault t at low high → le countWidth s at ≡ le countWidth t at
-    → (le countWidth s at ≤ high → (l ≡ m) × (f ≡ g) × (q ≡ r)) → section s at low high w l f q ≡ section t at low high w m g r
+section-same : (told : ℕ → ℕ) (s t : List ℕ) (at low high w : ℕ) (l m : List ℕ) (f g : ℕ → ℕ) (q r : Reading)
+    → countFault told s at low high ≡ countFault told t at low high → le countWidth s at ≡ le countWidth t at
+    → (told (le countWidth s at) ≤ high → (l ≡ m) × (f ≡ g) × (q ≡ r)) → section told s at low high w l f q ≡ section told t at low high w m g r
 unfolding section countFault orElse
-section-same s t at low high w l m f g q r c e h = go (countFault s at low high) refl
+section-same told s t at low high w l m f g q r c e h = go (countFault told s at low high) refl
   where
-    go : (k : ℕ) → countFault s at low high ≡ k → section s at low high w l f q ≡ section t at low high w m g r
+    go : (k : ℕ) → countFault told s at low high ≡ k → section told s at low high w l f q ≡ section told t at low high w m g r
     go zero z =
         let u = h (holds _ _ _ (holds _ _ _ z (λ x. omega arith) .1) (λ x. omega arith) .0 .1) in
-        λ j. orElse (c j) at (scan (recordFault (u .0 j) w (u .1 j)) w (at + countWidth) 0 (e j) (u .2 j))
+        λ j. orElse (c j) at (scan (recordFault (u .0 j) w (u .1 j)) w (at + countWidth) 0 (told (e j)) (u .2 j))
     go (suc k) z = rw (z, sym c ∙ z) refl
 
 module _ (s : List ℕ) (h : largest < length s) where
@@ -91,11 +97,11 @@ module _ (s : List ℕ) (h : largest < length s) where
   count : (at : ℕ) → at < largest → le countWidth s at ≡ le countWidth t at
   count at l = le-same countWidth s t at countWidth at (λ j k. byte (at + j) (omega arith)) (omega arith) (omega arith)
 
-  fault : (at low high : ℕ) → at < largest → countFault s at low high ≡ countFault t at low high
+  fault : (told : ℕ → ℕ) (at low high : ℕ) → at < largest → countFault told s at low high ≡ countFault told t at low high
   unfolding countFault
-  fault at low high l =
+  fault told at low high l =
       given-yes (decLe (at + countWidth) (length s)) _ _ (omega arith)
-      ∙ ap (λ (n : ℕ). given (both (decLe low n) (decLe n high)) 0 2) (count at l)
+      ∙ ap (λ (n : ℕ). given (both (decLe low (told n)) (decLe (told n) high)) 0 2) (count at l)
       ∙ sym (given-yes (decLe (at + countWidth) (length t)) _ _ (omega (arith, long)))
 
   same : (a e : ℕ) → e ≤ largest → part s a e ≡ part t a e
@@ -103,104 +109,113 @@ module _ (s : List ℕ) (h : largest < length s) where
 
   -- ---- from the last section to the first
 
-  module _ (y p n k : ℕ) (hy : y ≤ mostYears) (hp : p ≤ mostPots) (ht : k ≤ mostTechs) where
-    pots-most : p * potWidth y ≤ 256
-    pots-most = let w : potWidth y ≤ 64 = omega arith in mul-le-mul hp w
+  module _ (y c p n k : ℕ) (hy : y ≤ mostYears) (hc : c ≤ capWidth) (hp : p ≤ mostPots) (ht : k ≤ mostTechs) where
+    pots-most : p * potWidth y c ≤ 272
+    pots-most = let w : potWidth y c ≤ 68 = omega arith in mul-le-mul hp w
 
     techs-most : k * techWidth y ≤ 2688
     techs-most = let w : techWidth y ≤ 84 = omega arith in mul-le-mul ht w
 
     -- the file does not end with its last record
-    ending-same : (b : ℕ) → n ≤ mostApps → b ≤ mostBids → (R Q : Round) → ending s R (endAt y p k n b) ≡ ending t Q (endAt y p k n b)
+    ending-same : (b : ℕ) → n ≤ mostApps → b ≤ mostBids → (R Q : Round) → ending s R (endAt y c p k n b) ≡ ending t Q (endAt y c p k n b)
     unfolding ending orElse
     ending-same b hn hb R Q =
-        let over : (l : List ℕ) → largest < length l → given (decLe (length l) (endAt y p k n b)) 0 bytesAfter ≡ bytesAfter =
-        λ l x. given-no (decLe (length l) (endAt y p k n b)) 0 bytesAfter (λ z. omega (arith, pots-most, techs-most)) in
+        let over : (l : List ℕ) → largest < length l → given (decLe (length l) (endAt y c p k n b)) 0 bytesAfter ≡ bytesAfter =
+        λ l x. given-no (decLe (length l) (endAt y c p k n b)) 0 bytesAfter (λ z. omega (arith, pots-most, techs-most)) in
         rw (over s h, over t (omega (arith, long)))
 
-    round-same : (b : ℕ) → endAt y p k n b ≤ largest → sections s y p k n b ≡ sections t y p k n b
+    round-same : (b : ℕ) → endAt y c p k n b ≤ largest → sections s y c p k n b ≡ sections t y c p k n b
     unfolding sections
     round-same b end = λ j. record {
       years = same countWidth (potsAt y) (omega arith) j;
-      pots = same (potsAt y + countWidth) (techsAt y p) (omega arith) j;
-      techs = same (techsAt y p + countWidth) (appsAt y p k) (omega arith) j;
-      apps = same (appsAt y p k + countWidth) (bidsAt y p k n) (omega arith) j;
-      bids = same (bidsAt y p k n + countWidth) (endAt y p k n b) end j;
+      pots = same (potsAt y + countWidth) (techsAt y c p) (omega arith) j;
+      techs = same (techsAt y c p + countWidth) (appsAt y c p k) (omega arith) j;
+      apps = same (appsAt y c p k + countWidth) (bidsAt y c p k n) (omega arith) j;
+      bids = same (bidsAt y c p k n + countWidth) (endAt y c p k n b) end j;
       y = y;
       d = deliveries (same countWidth (potsAt y) (omega arith) j) y;
+      c = c;
       p = p;
       t = k;
       n = n;
       b = b;
     }
 
-    bids-same : n ≤ mostApps → ofBids s y p k n (le countWidth s (bidsAt y p k n)) ≡ ofBids t y p k n (le countWidth t (bidsAt y p k n))
+    bids-same : n ≤ mostApps → ofBids s y c p k n (le countWidth s (bidsAt y c p k n)) ≡ ofBids t y c p k n (le countWidth t (bidsAt y c p k n))
     unfolding ofBids
     bids-same hn =
-        let at : bidsAt y p k n < largest = omega (arith, pots-most, techs-most) in
-        let e = count (bidsAt y p k n) at in
-        section-same s t _ _ _ _ _ _ _ _ _ _ (fault (bidsAt y p k n) 0 mostBids at) e
+        let at : bidsAt y c p k n < largest = omega (arith, pots-most, techs-most) in
+        let e = count (bidsAt y c p k n) at in
+        section-same plain s t _ _ _ _ _ _ _ _ _ _ (fault plain (bidsAt y c p k n) 0 mostBids at) e
         (λ hb.
-        let b = le countWidth s (bidsAt y p k n) in
-        let end : endAt y p k n b ≤ largest = omega (arith, pots-most, techs-most) in
-        let l = same (bidsAt y p k n + countWidth) (endAt y p k n b) end in
-        let R : sections s y p k n b ≡ sections t y p k n b = round-same b end in (
-          l ∙ ap (λ (x : ℕ). part t (bidsAt y p k n + countWidth) (endAt y p k n x)) e,
-          ap bidFault R ∙ ap (λ (x : ℕ). bidFault (sections t y p k n x)) e,
-          ending-same b hn hb (sections s y p k n b) (sections t y p k n b) ∙ ap (λ (x : ℕ). ending t (sections t y p k n x) (endAt y p k n x)) e,
+        let b = le countWidth s (bidsAt y c p k n) in
+        let end : endAt y c p k n b ≤ largest = omega (arith, pots-most, techs-most) in
+        let l = same (bidsAt y c p k n + countWidth) (endAt y c p k n b) end in
+        let R : sections s y c p k n b ≡ sections t y c p k n b = round-same b end in (
+          l ∙ ap (λ (x : ℕ). part t (bidsAt y c p k n + countWidth) (endAt y c p k n x)) e,
+          ap bidFault R ∙ ap (λ (x : ℕ). bidFault (sections t y c p k n x)) e,
+          ending-same b hn hb (sections s y c p k n b) (sections t y c p k n b) ∙ ap (λ (x : ℕ). ending t (sections t y c p k n x) (endAt y c p k n x)) e,
         ))
 
-  apps-same : (y p k : ℕ) → y ≤ mostYears → p ≤ mostPots → k ≤ mostTechs
-      → ofApps s y p k (le countWidth s (appsAt y p k)) ≡ ofApps t y p k (le countWidth t (appsAt y p k))
+  apps-same : (y c p k : ℕ) → y ≤ mostYears → c ≤ capWidth → p ≤ mostPots → k ≤ mostTechs
+      → ofApps s y c p k (le countWidth s (appsAt y c p k)) ≡ ofApps t y c p k (le countWidth t (appsAt y c p k))
   unfolding ofApps
-  apps-same y p k hy hp ht =
-      let pots = pots-most y p 0 k hy hp ht in
-      let techs = techs-most y p 0 k hy hp ht in
-      let at : appsAt y p k < largest = omega arith in
-      let e = count (appsAt y p k) at in
-      section-same s t _ _ _ _ _ _ _ _ _ _ (fault (appsAt y p k) 0 mostApps at) e
+  apps-same y c p k hy hc hp ht =
+      let pots = pots-most y c p 0 k hy hc hp ht in
+      let techs = techs-most y c p 0 k hy hc hp ht in
+      let at : appsAt y c p k < largest = omega arith in
+      let e = count (appsAt y c p k) at in
+      section-same plain s t _ _ _ _ _ _ _ _ _ _ (fault plain (appsAt y c p k) 0 mostApps at) e
       (λ hn.
-      let n = le countWidth s (appsAt y p k) in
-      let l = same (appsAt y p k + countWidth) (bidsAt y p k n) (omega arith)
-      ∙ ap (λ (x : ℕ). part t (appsAt y p k + countWidth) (bidsAt y p k x)) e in
+      let n = le countWidth s (appsAt y c p k) in
+      let l = same (appsAt y c p k + countWidth) (bidsAt y c p k n) (omega arith)
+      ∙ ap (λ (x : ℕ). part t (appsAt y c p k + countWidth) (bidsAt y c p k x)) e in
       let years = same countWidth (potsAt y) (omega arith) in (
         l,
         (λ j. appFault (years j) (deliveries (years j) y) k (l j)),
-        bids-same y p n k hy hp ht hn ∙ ap (λ (x : ℕ). ofBids t y p k x (le countWidth t (bidsAt y p k x))) e,
+        bids-same y c p n k hy hc hp ht hn ∙ ap (λ (x : ℕ). ofBids t y c p k x (le countWidth t (bidsAt y c p k x))) e,
       ))
 
-  techs-same : (y p : ℕ) → y ≤ mostYears → p ≤ mostPots → ofTechs s y p (le countWidth s (techsAt y p)) ≡ ofTechs t y p (le countWidth t (techsAt y p))
+  techs-same : (y c p : ℕ) → y ≤ mostYears → c ≤ capWidth → p ≤ mostPots
+      → ofTechs s y c p (le countWidth s (techsAt y c p)) ≡ ofTechs t y c p (le countWidth t (techsAt y c p))
   unfolding ofTechs
-  techs-same y p hy hp =
-      let pots = pots-most y p 0 0 hy hp (omega arith) in
-      let at : techsAt y p < largest = omega arith in
-      let e = count (techsAt y p) at in
-      section-same s t _ _ _ _ _ _ _ _ _ _ (fault (techsAt y p) 1 mostTechs at) e
+  techs-same y c p hy hc hp =
+      let pots = pots-most y c p 0 0 hy hc hp (omega arith) in
+      let at : techsAt y c p < largest = omega arith in
+      let e = count (techsAt y c p) at in
+      section-same plain s t _ _ _ _ _ _ _ _ _ _ (fault plain (techsAt y c p) 1 mostTechs at) e
       (λ ht.
-      let k = le countWidth s (techsAt y p) in
-      let most = techs-most y p 0 k hy hp ht in
-      let l = same (techsAt y p + countWidth) (appsAt y p k) (omega arith) ∙ ap (λ (x : ℕ). part t (techsAt y p + countWidth) (appsAt y p x)) e in
-      let years = same countWidth (potsAt y) (omega arith) in
-      (l, (λ j. techFault y (deliveries (years j) y) p (l j)), apps-same y p k hy hp ht ∙ ap (λ (x : ℕ). ofApps t y p x (le countWidth t (appsAt y p x))) e))
+      let k = le countWidth s (techsAt y c p) in
+      let most = techs-most y c p 0 k hy hc hp ht in
+      let l = same (techsAt y c p + countWidth) (appsAt y c p k) (omega arith) ∙ ap (λ (x : ℕ). part t (techsAt y c p + countWidth) (appsAt y c p x)) e in
+      let years = same countWidth (potsAt y) (omega arith) in (
+        l,
+        (λ j. techFault y (deliveries (years j) y) p (l j)),
+        apps-same y c p k hy hc hp ht ∙ ap (λ (x : ℕ). ofApps t y c p x (le countWidth t (appsAt y c p x))) e,
+      ))
 
   pots-same : (y : ℕ) → y ≤ mostYears → ofPots s y (le countWidth s (potsAt y)) ≡ ofPots t y (le countWidth t (potsAt y))
   unfolding ofPots
   pots-same y hy =
       let at : potsAt y < largest = omega arith in
       let e = count (potsAt y) at in
-      section-same s t _ _ _ _ _ _ _ _ _ _ (fault (potsAt y) 1 mostPots at) e
+      section-same potsTold s t _ _ _ _ _ _ _ _ _ _ (fault potsTold (potsAt y) 1 mostPots at) e
       (λ hp.
-      let p = le countWidth s (potsAt y) in
-      let most = pots-most y p 0 0 hy hp (omega arith) in
-      let l = same (potsAt y + countWidth) (techsAt y p) (omega arith) ∙ ap (λ (x : ℕ). part t (potsAt y + countWidth) (techsAt y x)) e in
-      (l, ap (potFault y) l, techs-same y p hy hp ∙ ap (λ (x : ℕ). ofTechs t y x (le countWidth t (techsAt y x))) e))
+      let q = le countWidth s (potsAt y) in
+      let c = capTold q in
+      let p = potsTold q in
+      let hc = cap-most (cap-told q) in
+      let most = pots-most y c p 0 0 hy hc hp (omega arith) in
+      let l = same (potsAt y + countWidth) (techsAt y c p) (omega arith) in
+      (l, ap (potFault y c) l, techs-same y c p hy hc hp))
+      ∙ ap (ofPots t y) e
 
   -- every file that is longer than the largest round is read as its first bytes are, up to one after the end of that round
   pub first-bytes : reading s ≡ reading t
   unfolding ofYears
   first-bytes =
       is-reading s
-      ∙ section-same s t _ _ _ _ _ _ _ _ _ _ (fault 0 1 mostYears (omega arith)) (count 0 (omega arith))
+      ∙ section-same plain s t _ _ _ _ _ _ _ _ _ _ (fault plain 0 1 mostYears (omega arith)) (count 0 (omega arith))
       (λ hy.
       let y = le countWidth s 0 in
       let e = count 0 (omega arith) in
@@ -211,8 +226,9 @@ module _ (s : List ℕ) (h : largest < length s) where
   -- and it is refused
   pub never-accepted : {g : Sections} → reading s ≡ Accepted g → ⊥
   never-accepted e =
+      let R = roundOf s in
       let S = handed-on s e .1 in
       let a = ends-there s (unfold refusal in rw e) in
-      let pots = pots-most (roundOf s .y) (roundOf s .p) 0 (roundOf s .t) (S .years-most) (S .pots-few) (S .techs-few) in
-      let techs = techs-most (roundOf s .y) (roundOf s .p) 0 (roundOf s .t) (S .years-most) (S .pots-few) (S .techs-few) in
+      let pots = pots-most (R .y) (R .c) (R .p) 0 (R .t) (S .years-most) (cap-most (S .cap-told)) (S .pots-few) (S .techs-few) in
+      let techs = techs-most (R .y) (R .c) (R .p) 0 (R .t) (S .years-most) (cap-most (S .cap-told)) (S .pots-few) (S .techs-few) in
       omega (arith, S .years-most, S .apps-few, S .bids-few)

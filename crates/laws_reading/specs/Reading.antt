@@ -1,7 +1,10 @@
 -- What is known of a file that is not turned away: every record satisfies its rule. Assumes nothing.
 use Prim.Native.Nat.{ℕ, zero, suc, _+_, _*_, _%_, _≤_, _<_}
 use mathlib.Core.Path.{_≡_, refl, sym, ap, _∙_}
+use mathlib.Core.Bool.{Bool, true, false}
 use mathlib.Core.List.{List}
+use mathlib.Core.Logic.{_⊎_, inl, inr, ⊎-elim}
+use lib.Dec.{ltb}
 use lib.ListN.{length}
 use Rattle.rules.specs.Bytes.{le}
 use native.Mathlib.Omega.{arith}
@@ -9,9 +12,11 @@ use native.Mathlib.Nat.{not-suc-le-zero}
 use native.Mathlib.Numerals.{add-one}
 use native.Mathlib.Decide.{decLt}
 use Rattle.rules.specs.Names.{mostYears, mostPots, mostTechs, mostApps, mostBids, yearWidth, potWidth, techWidth, appWidth, bidWidth, delivery}
+use Rattle.rules.specs.Names.{capWidth, capsAdded, highestCap, noCap}
 use Rattle.rules.specs.Names.{mostDeliveries, shortYear, longYear, whole, highestBudget, highestPrice, priceStep, largestCapacity, bidsEach, bidsAYear}
-use Rattle.rules.specs.Lists.{given, howMany}
-use Rattle.rules.specs.File.{Round, roundOf, sections, deliveries, yearAt, budgetAt, techAt, appAt, bidAt, potsAt, techsAt, appsAt, bidsAt}
+use Rattle.rules.specs.Lists.{given, pick, howMany}
+use Rattle.rules.specs.File.{Round, roundOf, sections, deliveries, yearAt, potsTold, capTold, budgetAt, capAt, techAt, appAt, bidAt, potsAt, techsAt, appsAt}
+use Rattle.rules.specs.File.{bidsAt}
 use Rattle.rules.specs.Refusals.{refusal, orFault, scan, countFault, recordFault, section, yearFault, potFault, techFault, appFault, sevenOf, eightOf, nineOf}
 use Rattle.rules.specs.Refusals.{bidFault, sameApp?, sameYear?, elevenOf, judged, reading, IsAccepted}
 use Rattle.rules.specs.declared.Reading.{Reading}
@@ -42,13 +47,13 @@ pub record Section (n low high width : ℕ) (recs : List ℕ) (fault : ℕ → �
   pub right : (i : ℕ) → i < n → fault i ≡ 0
   pub rest : refusal r ≡ 0
 
-pub section-right : (s : List ℕ) (at low high width : ℕ) (recs : List ℕ) (fault : ℕ → ℕ) (r : Reading) → refusal (section s at low high width recs fault r) ≡ 0
-    → Section (le 2 s at) low high width recs fault r
+pub section-right : (told : ℕ → ℕ) (s : List ℕ) (at low high width : ℕ) (recs : List ℕ) (fault : ℕ → ℕ) (r : Reading)
+    → refusal (section told s at low high width recs fault r) ≡ 0 → Section (told (le 2 s at)) low high width recs fault r
 unfolding section recordFault countFault
-section-right s at low high width recs fault r e =
+section-right told s at low high width recs fault r e =
     let p = or-passed _ _ _ e in
-    let h = all-passed _ _ _ 0 (le 2 s at) r (p .1) in
-    let g : (i : ℕ) → i < le 2 s at → (i * width + width ≤ length recs) × (fault i ≡ 0) = λ i l.
+    let h = all-passed _ _ _ 0 (told (le 2 s at)) r (p .1) in
+    let g : (i : ℕ) → i < told (le 2 s at) → (i * width + width ≤ length recs) × (fault i ≡ 0) = λ i l.
     let z : 0 + i ≡ i = omega arith in holds _ _ _ (ap (recordFault recs width fault) (sym z) ∙ h .0 i l) (λ q. omega arith) in
     let c = holds _ _ _ (p .0) (λ q. omega arith) in
     let b = holds _ _ _ (c .1) (λ q. omega arith) in
@@ -81,9 +86,13 @@ year-right years i e =
     let h = holds _ _ _ e (λ q. omega arith) .0 in
     record { days-least = h .0; days-most = h .1 .0; kind = h .1 .1 .0; tlm = h .1 .1 .1 .0; first = h .1 .1 .1 .1 .0; next = h .1 .1 .1 .1 .1 }
 
-pub pot-right : (y : ℕ) (pots : List ℕ) (i : ℕ) → potFault y pots i ≡ 0 → (k : ℕ) → k < y → budgetAt y pots i k ≤ highestBudget
+pub record PotRight (y c : ℕ) (pots : List ℕ) (i : ℕ) : Type 0 where
+  pub budget : (k : ℕ) → k < y → budgetAt y c pots i k ≤ highestBudget
+  pub cap : 0 < c → (capAt y c pots i ≡ noCap → ⊥) → capAt y c pots i ≤ highestCap
+
+pub pot-right : (y c : ℕ) (pots : List ℕ) (i : ℕ) → potFault y c pots i ≡ 0 → PotRight y c pots i
 unfolding potFault
-pot-right y pots i e = holds _ _ _ e (λ q. omega arith) .0
+pot-right y c pots i e = let h = holds _ _ _ e (λ q. omega arith) .0 in record { budget = h .0; cap = h .1 }
 
 pub record TechRight (y d p : ℕ) (techs : List ℕ) (i : ℕ) : Type 0 where
   pub pot : techAt y techs i .pot < p
@@ -232,15 +241,35 @@ module _ (years : List ℕ) where
 -- the counts are those of the file
 pub record Counts (s : List ℕ) (R : Round) : Type 0 where
   pub y : R .y ≡ le 2 s 0
-  pub p : R .p ≡ le 2 s (potsAt (R .y))
-  pub t : R .t ≡ le 2 s (techsAt (R .y) (R .p))
-  pub n : R .n ≡ le 2 s (appsAt (R .y) (R .p) (R .t))
-  pub b : R .b ≡ le 2 s (bidsAt (R .y) (R .p) (R .t) (R .n))
+  pub c : R .c ≡ capTold (le 2 s (potsAt (R .y)))
+  pub p : R .p ≡ potsTold (le 2 s (potsAt (R .y)))
+  pub t : R .t ≡ le 2 s (techsAt (R .y) (R .c) (R .p))
+  pub n : R .n ≡ le 2 s (appsAt (R .y) (R .c) (R .p) (R .t))
+  pub b : R .b ≡ le 2 s (bidsAt (R .y) (R .c) (R .p) (R .t) (R .n))
   pub d : R .d ≡ deliveries (R .years) (R .y)
 
 pub counts : (s : List ℕ) → Counts s (roundOf s)
 unfolding roundOf sections
-counts s = record { y = refl; p = refl; t = refl; n = refl; b = refl; d = refl }
+counts s = record { y = refl; c = refl; p = refl; t = refl; n = refl; b = refl; d = refl }
+
+-- a pot's record has a cap or none: so many bytes of it
+abbrev pub CapTold : (c : ℕ) → Type 0
+CapTold c = (c ≡ 0) ⊎ (c ≡ capWidth)
+
+pub cap-told : (count : ℕ) → CapTold (capTold count)
+unfolding capTold
+cap-told n = of (ltb n capsAdded)
+  where
+    of : (b : Bool) → CapTold (pick b 0 capWidth)
+    of true = inl refl
+    of false = inr refl
+
+pub cap-most : {c : ℕ} → CapTold c → c ≤ capWidth
+cap-most h = ⊎-elim (λ e. omega arith) (λ e. omega arith) h
+
+-- a record that has bytes of cap has all of them
+pub whole-cap : {c : ℕ} → CapTold c → (c ≡ 0 → ⊥) → capWidth ≤ c
+whole-cap h z = ⊎-elim (λ e. absurd (z e)) (λ e. omega arith) h
 
 -- What the tables of an accepted file are good for
 pub record Sound (R : Round) : Type 0 where
@@ -254,15 +283,17 @@ pub record Sound (R : Round) : Type 0 where
   pub techs-few : R .t ≤ mostTechs
   pub apps-few : R .n ≤ mostApps
   pub bids-few : R .b ≤ mostBids
+  pub cap-told : CapTold (R .c)
   -- the records end within their parts
   pub years-whole : R .y * yearWidth ≤ length (R .years)
-  pub pots-whole : R .p * potWidth (R .y) ≤ length (R .pots)
+  pub pots-whole : R .p * potWidth (R .y) (R .c) ≤ length (R .pots)
   pub techs-whole : R .t * techWidth (R .y) ≤ length (R .techs)
   pub apps-whole : R .n * appWidth ≤ length (R .apps)
   pub bids-whole : R .b * bidWidth ≤ length (R .bids)
   -- each record is right
   pub year : (i : ℕ) → i < R .y → YearRight (R .years) i
-  pub budget-most : (p k : ℕ) → p < R .p → k < R .y → budgetAt (R .y) (R .pots) p k ≤ highestBudget
+  pub budget-most : (p k : ℕ) → p < R .p → k < R .y → budgetAt (R .y) (R .c) (R .pots) p k ≤ highestBudget
+  pub cap-right : (p : ℕ) → p < R .p → 0 < R .c → (capAt (R .y) (R .c) (R .pots) p ≡ noCap → ⊥) → capAt (R .y) (R .c) (R .pots) p ≤ highestCap
   pub tech : (i : ℕ) → i < R .t → TechRight (R .y) (R .d) (R .p) (R .techs) i
   pub app : (i : ℕ) → i < R .n → AppRight (R .years) (R .d) (R .t) (R .apps) i
   pub bid : (i : ℕ) → i < R .b → BidRight R i
@@ -299,12 +330,13 @@ module _ (R : Round) (S : Sound R) where
 pub sound-of : (R : Round) (s : List ℕ) (r : Reading) → Counts s R → refusal (judged R s r) ≡ 0 → Sound R × (refusal r ≡ 0)
 unfolding judged
 sound-of R s r C e =
-    let Y = section-right _ _ _ _ _ _ _ _ e in
-    let P = section-right _ _ _ _ _ _ _ _ (Y .rest) in
-    let T = section-right _ _ _ _ _ _ _ _ (P .rest) in
-    let N = section-right _ _ _ _ _ _ _ _ (T .rest) in
-    let B = section-right _ _ _ _ _ _ _ _ (N .rest) in
+    let Y = section-right _ _ _ _ _ _ _ _ _ e in
+    let P = section-right _ _ _ _ _ _ _ _ _ (Y .rest) in
+    let T = section-right _ _ _ _ _ _ _ _ _ (P .rest) in
+    let N = section-right _ _ _ _ _ _ _ _ _ (T .rest) in
+    let B = section-right _ _ _ _ _ _ _ _ _ (N .rest) in
     let year : (i : ℕ) → i < R .y → YearRight (R .years) i = λ i l. year-right (R .years) i (Y .right i (omega (arith, C .y))) in
+    let pot : (i : ℕ) → i < R .p → PotRight (R .y) (R .c) (R .pots) i = λ i l. pot-right (R .y) (R .c) (R .pots) i (P .right i (omega (arith, C .p))) in
     let most = deliveries-most (R .years) (R .y) year in
     let last = all-passed _ _ _ _ _ r (or-passed _ _ _ (B .rest) .1) in (
       record {
@@ -317,13 +349,15 @@ sound-of R s r C e =
         techs-few = omega (arith, C .t, T .most);
         apps-few = omega (arith, C .n, N .most);
         bids-few = omega (arith, C .b, B .most);
+        cap-told = rw (C .c) (cap-told (le 2 s (potsAt (R .y))));
         years-whole = all-whole (R .y) yearWidth (R .years) (λ i l. Y .whole i (omega (arith, C .y)));
-        pots-whole = all-whole (R .p) (potWidth (R .y)) (R .pots) (λ i l. P .whole i (omega (arith, C .p)));
+        pots-whole = all-whole (R .p) (potWidth (R .y) (R .c)) (R .pots) (λ i l. P .whole i (omega (arith, C .p)));
         techs-whole = all-whole (R .t) (techWidth (R .y)) (R .techs) (λ i l. T .whole i (omega (arith, C .t)));
         apps-whole = all-whole (R .n) appWidth (R .apps) (λ i l. N .whole i (omega (arith, C .n)));
         bids-whole = all-whole (R .b) bidWidth (R .bids) (λ i l. B .whole i (omega (arith, C .b)));
         year = year;
-        budget-most = λ i k l h. pot-right (R .y) (R .pots) i (P .right i (omega (arith, C .p))) k h;
+        budget-most = λ i k l h. pot i l .budget k h;
+        cap-right = λ i l. pot i l .cap;
         tech = λ i l. tech-right (R .y) (R .d) (R .p) (R .techs) i (T .right i (omega (arith, C .t)));
         app = λ i l. app-right (R .years) (R .d) (R .t) (R .apps) i (N .right i (omega (arith, C .n)));
         bid = λ i l. bid-right R i (B .right i (omega (arith, C .b)));

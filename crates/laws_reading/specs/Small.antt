@@ -6,19 +6,19 @@ use lib.ListN.{length}
 use native.Mathlib.Omega.{arith}
 use native.Mathlib.Nat.{mul-le-mul, mul-le-mul-right}
 use native.Mathlib.Decide.{decLe}
-use Rattle.rules.specs.Names.{mostYears, mostPots, mostTechs, mostApps, mostBids, lowestUneven, countWidth, potWidth, techWidth, bidWidth}
+use Rattle.rules.specs.Names.{mostYears, mostPots, mostTechs, mostApps, mostBids, lowestUneven, countWidth, capWidth, potWidth, techWidth, bidWidth}
 use Rattle.rules.specs.Lists.{given}
 use Rattle.rules.specs.Bytes.{le}
-use Rattle.rules.specs.File.{Round, roundOf, sectionsOf, bidsAt, endAt}
+use Rattle.rules.specs.File.{Round, roundOf, sectionsOf, potsAt, bidsAt, endAt}
 use Rattle.rules.specs.Refusals.{refusal, place, orElse, orFault, scan, countFault, recordFault, section, yearFault, potFault, techFault, appFault, sevenOf}
 use Rattle.rules.specs.Refusals.{eightOf, nineOf, bidFault, elevenOf, judged, reading}
 use Rattle.rules.specs.declared.Reading.{Reading}
 use Rattle.rules.specs.declared.Reading.the-variants.{Accepted}
-use Rattle.laws_reading.specs.Reading.{holds, Counts, counts}
+use Rattle.laws_reading.specs.Reading.{holds, Counts, counts, cap-told, cap-most}
 
 -- the end of the largest round
 abbrev pub largest : ℕ
-largest = endAt mostYears mostPots mostTechs mostApps mostBids
+largest = endAt mostYears capWidth mostPots mostTechs mostApps mostBids
 
 -- a refusal that is not large, or none
 pub record Small (r : Reading) : Type 0 where
@@ -49,23 +49,23 @@ record-small : (recs : List ℕ) (w : ℕ) (f : ℕ → ℕ) → ((j : ℕ) → 
 unfolding recordFault
 record-small recs w f h j = given-most _ _ _ _ (h j) (omega arith)
 
-section-small : (s : List ℕ) (at low high w : ℕ) (recs : List ℕ) (f : ℕ → ℕ) (r : Reading) → ((j : ℕ) → f j ≤ lowestUneven)
-    → at ≤ largest → at + countWidth + high * w ≤ largest + w → (le countWidth s at ≤ high → Small r) → Small (section s at low high w recs f r)
+section-small : (told : ℕ → ℕ) (s : List ℕ) (at low high w : ℕ) (recs : List ℕ) (f : ℕ → ℕ) (r : Reading) → ((j : ℕ) → f j ≤ lowestUneven)
+    → at ≤ largest → at + countWidth + high * w ≤ largest + w → (told (le countWidth s at) ≤ high → Small r) → Small (section told s at low high w recs f r)
 unfolding section countFault
-section-small s at low high w recs f r h a l k =
-    or-small (countFault s at low high) at _ (given-most _ _ _ _ (given-most _ _ _ _ (omega arith) (omega arith)) (omega arith)) (λ p. a)
+section-small told s at low high w recs f r h a l k =
+    or-small (countFault told s at low high) at _ (given-most _ _ _ _ (given-most _ _ _ _ (omega arith) (omega arith)) (omega arith)) (λ p. a)
     (λ e.
     let q = holds _ _ _ (holds _ _ _ e (λ z. omega arith) .1) (λ z. omega arith) .0 .1 in
-    let m : (0 + le countWidth s at) * w ≤ high * w = mul-le-mul-right w (omega arith) in
-    scan-small (recordFault recs w f) w (at + countWidth) 0 (le countWidth s at) r (record-small recs w f h) (omega arith) (k q))
+    let m : (0 + told (le countWidth s at)) * w ≤ high * w = mul-le-mul-right w (omega arith) in
+    scan-small (recordFault recs w f) w (at + countWidth) 0 (told (le countWidth s at)) r (record-small recs w f h) (omega arith) (k q))
 
 year-small : (years : List ℕ) (i : ℕ) → yearFault years i ≤ lowestUneven
 unfolding yearFault
 year-small years i = given-most _ _ _ _ (omega arith) (omega arith)
 
-pot-small : (y : ℕ) (pots : List ℕ) (i : ℕ) → potFault y pots i ≤ lowestUneven
+pot-small : (y c : ℕ) (pots : List ℕ) (i : ℕ) → potFault y c pots i ≤ lowestUneven
 unfolding potFault
-pot-small y pots i = given-most _ _ _ _ (omega arith) (omega arith)
+pot-small y c pots i = given-most _ _ _ _ (omega arith) (omega arith)
 
 tech-small : (y d p : ℕ) (techs : List ℕ) (i : ℕ) → techFault y d p techs i ≤ lowestUneven
 unfolding techFault
@@ -91,11 +91,14 @@ unfolding elevenOf
 uneven-small R i = given-most _ _ _ _ (omega arith) (omega arith)
 
 module _ (R : Round) (s : List ℕ) (C : Counts s R) (r : Reading) (S : Small r) where
+  cap-few : R .c ≤ capWidth
+  cap-few = rw (C .c) (cap-most (cap-told (le 2 s (potsAt (R .y)))))
+
   module _ (y : R .y ≤ mostYears) where
     module _ (p : R .p ≤ mostPots) where
       -- where the pots end
-      pots-end : R .p * potWidth (R .y) ≤ 256
-      pots-end = let w : potWidth (R .y) ≤ 64 = omega arith in mul-le-mul p w
+      pots-end : R .p * potWidth (R .y) (R .c) ≤ 272
+      pots-end = let w : potWidth (R .y) (R .c) ≤ 68 = omega (arith, cap-few) in mul-le-mul p w
 
       module _ (t : R .t ≤ mostTechs) where
         -- where the technologies end
@@ -103,8 +106,8 @@ module _ (R : Round) (s : List ℕ) (C : Counts s R) (r : Reading) (S : Small r)
         techs-end = let w : techWidth (R .y) ≤ 84 = omega arith in mul-le-mul t w
 
         last-small : R .n ≤ mostApps → R .b ≤ mostBids
-            → let at = bidsAt (R .y) (R .p) (R .t) (R .n) in
-            let end = endAt (R .y) (R .p) (R .t) (R .n) (R .b) in
+            → let at = bidsAt (R .y) (R .c) (R .p) (R .t) (R .n) in
+            let end = endAt (R .y) (R .c) (R .p) (R .t) (R .n) (R .b) in
             Small (orElse (given (decLe (length s) end) 0 10) end (scan (elevenOf R) bidWidth (at + countWidth) 0 (R .b) r))
         last-small n b =
             or-small _ _ _ (given-most _ _ _ _ (omega arith) (omega arith)) (λ z. omega (arith, pots-end, techs-end))
@@ -113,19 +116,19 @@ module _ (R : Round) (s : List ℕ) (C : Counts s R) (r : Reading) (S : Small r)
   judged-small : Small (judged R s r)
   unfolding judged
   judged-small =
-      section-small s _ _ _ _ _ _ _ (year-small (R .years)) (omega arith) (omega arith) (λ y′.
+      section-small _ s _ _ _ _ _ _ _ (year-small (R .years)) (omega arith) (omega arith) (λ y′.
       let y : R .y ≤ mostYears = omega (arith, C .y) in
-      section-small s _ _ _ _ _ _ _ (pot-small (R .y) (R .pots)) (omega arith) (omega arith) (λ p′.
+      section-small _ s _ _ _ _ _ _ _ (pot-small (R .y) (R .c) (R .pots)) (omega arith) (omega (arith, cap-few)) (λ p′.
       let p : R .p ≤ mostPots = omega (arith, C .p) in
-      section-small s _ _ _ _ _ _ _ (tech-small (R .y) (R .d) (R .p) (R .techs)) (omega (arith, pots-end y p)) (omega (arith, pots-end y p)) (λ t′.
+      section-small _ s _ _ _ _ _ _ _ (tech-small (R .y) (R .d) (R .p) (R .techs)) (omega (arith, pots-end y p)) (omega (arith, pots-end y p)) (λ t′.
       let t : R .t ≤ mostTechs = omega (arith, C .t) in
-      section-small s _ _ _ _ _ _ _ (app-small (R .years) (R .d) (R .t) (R .apps)) (omega (arith, pots-end y p, techs-end y p t))
+      section-small _ s _ _ _ _ _ _ _ (app-small (R .years) (R .d) (R .t) (R .apps)) (omega (arith, pots-end y p, techs-end y p t))
       (omega (arith, pots-end y p, techs-end y p t)) (λ n′.
       let n : R .n ≤ mostApps = omega (arith, C .n) in
-      section-small s _ _ _ _ _ _ _ (bid-small R) (omega (arith, pots-end y p, techs-end y p t)) (omega (arith, pots-end y p, techs-end y p t)) (λ b′.
+      section-small _ s _ _ _ _ _ _ _ (bid-small R) (omega (arith, pots-end y p, techs-end y p t)) (omega (arith, pots-end y p, techs-end y p t)) (λ b′.
       last-small y p t n (omega (arith, C .b)))))))
 
--- a refusal's number is at most 11, and its offset at most 7,866
+-- a refusal's number is at most 11, and its offset at most 7,882
 pub reading-small : (s : List ℕ) → Small (reading s)
 unfolding reading
 reading-small s =

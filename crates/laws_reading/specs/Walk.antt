@@ -61,12 +61,13 @@ scan-then f w base i (suc k) q r e =
     or-then (f i) (base + i * w) (scan f w base (i + 1) k q) (scan f w base (i + 1) k r) e
     ∙ scan-then f w base (i + 1) k q r (or-passed (f i) (base + i * w) (scan f w base (i + 1) k q) e .1)
 
-pub section-then : (s : List ℕ) (at low high w : ℕ) (recs : List ℕ) (f : ℕ → ℕ) (q r : Reading) → refusal (section s at low high w recs f q) ≡ 0
-    → section s at low high w recs f r ≡ r
+pub section-then : (told : ℕ → ℕ) (s : List ℕ) (at low high w : ℕ) (recs : List ℕ) (f : ℕ → ℕ) (q r : Reading)
+    → refusal (section told s at low high w recs f q) ≡ 0 → section told s at low high w recs f r ≡ r
 unfolding section
-section-then s at low high w recs f q r e =
-    or-then _ at (scan (recordFault recs w f) w (at + 2) 0 (le 2 s at) q) (scan (recordFault recs w f) w (at + 2) 0 (le 2 s at) r) e
-    ∙ scan-then (recordFault recs w f) w (at + 2) 0 (le 2 s at) q r (or-passed _ at (scan (recordFault recs w f) w (at + 2) 0 (le 2 s at) q) e .1)
+section-then told s at low high w recs f q r e =
+    let n = told (le 2 s at) in
+    or-then _ at (scan (recordFault recs w f) w (at + 2) 0 n q) (scan (recordFault recs w f) w (at + 2) 0 n r) e
+    ∙ scan-then (recordFault recs w f) w (at + 2) 0 n q r (or-passed _ at (scan (recordFault recs w f) w (at + 2) 0 n q) e .1)
 
 -- ---- and one that is refused is the whole answer
 

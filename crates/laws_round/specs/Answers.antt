@@ -28,16 +28,16 @@ use Rattle.laws_round.specs.Read.{needed-is}
 judged-through : (R : Round) (s : List ℕ) (q : Reading) → refusal (judged R s q) ≡ 0 → judged R s q ≡ q
 unfolding judged
 judged-through R s q e =
-    let Y = section-right _ _ _ _ _ _ _ _ e .rest in
-    let P = section-right _ _ _ _ _ _ _ _ Y .rest in
-    let T = section-right _ _ _ _ _ _ _ _ P .rest in
-    let N = section-right _ _ _ _ _ _ _ _ T .rest in
-    let B = section-right _ _ _ _ _ _ _ _ N .rest in
-    section-then _ _ _ _ _ _ _ _ _ e
-    ∙ section-then _ _ _ _ _ _ _ _ _ Y
-    ∙ section-then _ _ _ _ _ _ _ _ _ P
-    ∙ section-then _ _ _ _ _ _ _ _ _ T
-    ∙ section-then _ _ _ _ _ _ _ _ _ N
+    let Y = section-right _ _ _ _ _ _ _ _ _ e .rest in
+    let P = section-right _ _ _ _ _ _ _ _ _ Y .rest in
+    let T = section-right _ _ _ _ _ _ _ _ _ P .rest in
+    let N = section-right _ _ _ _ _ _ _ _ _ T .rest in
+    let B = section-right _ _ _ _ _ _ _ _ _ N .rest in
+    section-then _ _ _ _ _ _ _ _ _ _ e
+    ∙ section-then _ _ _ _ _ _ _ _ _ _ Y
+    ∙ section-then _ _ _ _ _ _ _ _ _ _ P
+    ∙ section-then _ _ _ _ _ _ _ _ _ _ T
+    ∙ section-then _ _ _ _ _ _ _ _ _ _ N
     ∙ or-then _ _ _ _ B
     ∙ scan-then _ _ _ _ _ q q (or-passed _ _ _ B .1)
 

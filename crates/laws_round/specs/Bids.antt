@@ -12,7 +12,7 @@ use Rattle.rules.specs.Lists.{pick, memb, below}
 use Rattle.rules.specs.Value.{exactParts, penny}
 use Rattle.rules.specs.File.{Round, Bid, budgetAt, appAt, bidAt}
 use Rattle.rules.specs.Pot.{silent}
-use Rattle.rules.specs.Round.{Row, blank, techOf, costOf, atAdminPrice, mine, appMine, rowFor, assemble, potOf}
+use Rattle.rules.specs.Round.{Row, blank, techOf, costOf, atAdminPrice, mine, appMine, rowFor, assemble, capOf, potOf}
 use Rattle.laws_pot.specs.Lists.{case, and-true, In, memb-in, in-memb, in-map, map-in, in-below, sift-in, in-sift}
 use Rattle.laws_reading.specs.Reading.{Sound, app-year, bid-app, bid-year}
 use Rattle.laws_reading.specs.Reading as r
@@ -115,9 +115,13 @@ module _ (R : Round) (p : ℕ) where
   unfolding potOf assemble
   years-is = refl
 
-  pub budget-is : (y : ℕ) → y < R .y → potOf R p .budget y ≡ pencePerPound * budgetAt (R .y) (R .pots) p y
+  pub budget-is : (y : ℕ) → y < R .y → potOf R p .budget y ≡ pencePerPound * budgetAt (R .y) (R .c) (R .pots) p y
   unfolding potOf assemble
   budget-is y h = rw (lt-ltb y (R .y) h)
+
+  pub cap-is : potOf R p .cap ≡ capOf R p
+  unfolding potOf assemble
+  cap-is = refl
 
   module _ (k : ℕ) (t : mine R p k ≡ true) where
     pub app-is : potOf R p .app k ≡ bidAt (R .bids) k .app
@@ -140,6 +144,10 @@ module _ (R : Round) (p : ℕ) where
     unfolding potOf assemble
     admin-is = rw t
 
+    pub capacity-is : potOf R p .capacity k ≡ bidAt (R .bids) k .capacity
+    unfolding potOf assemble rowFor
+    capacity-is = ap (λ (b : Bool). pick b (rowFor R (bidAt (R .bids) k)) blank .bid .capacity) t
+
     pub cost-is : (q y : ℕ) → potOf R p .cost k q y ≡ costOf (R .years) (rowFor R (bidAt (R .bids) k)) q y
     unfolding potOf assemble
     cost-is q y = rw t
@@ -149,6 +157,10 @@ module _ (R : Round) (p : ℕ) where
     pub admin-price-is : potOf R p .adminPrice a ≡ techOf R (appAt (R .apps) a) .admin (appAt (R .apps) a .year)
     unfolding potOf assemble rowFor atAdminPrice
     admin-price-is = ap (λ (b : Bool). pick b (rowFor R (atAdminPrice R a)) blank .admin) t
+
+    pub app-capacity-is : potOf R p .appCapacity a ≡ appAt (R .apps) a .capacity
+    unfolding potOf assemble rowFor atAdminPrice
+    app-capacity-is = ap (λ (b : Bool). pick b (rowFor R (atAdminPrice R a)) blank .bid .capacity) t
 
   -- "an application without a sealed bid": no bid of the file is its own
   pub silent-none : (a : ℕ) → ((k : ℕ) → k < R .b → bidAt (R .bids) k .app ≡ a → ⊥) → silent (potOf R p) a ≡ true

@@ -13,9 +13,9 @@ use Rattle.rules.specs.Pot.{Pot, winners, auction, adminTotal, adminFits, price
 use Rattle.rules.specs.Round.{techOf, mine, appMine, rowFor, potOf}
 use Rattle.rules.specs.Result.{potFor, told, toldIn, appTold}
 use Rattle.rules.specs.declared.Told.{Told}
-use Rattle.laws_pot.specs.Lists.{In, here, sift-in}
+use Rattle.laws_pot.specs.Lists.{and-true, In, here, sift-in}
 use Rattle.laws_reading.specs.Reading.{Sound, admin-most, app-tech, app-year, bid-app, bid-year, bid-price}
-use Rattle.laws_pot.specs.Money.{within-true}
+use Rattle.laws_pot.specs.Money.{within-true, fits-true}
 use Rattle.laws_pot.specs.Mono.{price-below}
 use Rattle.laws_pot.specs.Runs.{inv-end}
 use Rattle.laws_round.specs.Bids.{appPot, mine-in, app-mine, mine-is, bids-in, years-is, budget-is, price-is, admin-is, admin-price-is, lawful}
@@ -52,9 +52,9 @@ module _ (R : Round) (S : Sound R) where
     totalIn-most y l h =
         let B = S .budget-most p y l h in
         by-all P (λ (n : ℕ). n ≤ pencePerPound * highestBudget) _ _ _
-        (λ t. omega (arith, budget-is R p y h, within-true P (adminTotal P) (P .years) t y (rw (years-is R p) h)))
+        (λ t. omega (arith, budget-is R p y h, within-true P (adminTotal P) (P .years) (and-true _ _ t .0) y (rw (years-is R p) h)))
         (λ t u. omega
-        (arith, budget-is R p y h, within-true P (total P (winners (auction P))) (P .years) (inv-end P (lawful R p S) .fit) y (rw (years-is R p) h)))
+        (arith, budget-is R p y h, fits-true P (winners (auction P)) (inv-end P (lawful R p S) .fit) .budget y (rw (years-is R p) h)))
         (omega arith)
 
   -- what is told of an application

@@ -10,7 +10,7 @@ use borrow.Author.Tests.{eqb-true, eqb-false, eq-eqb}
 use Rattle.rules.specs.Lists.{pick, memb, sift, below, sum}
 use Rattle.rules.specs.Value.{exactParts}
 use Rattle.rules.specs.File.{Round, yearAt, bidAt}
-use Rattle.rules.specs.Pot.{Pot, winners, auction, totalIn, paid, clearing, tally, exact, total, counted, automaticReason, winnersOf}
+use Rattle.rules.specs.Pot.{Pot, winners, auction, totalIn, paid, clearing, tally, exact, total, counted, summedCapacity, automaticReason, winnersOf}
 use Rattle.rules.specs.Round.{mine, rowFor, energyOf, costOf, potOf}
 use Rattle.rules.specs.Result.{told, toldIn, appTold}
 use Rattle.rules.specs.declared.Told.{Told}
@@ -18,10 +18,10 @@ use Rattle.laws_pot.specs.Lists.{case, and-true, In, here, there, memb-in, in-m
 use Rattle.laws_reading.specs.Reading.{Sound}
 use Rattle.laws_pot.specs.Runs.{won-seen}
 use Rattle.laws_pot.specs.Once.{NoneTwice, often, often-sift, seen-mine, single}
-use Rattle.laws_round.specs.Bids.{appPot, Mine, mine-is, bids-in, bids-once, app-is, admin-is, cost-is, differ, lawful}
+use Rattle.laws_round.specs.Bids.{appPot, Mine, mine-is, bids-in, bids-once, app-is, admin-is, capacity-is, cost-is, differ, lawful}
 use Rattle.laws_pot.specs.Reasons.{Auctioned, by-auction}
 use Rattle.laws_pot.specs.Sums.{sum-same, sum-ones, sum-sift, sum-parts}
-use Rattle.laws_round.specs.Third.{wonApps, costTold, exactTold}
+use Rattle.laws_round.specs.Third.{wonApps, costTold, capacityTold, exactTold, summedTold}
 
 -- a list of numbers that are all equal, none twice, is empty or one number
 pub data Short : List ℕ → Type 0 where
@@ -144,6 +144,12 @@ module _ (R : Round) (p : ℕ) (S : Sound R) where
     exact-told y =
         carried (costTold R p (appTold R) y) (λ w. P .cost w (clearing P (winners (auction P)) (P .yr w)) y) (λ a w m b q. rw (b, q) (capped w m y))
         ∙ tally-is P (P .cost) (λ b. memb b (winners (auction P))) (clearing P (winners (auction P))) y (P .bids)
+
+    pub capacity-told : summedTold R p (appTold R) ≡ summedCapacity P (winners (auction P))
+    unfolding capacityTold
+    capacity-told =
+        carried (capacityTold R p (appTold R)) (P .capacity) (λ a w m b q. rw b (sym (capacity-is R p w m)))
+        ∙ tally-is P (λ b p y. P .capacity b) (λ b. memb b (winners (auction P))) (clearing P (winners (auction P))) 0 (P .bids)
 
     pub length-told : length (wonApps R p (appTold R)) ≡ counted P (winners (auction P))
     length-told = sym (sum-ones (wonApps R p (appTold R))) ∙ carried (λ a. 1) (λ w. 1) (λ a w m b q. refl) ∙ sum-ones won

@@ -18,7 +18,7 @@ use Rattle.laws_reading.specs.Reading.{Sound, counts}
 use Rattle.laws_round.specs.Bids.{appPot, bidPot, mine-in, bids-in}
 use Rattle.laws_pot.specs.Reasons.{auctioned-is}
 use Rattle.laws_pot.specs.Sums.{sum-same}
-use Rattle.laws_round.specs.Third.{wonApps, costTold, exactTold, Third}
+use Rattle.laws_round.specs.Third.{wonApps, costTold, capacityTold, exactTold, summedTold, Third}
 use Rattle.laws_round.specs.Met.{third}
 use Rattle.laws_round.specs.Read.{outcomeAt, priceAt, totalAt, toldAt, reasonAt, Carries, carries}
 use Rattle.laws_round.specs.Apart.{DifferElsewhere, apart}
@@ -38,6 +38,14 @@ module _ (R : Round) (p : ℕ) (T U : ℕ → Told) (e : (a : ℕ) → a < R .n 
       (e a (below-in a (R .n) (sift-in a (λ a. eqb (appPot R a) p && eqb (T a .won) 1) (below (R .n)) i .0))))
       ∙ ap (sum (costTold R p U y)) won-same
 
+  capacity-same : summedTold R p T ≡ summedTold R p U
+  unfolding capacityTold wonApps
+  capacity-same =
+      sum-same _ _ (wonApps R p T)
+      (λ a i. ap (λ (x : Told). bidAt (R .bids) (x .bid) .capacity)
+      (e a (below-in a (R .n) (sift-in a (λ a. eqb (appPot R a) p && eqb (T a .won) 1) (below (R .n)) i .0))))
+      ∙ ap (sum (capacityTold R p U)) won-same
+
   bid-same : (a : ℕ) → a < R .n → T a .bid ≡ U a .bid
   bid-same a h = ap (λ (x : Told). x .bid) (e a h)
 
@@ -51,9 +59,12 @@ module _ (R : Round) (p : ℕ) (T U : ℕ → Told) (e : (a : ℕ) → a < R .n 
     affordable = λ y h. rw (cost-same y) (D .affordable y h);
     not-below = λ y h. rw (cost-same y, f y h) (D .not-below y h);
     not-above = λ y h. rw (cost-same y, f y h, won-same) (D .not-above y h);
+    within-cap = λ limit c. rw capacity-same (D .within-cap limit c);
     turned-down = λ k i t. D .turned-down k i (rw (g k i) at t);
     in-parts = D .in-parts;
     in-pence = D .in-pence;
+    of-file = D .of-file;
+    of-bid = D .of-bid;
     unlooked = λ k i t.
         ⊎-elim (λ w. inl (rw won-same w)) (λ c. inr (c .0, c .1, rw (g (c .0) (c .1)) (c .2), c .3, c .4))
         (D .unlooked k i (rw (g k i) at t));

@@ -1,23 +1,24 @@
 -- The first test, over the bytes of the file and of the result: which applications it counts, and at what. Assumes nothing.
 use Prim.Native.Nat.{ℕ, _*_, _≤_, _<_}
 use mathlib.Core.Path.{_≡_, refl, sym, ap, _∙_}
-use mathlib.Core.Bool.{Bool, true}
-use mathlib.Core.Logic.{_↔_}
+use mathlib.Core.Bool.{Bool, true, false}
+use mathlib.Core.Option.{some}
+use mathlib.Core.Logic.{_↔_, ⊎-elim}
 use mathlib.Core.List.{List}
 use native.Mathlib.Omega.{arith}
 use lib.Dec.{eqb}
 use Rattle.rules.specs.Names.{administrative, pencePerPound}
 use Rattle.rules.specs.Lists.{pick, sift, below, sum}
 use Rattle.rules.specs.Value.{ceilDiv, penny}
-use Rattle.rules.specs.File.{Round, roundOf, budgetAt}
-use Rattle.rules.specs.Pot.{Pot, adminTotal, adminFits, outcome}
-use Rattle.rules.specs.Round.{blank, costOf, atAdminPrice, appMine, rowFor, assemble, potOf}
+use Rattle.rules.specs.File.{Round, roundOf, budgetAt, appAt}
+use Rattle.rules.specs.Pot.{Pot, atMost, within, adminTotal, adminCapacity, adminFits, outcome}
+use Rattle.rules.specs.Round.{blank, costOf, atAdminPrice, appMine, rowFor, assemble, capOf, potOf}
 use Rattle.rules.specs.Result.{refusedAs, clearOf}
-use Rattle.laws_pot.specs.Lists.{case, In, sift-same, below-in}
-use Rattle.laws_pot.specs.Money.{within-true, within-false}
+use Rattle.laws_pot.specs.Lists.{case, and-true, and-false, In, sift-same, below-in}
+use Rattle.laws_pot.specs.Money.{within-true, within-false, at-most, not-at-most}
 use Rattle.laws_pot.specs.Sums.{sum-same}
 use Rattle.laws_pot.specs.Reasons.{administrative-is}
-use Rattle.laws_round.specs.Bids.{appPot, app-mine, apps-in, years-is, budget-is}
+use Rattle.laws_round.specs.Bids.{appPot, app-mine, apps-in, years-is, budget-is, cap-is, app-capacity-is}
 use Rattle.laws_round.specs.Read.{outcomeAt, Carries}
 use Rattle.laws_round.specs.Demanded.{carried}
 
@@ -26,45 +27,67 @@ module _ (R : Round) where
   unfoldable pub adminValue : (y a : ℕ) → ℕ
   adminValue y a = let own = atAdminPrice R a in ceilDiv (costOf (R .years) (rowFor R own) (own .price) y) penny
 
-  -- "all a pot's applications, at their administrative prices"
-  unfoldable pub firstTotal : (p y : ℕ) → ℕ
-  firstTotal p y = sum (adminValue y) (sift (λ a. eqb (appPot R a) p) (below (R .n)))
+  -- "all a pot's applications, at their administrative prices", and their capacity
+  abbrev ofPot : (p : ℕ) → List ℕ
+  ofPot p = sift (λ a. eqb (appPot R a) p) (below (R .n))
 
-  -- ".. fit its budget in every year"
-  abbrev pub FitsFirst : (p : ℕ) → Type 0
-  FitsFirst p = (y : ℕ) → y < R .y → firstTotal p y ≤ pencePerPound * budgetAt (R .y) (R .pots) p y
+  unfoldable pub firstTotal : (p y : ℕ) → ℕ
+  firstTotal p y = sum (adminValue y) (ofPot p)
+
+  unfoldable pub firstCapacity : (p : ℕ) → ℕ
+  firstCapacity p = sum (λ a. appAt (R .apps) a .capacity) (ofPot p)
+
+  -- ".. fit its budget in every year"; "The first test .. also check the cap" (02, CR 5)
+  pub record FitsFirst (p : ℕ) : Type 0 where
+    pub budget : (y : ℕ) → y < R .y → firstTotal p y ≤ pencePerPound * budgetAt (R .y) (R .c) (R .pots) p y
+    pub cap : (limit : ℕ) → capOf R p ≡ some limit → firstCapacity p ≤ limit
 
   module _ (p : ℕ) where
+    abbrev P : Pot
+    P = potOf R p
+
     -- what the pot reads of an application of its own
     one : (y a : ℕ) → appMine R p a ≡ true → ceilDiv (potOf R p .adminCost a y) (potOf R p .scale) ≡ adminValue y a
     unfolding potOf assemble adminValue rowFor atAdminPrice
     one y a t = rw t
 
-    total-is : (y : ℕ) → adminTotal (potOf R p) y ≡ firstTotal p y
+    listed : P .apps ≡ ofPot p
+    unfolding potOf assemble
+    listed = sift-same _ _ (below (R .n)) (λ a i. app-mine R p a (below-in a (R .n) i))
+
+    total-is : (y : ℕ) → adminTotal P y ≡ firstTotal p y
     unfolding adminTotal firstTotal
-    total-is y =
-        sum-same _ _ (potOf R p .apps) (λ a i. one y a (mine a i)) ∙ ap (sum (adminValue y)) (listed ∙ same)
-      where
-        listed : potOf R p .apps ≡ sift (appMine R p) (below (R .n))
-        listed = unfold potOf assemble in refl
+    total-is y = sum-same _ _ (P .apps) (λ a i. one y a (apps-in R p a i)) ∙ ap (sum (adminValue y)) listed
 
-        mine : (a : ℕ) → In a (potOf R p .apps) → appMine R p a ≡ true
-        mine a i = apps-in R p a i
+    capacity-is : adminCapacity P ≡ firstCapacity p
+    unfolding adminCapacity firstCapacity
+    capacity-is = sum-same _ _ (P .apps) (λ a i. app-capacity-is R p a (apps-in R p a i)) ∙ ap (sum (λ a. appAt (R .apps) a .capacity)) listed
 
-        same : sift (appMine R p) (below (R .n)) ≡ sift (λ a. eqb (appPot R a) p) (below (R .n))
-        same = sift-same _ _ (below (R .n)) (λ a i. app-mine R p a (below-in a (R .n) i))
-
-    fits-is : (adminFits (potOf R p) ≡ true) ↔ FitsFirst p
+    fits-first : adminFits P ≡ true → FitsFirst p
     unfolding adminFits
-    fits-is = (
-      λ t y h. rw (sym (total-is y), sym (budget-is R p y h)) (within-true (potOf R p) (adminTotal (potOf R p)) (potOf R p .years) t y (rw (years-is R p) h)),
-      λ f. case (adminFits (potOf R p)) (λ t. t) (λ t.
-          let z = within-false (potOf R p) (adminTotal (potOf R p)) (potOf R p .years) t in
-          let h : z .0 < R .y = omega (arith, z .1, years-is R p) in
-          absurd (omega (arith, f (z .0) h, z .2, total-is (z .0), budget-is R p (z .0) h))),
-    )
+    fits-first t =
+        let a = and-true (within P (adminTotal P) (P .years)) _ t in
+        record {
+          budget = λ y h. rw (sym (total-is y), sym (budget-is R p y h)) (within-true P (adminTotal P) (P .years) (a .0) y (rw (years-is R p) h));
+          cap = λ limit e. rw (sym capacity-is) (at-most (P .cap) (adminCapacity P) limit (a .1) (cap-is R p ∙ e));
+        }
 
--- "If all a pot's applications, at their administrative prices, fit its budget in every year, all win at those prices (outcome 0) .. Otherwise outcome 1", or 2
+    fails-first : adminFits P ≡ false → FitsFirst p → ⊥
+    unfolding adminFits
+    fails-first t F =
+        ⊎-elim
+        (λ f.
+        let z = within-false P (adminTotal P) (P .years) f in
+        let h : z .0 < R .y = omega (arith, z .1, years-is R p) in
+        omega (arith, F .budget (z .0) h, z .2, total-is (z .0), budget-is R p (z .0) h))
+        (λ f. let z = not-at-most (P .cap) (adminCapacity P) f in omega (arith, F .cap (z .0) (sym (cap-is R p) ∙ z .1), z .2, capacity-is))
+        (and-false (within P (adminTotal P) (P .years)) _ t)
+
+    fits-is : (adminFits P ≡ true) ↔ FitsFirst p
+    fits-is = (fits-first, λ F. case (adminFits P) (λ t. t) (λ t. absurd (fails-first t F)))
+
+-- "If all a pot's applications, at their administrative prices, fit its budget in every year, all win at those prices (outcome 0) .. Otherwise outcome 1", or
+-- 2; "The first test .. also check the cap" (02, CR 5)
 pub first-test : (file lent : List ℕ) → refusedAs (clearOf file lent .answer) ≡ 0
     → let R = roundOf file in
     let s = clearOf file lent .exit in

@@ -14,10 +14,10 @@ use Rattle.laws_reading.specs.Reading.{Sound}
 use Rattle.laws_pot.specs.Runs.{won-seen, down-seen}
 use Rattle.laws_pot.specs.Demand as d
 use Rattle.laws_pot.specs.Once.{seen-mine, not-both, downs-once}
-use Rattle.laws_round.specs.Bids.{penny-is, years-is, budget-is, bids-in, bids-once, app-is, yr-is, price-is, lawful}
+use Rattle.laws_round.specs.Bids.{penny-is, years-is, budget-is, cap-is, capacity-is, bids-in, bids-once, app-is, yr-is, price-is, lawful}
 use Rattle.laws_pot.specs.Reasons.{TurnedDown, Auctioned, Why, wins, falls, rests, fate, won-so, fell, rested, reason-why}
 use Rattle.laws_round.specs.Third.{Third}
-use Rattle.laws_round.specs.Carried.{bid-mine, won-in, won-told, bid-told, winner-of, exact-told, length-told, total-told}
+use Rattle.laws_round.specs.Carried.{bid-mine, won-in, won-told, bid-told, winner-of, exact-told, capacity-told, length-told, total-told}
 
 at-scale : (b : ℕ) {a s t : ℕ} → s ≡ t → a ≤ b * s → a ≤ b * t
 at-scale b q h = rw (sym q) h
@@ -62,9 +62,12 @@ module _ (R : Round) (p : ℕ) (S : Sound R) (A : Auctioned (potOf R p)) where
     affordable = λ y h. rw (exact-told R p S A y) (in-pounds _ (budget-is R p y h) (penny-is R p) (demand .affordable y (rw (years-is R p) h)));
     not-below = λ y l. rw (exact-told R p S A y, total-told R p S A y) (at-scale _ (penny-is R p) (demand .not-below y));
     not-above = λ y l. rw (exact-told R p S A y, total-told R p S A y, length-told R p S A) (both-scales _ _ _ (penny-is R p) (demand .not-above y));
+    within-cap = λ limit e. rw (capacity-told R p S A) (demand .within-cap limit (cap-is R p ∙ e));
     turned-down = λ k i t. demand .turned-down k (fell P k (reason P k) (reason-why P A k) t);
     in-parts = penny-is R p;
     in-pence = budget-is R p;
+    of-file = cap-is R p;
+    of-bid = λ k i. capacity-is R p k (bids-in R p k i);
     unlooked = λ k i t.
         let n = bids-in R p k i in
         ⊎-elim

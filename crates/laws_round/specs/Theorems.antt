@@ -36,7 +36,7 @@ use Rattle.laws_round.specs.Silent.{Unheard, SilentTold}
 abbrev pub IsCleared : (file lent : List ℕ) → Type 0
 IsCleared file lent = refusedAs (clearOf file lent .answer) ≡ 0
 
--- Demand 3, of each pot that an auction cleared (outcome 1), as the result's own bytes tell it: the five sentences are the fields of `Third`
+-- Demand 3, of each pot that an auction cleared (outcome 1), as the result's own bytes tell it: its sentences are the fields of `Third`
 pub third-demand : (file lent : List ℕ) → IsCleared file lent
     → let R = roundOf file in
     let s = clearOf file lent .exit in
@@ -48,7 +48,7 @@ pub auction-bids : (R : Round) (p k : ℕ) → In k (potOf R p .bids) ↔ ((k < 
 auction-bids R p k = (λ i. mine-in R p k (bids-in R p k i), λ z. in-bids R p k (mine-own R p k (z .0) ∙ eq-eqb _ p (z .1)))
 
 -- "If all a pot's applications, at their administrative prices, fit its budget in every year, all win at those prices (outcome 0)", and only then; "The first
--- test counts it as before" (02, CR 8): an application without a sealed bid is one of them
+-- test counts it as before" (02, CR 8): an application without a sealed bid is one of them; it "also check[s] the cap" (02, CR 5)
 pub first-test : (file lent : List ℕ) → IsCleared file lent
     → let R = roundOf file in
     let s = clearOf file lent .exit in
@@ -70,7 +70,7 @@ pub heard-told : (file lent : List ℕ) → IsCleared file lent
 heard-told = silent.heard-told
 
 -- "Two accepted files with equal counts that differ only in declared costs, and in budgets, technologies, applications and bids of other pots, each pot's
--- records at the same places, give one pot the same outcome, prices, totals and reasons."
+-- records at the same places, give one pot the same outcome, prices, totals and reasons"; and so where they differ in other pots' caps (02, CR 5)
 pub pots-apart : (file other lent lent′ : List ℕ) → IsCleared file lent → IsCleared other lent′ → (p : ℕ) → p < roundOf file .p
     → DifferElsewhere p (roundOf file) (roundOf other) → SameRecords p (roundOf file) (roundOf other) (clearOf file lent .exit) (clearOf other lent′ .exit)
 pots-apart = demanded.cleared-apart

@@ -12,12 +12,12 @@ use Rattle.rules.specs.Names.{countWidth, appWidth, bidWidth, bytesAfter, large
 use Rattle.rules.specs.Names.{countOutside, appBroken, bidBroken, endsEarly}
 use Rattle.rules.specs.Lists.{pick, given, both, when, never, every, sift, below}
 use Rattle.rules.specs.Bytes.{le, part, bytes, each, onto}
-use Rattle.rules.specs.File.{Round, Bid, sections, roundOf, sectionsOf, deliveries, yearAt, techAt, appAt, bidAt, potsAt, techsAt, appsAt, bidsAt}
-use Rattle.rules.specs.File.{endAt}
+use Rattle.rules.specs.File.{Round, Bid, sections, roundOf, sectionsOf, deliveries, yearAt, potsTold, capTold, techAt, appAt, bidAt, potsAt, techsAt, appsAt}
+use Rattle.rules.specs.File.{bidsAt, endAt}
 use Rattle.rules.specs.Refusals.{orElse, orFault, scan, countFault, recordFault, section, appFault, sevenOf, eightOf, nineOf}
 use Rattle.rules.specs.Refusals.{bidFault, elevenOf, judged, reading}
 use Rattle.rules.specs.Pot.{reason}
-use Rattle.rules.specs.Round.{blank, assemble, atAdminPrice, mine, appMine, rowFor, budgetOf, potOf}
+use Rattle.rules.specs.Round.{blank, assemble, atAdminPrice, mine, appMine, rowFor, budgetOf, capOf, potOf}
 use Rattle.rules.specs.Result.{toldIn, appTold, appBytes, potBytes, bidBytes, potsPart, appsPart, bidsPart, resultBytes, needed, answerTo, answerOf, after}
 use Rattle.rules.specs.Result.{clearOf}
 use Rattle.rules.specs.declared.Reading.{Reading}
@@ -27,16 +27,16 @@ use Rattle.rules.specs.declared.Answer.the-variants.{Cleared, Refused}
 use Rattle.laws_round.specs.Apart.{undeclared}
 use Rattle.laws_reading.specs.Alike.{le-same, getD-past, part-same, part-byte, part-size}
 
--- where the declared cost of application a stands in a file of y years, p pots and t technologies: the last 8 of its bytes
-abbrev pub costAt : (y p t a : ℕ) → ℕ
-costAt y p t a = appsAt y p t + countWidth + a * appWidth + undeclared
+-- where the declared cost of application a stands in a file of y years, p pots with c bytes of cap each and t technologies: the last 8 of its bytes
+abbrev pub costAt : (y c p t a : ℕ) → ℕ
+costAt y c p t a = appsAt y c p t + countWidth + a * appWidth + undeclared
 
 -- does byte i of a file stand in a declared cost?
 pub record Declared (R : Round) (i : ℕ) : Type 0 where
   pub app : ℕ
   pub in-file : app < R .n
-  pub from : costAt (R .y) (R .p) (R .t) app ≤ i
-  pub to : i < costAt (R .y) (R .p) (R .t) app + 8
+  pub from : costAt (R .y) (R .c) (R .p) (R .t) app ≤ i
+  pub to : i < costAt (R .y) (R .c) (R .p) (R .t) app + 8
 
 -- two files of the same bytes but for declared costs
 pub record SaveCosts (s t : List ℕ) : Type 0 where
@@ -53,6 +53,7 @@ withApps R m = record {
   bids = R .bids;
   y = R .y;
   d = R .d;
+  c = R .c;
   p = R .p;
   t = R .t;
   n = R .n;
@@ -131,12 +132,12 @@ module _ (R : Round) (m : List ℕ) (e : (a : ℕ) → appAt (R .apps) a ≡ app
   its-app p a = λ j. ltb a (R .n) && eqb (techAt (R .y) (R .techs) (e a j .tech) .pot) p
 
   pot : (p : ℕ) → potOf R p ≡ potOf Q p
-  unfolding potOf
+  unfolding potOf capOf
   pot p = λ j.
       assemble (R .years) (R .y) (sift (λ k. its p k j) (below (R .b))) (sift (λ a. its-app p a j) (below (R .n)))
       (λ k. pick (its p k j) (row (bidAt (R .bids) k) j) blank)
       (λ a. pick (its-app p a j) (own a j) blank)
-      (budgetOf R p)
+      (budgetOf R p) (capOf R p)
     where
       own : (a : ℕ) → rowFor R (atAdminPrice R a) ≡ rowFor Q (atAdminPrice Q a)
       own a = row (atAdminPrice R a) ∙ ap (rowFor Q) (at-admin-price a)
@@ -153,12 +154,12 @@ module _ (R : Round) (m : List ℕ) (e : (a : ℕ) → appAt (R .apps) a ≡ app
       ++ (bytes countWidth (R .b) ++ each (λ k. bytes 2 (reason (its-pot (bidAt (R .bids) k .app) j) k)) (R .b))
 
 -- a section is the same where its count, the room of its records and what is wrong with each are
-section-same : (s t : List ℕ) (at low high w : ℕ) (l m : List ℕ) (f g : ℕ → ℕ) (q r : Reading) → length s ≡ length t → le countWidth s at ≡ le countWidth t at
-    → length l ≡ length m → ((i : ℕ) → f i ≡ g i) → q ≡ r → section s at low high w l f q ≡ section t at low high w m g r
+section-same : (told : ℕ → ℕ) (s t : List ℕ) (at low high w : ℕ) (l m : List ℕ) (f g : ℕ → ℕ) (q r : Reading) → length s ≡ length t
+    → le countWidth s at ≡ le countWidth t at → length l ≡ length m → ((i : ℕ) → f i ≡ g i) → q ≡ r → section told s at low high w l f q ≡ section told t at low high w m g r
 unfolding section countFault recordFault
-section-same s t at low high w l m f g q r long c room h e = λ j.
-    orElse (given (decLe (at + countWidth) (long j)) (given (both (decLe low (c j)) (decLe (c j) high)) 0 countOutside) endsEarly) at
-    (scan (λ i. given (decLe (i * w + w) (room j)) (h i j) endsEarly) w (at + countWidth) 0 (c j) (e j))
+section-same told s t at low high w l m f g q r long c room h e = λ j.
+    orElse (given (decLe (at + countWidth) (long j)) (given (both (decLe low (told (c j))) (decLe (told (c j)) high)) 0 countOutside) endsEarly) at
+    (scan (λ i. given (decLe (i * w + w) (room j)) (h i j) endsEarly) w (at + countWidth) 0 (told (c j)) (e j))
 
 module _ (s t : List ℕ) (D : SaveCosts s t) where
   abbrev R : Round
@@ -167,62 +168,65 @@ module _ (s t : List ℕ) (D : SaveCosts s t) where
   abbrev y : ℕ
   y = le countWidth s 0
 
+  abbrev c : ℕ
+  c = capTold (le countWidth s (potsAt y))
+
   abbrev p : ℕ
-  p = le countWidth s (potsAt y)
+  p = potsTold (le countWidth s (potsAt y))
 
   abbrev k : ℕ
-  k = le countWidth s (techsAt y p)
+  k = le countWidth s (techsAt y c p)
 
   abbrev n : ℕ
-  n = le countWidth s (appsAt y p k)
+  n = le countWidth s (appsAt y c p k)
 
   abbrev b : ℕ
-  b = le countWidth s (bidsAt y p k n)
+  b = le countWidth s (bidsAt y c p k n)
 
   -- bytes before the first declared cost, after the last, and of an application before its own
-  byte : (i : ℕ) → ((a : ℕ) → a < n → costAt y p k a ≤ i → i < costAt y p k a + 8 → ⊥) → getD s i 0 ≡ getD t i 0
+  byte : (i : ℕ) → ((a : ℕ) → a < n → costAt y c p k a ≤ i → i < costAt y c p k a + 8 → ⊥) → getD s i 0 ≡ getD t i 0
   unfolding roundOf sections
   byte i h = D .bytes i (λ c. h (c .app) (c .in-file) (c .from) (c .to))
 
-  early : (i : ℕ) → i < appsAt y p k + countWidth → getD s i 0 ≡ getD t i 0
+  early : (i : ℕ) → i < appsAt y c p k + countWidth → getD s i 0 ≡ getD t i 0
   early i l = byte i (λ a x u v. omega arith)
 
-  late : (i : ℕ) → bidsAt y p k n ≤ i → getD s i 0 ≡ getD t i 0
+  late : (i : ℕ) → bidsAt y c p k n ≤ i → getD s i 0 ≡ getD t i 0
   late i l = byte i (λ a x u v. omega arith)
 
-  count : (at : ℕ) → at ≤ appsAt y p k → le countWidth s at ≡ le countWidth t at
+  count : (at : ℕ) → at ≤ appsAt y c p k → le countWidth s at ≡ le countWidth t at
   count at l = le-same countWidth s t at countWidth at (λ j h. early (at + j) (omega arith)) (omega arith) (omega arith)
 
-  last : b ≡ le countWidth t (bidsAt y p k n)
-  last = le-same countWidth s t (bidsAt y p k n) countWidth (bidsAt y p k n) (λ j h. late (bidsAt y p k n + j) (omega arith)) (omega arith) (omega arith)
+  last : b ≡ le countWidth t (bidsAt y c p k n)
+  last = le-same countWidth s t (bidsAt y c p k n) countWidth (bidsAt y c p k n) (λ j h. late (bidsAt y c p k n + j) (omega arith)) (omega arith) (omega arith)
 
-  up-to : (a e : ℕ) → e ≤ appsAt y p k → part s a e ≡ part t a e
+  up-to : (a e : ℕ) → e ≤ appsAt y c p k → part s a e ≡ part t a e
   up-to a e l = part-same s t a e (ap (min e) (D .length)) (λ i x z. early i (omega arith))
 
-  from : (a e : ℕ) → bidsAt y p k n ≤ a → part s a e ≡ part t a e
+  from : (a e : ℕ) → bidsAt y c p k n ≤ a → part s a e ≡ part t a e
   from a e l = part-same s t a e (ap (min e) (D .length)) (λ i x z. late i (omega arith))
 
   -- the applications' bytes in each, and their fields
   abbrev mine-s : List ℕ
-  mine-s = part s (appsAt y p k + countWidth) (bidsAt y p k n)
+  mine-s = part s (appsAt y c p k + countWidth) (bidsAt y c p k n)
 
   abbrev mine-t : List ℕ
-  mine-t = part t (appsAt y p k + countWidth) (bidsAt y p k n)
+  mine-t = part t (appsAt y c p k + countWidth) (bidsAt y c p k n)
 
   room : length mine-s ≡ length mine-t
-  room = part-size s _ _ ∙ ap (λ (l : ℕ). min (bidsAt y p k n) l - (appsAt y p k + countWidth)) (D .length) ∙ sym (part-size t _ _)
+  room = part-size s _ _ ∙ ap (λ (l : ℕ). min (bidsAt y c p k n) l - (appsAt y c p k + countWidth)) (D .length) ∙ sym (part-size t _ _)
 
   field : (a x : ℕ) → x < undeclared → getD mine-s (a * appWidth + x) 0 ≡ getD mine-t (a * appWidth + x) 0
   field a x h = go (decLt a n)
     where
       go : Dec (a < n) → getD mine-s (a * appWidth + x) 0 ≡ getD mine-t (a * appWidth + x) 0
       go (yes l) =
-          part-byte s (appsAt y p k + countWidth) (bidsAt y p k n) (a * appWidth + x) (omega arith)
-          ∙ byte (appsAt y p k + countWidth + (a * appWidth + x)) (λ c i u v. omega arith)
-          ∙ sym (part-byte t (appsAt y p k + countWidth) (bidsAt y p k n) (a * appWidth + x) (omega arith))
+          part-byte s (appsAt y c p k + countWidth) (bidsAt y c p k n) (a * appWidth + x) (omega arith)
+          ∙ byte (appsAt y c p k + countWidth + (a * appWidth + x)) (λ c i u v. omega arith)
+          ∙ sym (part-byte t (appsAt y c p k + countWidth) (bidsAt y c p k n) (a * appWidth + x) (omega arith))
       go (no l) =
-          getD-past mine-s (a * appWidth + x) (omega (arith, part-size s (appsAt y p k + countWidth) (bidsAt y p k n)))
-          ∙ sym (getD-past mine-t (a * appWidth + x) (omega (arith, part-size t (appsAt y p k + countWidth) (bidsAt y p k n))))
+          getD-past mine-s (a * appWidth + x) (omega (arith, part-size s (appsAt y c p k + countWidth) (bidsAt y c p k n)))
+          ∙ sym (getD-past mine-t (a * appWidth + x) (omega (arith, part-size t (appsAt y c p k + countWidth) (bidsAt y c p k n))))
 
   number : (w a x : ℕ) → x + w ≤ undeclared → le w mine-s (a * appWidth + x) ≡ le w mine-t (a * appWidth + x)
   number w a x l = le-same w mine-s mine-t (a * appWidth) undeclared (a * appWidth + x) (field a) (omega arith) (omega arith)
@@ -242,34 +246,40 @@ module _ (s t : List ℕ) (D : SaveCosts s t) where
   other =
       (λ j. record {
         years = up-to countWidth (potsAt y) (omega arith) j;
-        pots = up-to (potsAt y + countWidth) (techsAt y p) (omega arith) j;
-        techs = up-to (techsAt y p + countWidth) (appsAt y p k) (omega arith) j;
+        pots = up-to (potsAt y + countWidth) (techsAt y c p) (omega arith) j;
+        techs = up-to (techsAt y c p + countWidth) (appsAt y c p k) (omega arith) j;
         apps = mine-t;
-        bids = from (bidsAt y p k n + countWidth) (endAt y p k n b) (omega arith) j;
+        bids = from (bidsAt y c p k n + countWidth) (endAt y c p k n b) (omega arith) j;
         y = y;
         d = deliveries (up-to countWidth (potsAt y) (omega arith) j) y;
+        c = c;
         p = p;
         t = k;
         n = n;
         b = b;
       })
-      ∙ (λ j. sections t (ey j) (ep j) (ek j) (en j) (eb j))
+      ∙ (λ j. sections t (ey j) (ec j) (ep j) (ek j) (en j) (eb j))
     where
       ey : y ≡ le countWidth t 0
       ey = count 0 (omega arith)
 
-      ep : p ≡ le countWidth t (potsAt (le countWidth t 0))
-      ep = count (potsAt y) (omega arith) ∙ ap (λ (x : ℕ). le countWidth t (potsAt x)) ey
+      eq : le countWidth s (potsAt y) ≡ le countWidth t (potsAt (le countWidth t 0))
+      eq = count (potsAt y) (omega arith) ∙ ap (λ (x : ℕ). le countWidth t (potsAt x)) ey
 
-      ek : k ≡ le countWidth t (techsAt (le countWidth t 0) (le countWidth t (potsAt (le countWidth t 0))))
-      ek = count (techsAt y p) (omega arith) ∙ (λ j. le countWidth t (techsAt (ey j) (ep j)))
+      ec : c ≡ roundOf t .c
+      ec = ap capTold eq
 
-      en : n ≡ le countWidth t (appsAt (le countWidth t 0) (le countWidth t (potsAt (le countWidth t 0)))
-          (le countWidth t (techsAt (le countWidth t 0) (le countWidth t (potsAt (le countWidth t 0))))))
-      en = count (appsAt y p k) (omega arith) ∙ (λ j. le countWidth t (appsAt (ey j) (ep j) (ek j)))
+      ep : p ≡ roundOf t .p
+      ep = ap potsTold eq
+
+      ek : k ≡ roundOf t .t
+      ek = count (techsAt y c p) (omega arith) ∙ (λ j. le countWidth t (techsAt (ey j) (ec j) (ep j)))
+
+      en : n ≡ roundOf t .n
+      en = count (appsAt y c p k) (omega arith) ∙ (λ j. le countWidth t (appsAt (ey j) (ec j) (ep j) (ek j)))
 
       eb : b ≡ roundOf t .b
-      eb = last ∙ (λ j. le countWidth t (bidsAt (ey j) (ep j) (ek j) (en j)))
+      eb = last ∙ (λ j. le countWidth t (bidsAt (ey j) (ec j) (ep j) (ek j) (en j)))
 
   fields : (a : ℕ) → appAt (R .apps) a ≡ appAt mine-t a
   unfolding roundOf sections
@@ -278,13 +288,13 @@ module _ (s t : List ℕ) (D : SaveCosts s t) where
   read-alike : judged R s (Accepted (sectionsOf R)) ≡ judged (withApps R mine-t) t (Accepted (sectionsOf (withApps R mine-t)))
   unfolding judged sectionsOf elevenOf roundOf sections
   read-alike =
-      section-same s t _ _ _ _ _ _ _ _ _ _ (D .length) (count 0 (omega arith)) refl (λ i. refl)
-      (section-same s t _ _ _ _ _ _ _ _ _ _ (D .length) (count (potsAt y) (omega arith)) refl (λ i. refl)
-      (section-same s t _ _ _ _ _ _ _ _ _ _ (D .length) (count (techsAt y p) (omega arith)) refl (λ i. refl)
-      (section-same s t _ _ _ _ _ _ _ _ _ _ (D .length) (count (appsAt y p k) (omega arith)) room (app-fault R mine-t fields (R .years) (R .d) (R .t))
-      (section-same s t _ _ _ _ _ _ _ _ _ _ (D .length) last refl (bid-fault R mine-t fields)
-      (ap (λ (l : ℕ). orElse (given (decLe l (endAt y p k n b)) 0 bytesAfter) (endAt y p k n b)
-      (scan (elevenOf R) bidWidth (bidsAt y p k n + countWidth) 0 b (Accepted (sectionsOf R)))) (D .length))))))
+      section-same _ s t _ _ _ _ _ _ _ _ _ _ (D .length) (count 0 (omega arith)) refl (λ i. refl)
+      (section-same _ s t _ _ _ _ _ _ _ _ _ _ (D .length) (count (potsAt y) (omega arith)) refl (λ i. refl)
+      (section-same _ s t _ _ _ _ _ _ _ _ _ _ (D .length) (count (techsAt y c p) (omega arith)) refl (λ i. refl)
+      (section-same _ s t _ _ _ _ _ _ _ _ _ _ (D .length) (count (appsAt y c p k) (omega arith)) room (app-fault R mine-t fields (R .years) (R .d) (R .t))
+      (section-same _ s t _ _ _ _ _ _ _ _ _ _ (D .length) last refl (bid-fault R mine-t fields)
+      (ap (λ (l : ℕ). orElse (given (decLe l (endAt y c p k n b)) 0 bytesAfter) (endAt y c p k n b)
+      (scan (elevenOf R) bidWidth (bidsAt y c p k n + countWidth) 0 b (Accepted (sectionsOf R)))) (D .length))))))
 
   pub same-reading : reading s ≡ reading t
   unfolding reading
