@@ -35,7 +35,7 @@ heldOf s g b =
 
 -- ---- the records
 
--- the tables that a bid is held to, of a file whose sections before the bids these are. No rule of a bid reads the pots' budgets
+-- the tables that a bid is held to, of a file whose sections before the bids these are. No rule of a bid reads the pots' records
 abbrev pub tablesOf : (s recs : List ℕ) → Sections → Round
 tablesOf s recs g = record {
   years = yearsIn s g;
@@ -45,6 +45,7 @@ tablesOf s recs g = record {
   bids = recs;
   y = g .years;
   d = g .deliveries;
+  c = g .«cap_width»;
   p = g .pots;
   t = g .technologies;
   n = g .applications;
@@ -71,7 +72,7 @@ bidsOf s recs base g = scan (recordFault recs bidWidth (bidFault (tablesOf s rec
 
 -- a round of n bids alone, for the rules that read nothing else
 abbrev pub alone : (recs : List ℕ) → (n : ℕ) → Round
-alone recs n = record { years = []; pots = []; techs = []; apps = []; bids = recs; y = 0; d = 0; p = 0; t = 0; n = 0; b = n }
+alone recs n = record { years = []; pots = []; techs = []; apps = []; bids = recs; y = 0; d = 0; c = 0; p = 0; t = 0; n = 0; b = n }
 
 -- are bids k and i of one application and at one price?
 abbrev pub samePrice? : (recs : List ℕ) → (k i : ℕ) → Dec ((bidAt recs k .app ≡ bidAt recs i .app) × (bidAt recs k .price ≡ bidAt recs i .price))

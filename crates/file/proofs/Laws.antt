@@ -5,34 +5,49 @@ use mathlib.Core.List.{List}
 use native.Mathlib.Omega.{arith}
 use native.Mathlib.Nat.{mul-le-mul}
 use lib.ListN.{length}
-use Rattle.rules.specs.Names.{bytesAfter, mostYears, mostPots, mostTechs, mostApps, mostBids, countWidth, yearWidth, potWidth, techWidth, appWidth, bidWidth}
+use Rattle.rules.specs.Names.{endsEarly, bytesAfter, mostYears, mostPots, mostTechs, mostApps, mostBids, countWidth, yearWidth, potWidth, techWidth, appWidth}
+use Rattle.rules.specs.Names.{bidWidth}
 use Rattle.rules.specs.Bytes.{le, part}
-use Rattle.rules.specs.File.{roundOf, sections, sectionsOf, appAt, potsAt, techsAt, appsAt, bidsAt, endAt}
-use Rattle.rules.specs.Refusals.{scan, countFault, section, sevenOf, eightOf, nineOf, bidFault, elevenOf, judged, reading}
+use Rattle.rules.specs.File.{roundOf, sections, sectionsOf, potsTold, capTold, appAt, potsAt, techsAt, appsAt, bidsAt, endAt}
+use Rattle.rules.specs.Refusals.{scan, plain, countFault, section, sevenOf, eightOf, nineOf, bidFault, elevenOf, judged, reading}
 use Rattle.rules.specs.declared.Sections.{Sections}
 use Rattle.rules.specs.declared.Reading.{Reading}
 use Rattle.rules.specs.declared.Reading.the-variants.{Accepted, Refused}
-use Rattle.laws_reading.specs.Walk.{given-yes, refuses}
-use Rattle.laws_reading.specs.Reading.{holds, YearRight, year-right, app-right, deliveries-most, counts}
+use Rattle.laws_reading.specs.Walk.{given-yes, given-no, refuses}
+use Rattle.laws_reading.specs.Reading.{holds, CapTold, cap-told, YearRight, year-right, app-right, deliveries-most, counts}
 use Rattle.laws_reading.specs.Fault.{Table, years, pots, techs, apps, bids, tables, says, countIs, recordIs, judges, judgesAll, Right, AllRight, none, also}
 use Rattle.laws_reading.specs.Fault.{after, goes, stops, faulty, or-passes, sections-pass, count-right, record-right, ends-within}
 use Rattle.fields.proofs.Le.{part-length}
 use Rattle.layout.specs.Layout.{yearsIn}
 use Rattle.records.specs.Records.{yearsOf, potsOf, techsOf, appsOf}
 use Rattle.bids.specs.Bids.{TablesRight, bidsOf, lowestOf}
-use Rattle.file.specs.Reads.{ends, withPots, withTechs, withApps, withBids, toYears, toPots, toTechs, toApps, afterYears, afterPots, afterTechs}
-use Rattle.file.specs.Reads.{afterApps, readYears, readPots, readTechs, readApps, readBids}
+use Rattle.file.specs.Reads.{rangeFault, ends, withPots, withTechs, withApps, withBids, toYears, toPots, toTechs, toApps, afterYears, afterPots}
+use Rattle.file.specs.Reads.{afterTechs, afterApps, readYears, readPots, readTechs, readApps, readBids}
 
 -- ---- a section by its count and its records
 
+-- the file ends before the end of the count at `at`, or so many records as it tells are judged
+module _ (told : ℕ → ℕ) (s : List ℕ) (at low high : ℕ) where
+  pub count-short : length s < at + countWidth → endsEarly ≡ countFault told s at low high
+  unfolding countFault
+  count-short h = sym (given-no _ _ _ (λ l. omega arith))
+
+  pub count-whole : at + countWidth ≤ length s → {n r : ℕ} → n ≡ told (le countWidth s at) → r ≡ rangeFault n low high → r ≡ countFault told s at low high
+  unfolding countFault rangeFault
+  count-whole h e r = r ∙ ap (λ (n : ℕ). rangeFault n low high) e ∙ sym (given-yes _ _ _ h)
+
 -- the count at `at` was judged and has no fault
-pub counted : (s : List ℕ) (at low high : ℕ) {f : ℕ} → f ≡ countFault s at low high → f ≡ 0
-    → (at + countWidth ≤ length s) × ((low ≤ le countWidth s at) × (le countWidth s at ≤ high))
+pub counted : (told : ℕ → ℕ) (s : List ℕ) (at low high : ℕ) {f : ℕ} → f ≡ countFault told s at low high → f ≡ 0
+    → (at + countWidth ≤ length s) × ((low ≤ told (le countWidth s at)) × (told (le countWidth s at) ≤ high))
 unfolding countFault
-counted s at low high e z =
+counted told s at low high e z =
     let a = holds _ _ _ (sym e ∙ z) (λ q. omega arith) in
     let b = holds _ _ _ (a .1) (λ q. omega arith) in
     (a .0, b .0)
+
+-- the bytes of a cap that a count was found to tell
+pub cap-found : (count : ℕ) {c : ℕ} → c ≡ capTold count → CapTold c
+cap-found count e = rw e (cap-told count)
 
 -- n records, no more than a and none wider than b
 pub few-bytes : (a b n w : ℕ) → n ≤ a → w ≤ b → n * w ≤ a * b
@@ -43,11 +58,14 @@ pub whole : (s : List ℕ) (a e : ℕ) {l : List ℕ} → l ≡ part s a e → a
 whole s a e q h k = ap length q ∙ part-length s a e h k
 
 -- A section T after those that are right. The sections so far are g, and are to be h; `at` and `width` say where T's count stands, and how wide its records are
-module _ (s : List ℕ) {Ts : List Table} (a : AllRight s Ts) (T : Table) (q : Reading) (at width : Sections → ℕ) {g h : Sections} (i : g ≡ h)
-    (here : at h ≡ T .at)
-    {f : ℕ} (e : f ≡ countFault s (at g) (T .low) (T .high)) where
+module _ (s : List ℕ) {Ts : List Table} (a : AllRight s Ts) (T : Table) (q : Reading) (at : Sections → ℕ) (width : Sections → (count : ℕ) → ℕ)
+    {g h : Sections} (i : g ≡ h) (here : at h ≡ T .at)
+    {f : ℕ} (e : f ≡ countFault (T .told) s (at g) (T .low) (T .high)) where
   fault-is : f ≡ countIs s T
-  fault-is = e ∙ ap (λ (x : Sections). countFault s (at x) (T .low) (T .high)) i ∙ ap (λ (x : ℕ). countFault s x (T .low) (T .high)) here
+  fault-is =
+      e
+      ∙ ap (λ (x : Sections). countFault (T .told) s (at x) (T .low) (T .high)) i
+      ∙ ap (λ (x : ℕ). countFault (T .told) s x (T .low) (T .high)) here
 
   -- its count is refused
   pub next-refused : (f ≡ 0 → ⊥) → Refused f (at g) ≡ judgesAll s Ts (judges s T q)
@@ -57,18 +75,21 @@ module _ (s : List ℕ) {Ts : List Table} (a : AllRight s Ts) (T : Table) (q : R
       ∙ sym (refuses (countIs s T) (T .at) _ (λ n. z (fault-is ∙ n)))
       ∙ sym (sections-pass s (judges s T q) a)
 
-  -- its count is accepted, and F is what its n records answer, in the part of the file that they occupy
-  pub next-read : (F : Sections → (n next : ℕ) → List ℕ → Reading)
-      → F h (le countWidth s (at h)) (ends (at h) (le countWidth s (at h)) (width h))
-      (part s (at h + countWidth) (ends (at h) (le countWidth s (at h)) (width h)))
+  -- where the records that a count tells end
+  abbrev endsOf : (g : Sections) (count : ℕ) → ℕ
+  endsOf g count = ends (at g) (T .told count) (width g count)
+
+  -- its count is accepted, and F is what the records that it tells answer, in the part of the file that they occupy
+  pub next-read : (F : Sections → (count next : ℕ) → List ℕ → Reading)
+      → F h (le countWidth s (at h)) (endsOf h (le countWidth s (at h))) (part s (at h + countWidth) (endsOf h (le countWidth s (at h))))
       ≡ scan (recordIs s T) (T .width) (T .at + countWidth) 0 (says s T) q
-      → f ≡ 0 → {n next : ℕ} {l : List ℕ} {r : Reading} → n ≡ le countWidth s (at g) → next ≡ ends (at g) n (width g)
-      → l ≡ part s (at g + countWidth) next → r ≡ F g n next l
+      → f ≡ 0 → {count next : ℕ} {l : List ℕ} {r : Reading} → count ≡ le countWidth s (at g) → next ≡ endsOf g count
+      → l ≡ part s (at g + countWidth) next → r ≡ F g count next l
       → r ≡ judgesAll s Ts (judges s T q)
   unfolding section
-  next-read F same z {n} p m l r =
+  next-read F same z p m l r =
       let p′ = p ∙ ap (λ (x : Sections). le countWidth s (at x)) i in
-      let m′ = m ∙ (λ j. ends (at (i j)) (p′ j) (width (i j))) in
+      let m′ = m ∙ (λ j. endsOf (i j) (p′ j)) in
       let c = l ∙ (λ j. part s (at (i j) + countWidth) (m′ j)) in
       let no : countIs s T ≡ 0 = sym fault-is ∙ z in
       r ∙ (λ j. F (i j) (p′ j) (m′ j) (c j)) ∙ same ∙ sym (or-passes _ (T .at) _ no) ∙ sym (sections-pass s (judges s T q) a)
@@ -92,35 +113,36 @@ module _ (s : List ℕ) where
       let right : (i : ℕ) → i < R .y → YearRight (R .years) i = λ i l. year-right (R .years) i (record-right s (years R) r i (omega (arith, C .y)) .1) in
       omega (arith, C .d, deliveries-most (R .years) (R .y) right)
 
-  pots-known : Right s (pots (roundOf s)) → (roundOf s .p ≤ mostPots) × (techsAt (roundOf s .y) (roundOf s .p) ≤ length s)
+  pots-known : Right s (pots (roundOf s)) → (roundOf s .p ≤ mostPots) × (techsAt (roundOf s .y) (roundOf s .c) (roundOf s .p) ≤ length s)
   unfolding roundOf sections
   pots-known r = known s (pots (roundOf s)) r refl
 
-  techs-known : Right s (techs (roundOf s)) → (roundOf s .t ≤ mostTechs) × (appsAt (roundOf s .y) (roundOf s .p) (roundOf s .t) ≤ length s)
+  techs-known : Right s (techs (roundOf s)) → (roundOf s .t ≤ mostTechs) × (appsAt (roundOf s .y) (roundOf s .c) (roundOf s .p) (roundOf s .t) ≤ length s)
   unfolding roundOf sections
   techs-known r = known s (techs (roundOf s)) r refl
 
-  apps-known : Right s (apps (roundOf s)) → (roundOf s .n ≤ mostApps) × (bidsAt (roundOf s .y) (roundOf s .p) (roundOf s .t) (roundOf s .n) ≤ length s)
+  apps-known : Right s (apps (roundOf s))
+      → (roundOf s .n ≤ mostApps) × (bidsAt (roundOf s .y) (roundOf s .c) (roundOf s .p) (roundOf s .t) (roundOf s .n) ≤ length s)
   unfolding roundOf sections
   apps-known r = known s (apps (roundOf s)) r refl
 
   bids-known : Right s (bids (roundOf s))
-      → (roundOf s .b ≤ mostBids) × (endAt (roundOf s .y) (roundOf s .p) (roundOf s .t) (roundOf s .n) (roundOf s .b) ≤ length s)
+      → (roundOf s .b ≤ mostBids) × (endAt (roundOf s .y) (roundOf s .c) (roundOf s .p) (roundOf s .t) (roundOf s .n) (roundOf s .b) ≤ length s)
   unfolding roundOf sections
   bids-known r = known s (bids (roundOf s)) r refl
 
 -- ---- the years
 
-module _ (s : List ℕ) {f : ℕ} (e : f ≡ countFault s 0 1 mostYears) where
+module _ (s : List ℕ) {f : ℕ} (e : f ≡ countFault plain s 0 1 mostYears) where
   pub years-refused : (f ≡ 0 → ⊥) → Refused f 0 ≡ readYears s
   unfolding readYears
-  years-refused z = next-refused s none (years (roundOf s)) (Accepted (afterYears s)) (λ x. 0) (λ x. yearWidth) {g = afterYears s} refl refl e z
+  years-refused z = next-refused s none (years (roundOf s)) (Accepted (afterYears s)) (λ x. 0) (λ x n. yearWidth) {g = afterYears s} refl refl e z
 
   pub years-read : f ≡ 0 → {n : ℕ} {l : List ℕ} {r : Reading} → n ≡ le countWidth s 0 → l ≡ part s countWidth (countWidth + n * yearWidth)
       → r ≡ yearsOf l n countWidth → r ≡ readYears s
   unfolding readYears yearsOf roundOf sections
   years-read z p q r =
-      next-read s none (years (roundOf s)) (Accepted (afterYears s)) (λ x. 0) (λ x. yearWidth) {g = afterYears s} refl refl e
+      next-read s none (years (roundOf s)) (Accepted (afterYears s)) (λ x. 0) (λ x n. yearWidth) {g = afterYears s} refl refl e
       (λ x n next l. yearsOf l n countWidth) refl z p refl q r
 
 -- ---- the pots, after the years
@@ -138,21 +160,25 @@ module _ (s : List ℕ) {g : Sections} (h : readYears s ≡ Accepted g) where
       known-of : AllRight s (toYears (roundOf s)) → Facts1 s (afterYears s)
       known-of (also y none) = let k = years-known s y in record { most = k .0; within = k .1 }
 
-  module _ {f : ℕ} (e : f ≡ countFault s (g .«pots_at») 1 mostPots) where
+  module _ {f : ℕ} (e : f ≡ countFault potsTold s (g .«pots_at») 1 mostPots) where
     pub pots-refused : (f ≡ 0 → ⊥) → Refused f (g .«pots_at») ≡ readPots s
     unfolding readYears readPots
     pots-refused z =
         let a = goes s (toYears (roundOf s)) (afterYears s) h in
-        next-refused s (a .0) (pots (roundOf s)) (Accepted (afterPots s)) (λ x. x .«pots_at») (λ x. potWidth (x .years)) (a .1) refl e z
+        next-refused s (a .0) (pots (roundOf s)) (Accepted (afterPots s)) (λ x. x .«pots_at») (λ x n. potWidth (x .years) (capTold n)) (a .1) refl e z
 
-    pub pots-read : f ≡ 0 → {n m : ℕ} {l : List ℕ} {r : Reading} → n ≡ le countWidth s (g .«pots_at») → m ≡ n * potWidth (g .years)
+    pub pots-read : f ≡ 0 → {count c n m : ℕ} {l : List ℕ} {r : Reading} → count ≡ le countWidth s (g .«pots_at») → c ≡ capTold count → n ≡ potsTold count
+        → m ≡ n * potWidth (g .years) c
         → l ≡ part s (g .«pots_at» + countWidth) (g .«pots_at» + countWidth + m)
-        → r ≡ potsOf l (g .«pots_at» + countWidth) (withPots g n (g .«pots_at» + countWidth + m)) → r ≡ readPots s
+        → r ≡ potsOf l (g .«pots_at» + countWidth) (withPots g c n (g .«pots_at» + countWidth + m)) → r ≡ readPots s
     unfolding readYears readPots potsOf roundOf sections
-    pots-read z p m q r =
+    pots-read z {m = m} {l = l} p u v w q r =
         let a = goes s (toYears (roundOf s)) (afterYears s) h in
-        next-read s (a .0) (pots (roundOf s)) (Accepted (afterPots s)) (λ x. x .«pots_at») (λ x. potWidth (x .years)) (a .1) refl e
-        (λ x n next l. potsOf l (x .«pots_at» + countWidth) (withPots x n next)) refl z p (ap (λ (x : ℕ). g .«pots_at» + countWidth + x) m) q r
+        let start = g .«pots_at» + countWidth in
+        next-read s (a .0) (pots (roundOf s)) (Accepted (afterPots s)) (λ x. x .«pots_at») (λ x n. potWidth (x .years) (capTold n)) (a .1) refl e
+        (λ x n next l. potsOf l (x .«pots_at» + countWidth) (withPots x (capTold n) (potsTold n) next)) refl z p
+        (ap (λ (x : ℕ). start + x) w ∙ (λ j. start + v j * potWidth (g .years) (u j))) q
+        (r ∙ (λ j. potsOf l start (withPots g (u j) (v j) (start + m))))
 
 -- ---- the technologies, after the pots
 
@@ -169,12 +195,12 @@ module _ (s : List ℕ) {g : Sections} (h : readPots s ≡ Accepted g) where
       known-of : AllRight s (toPots (roundOf s)) → Facts2 s (afterPots s)
       known-of (also y (also p none)) = record { most = years-known s y .0; within = pots-known s p .1 }
 
-  module _ {f : ℕ} (e : f ≡ countFault s (g .«technologies_at») 1 mostTechs) where
+  module _ {f : ℕ} (e : f ≡ countFault plain s (g .«technologies_at») 1 mostTechs) where
     pub techs-refused : (f ≡ 0 → ⊥) → Refused f (g .«technologies_at») ≡ readTechs s
     unfolding readPots readTechs
     techs-refused z =
         let a = goes s (toPots (roundOf s)) (afterPots s) h in
-        next-refused s (a .0) (techs (roundOf s)) (Accepted (afterTechs s)) (λ x. x .«technologies_at») (λ x. techWidth (x .years)) (a .1) refl e z
+        next-refused s (a .0) (techs (roundOf s)) (Accepted (afterTechs s)) (λ x. x .«technologies_at») (λ x n. techWidth (x .years)) (a .1) refl e z
 
     pub techs-read : f ≡ 0 → {n m : ℕ} {l : List ℕ} {r : Reading} → n ≡ le countWidth s (g .«technologies_at») → m ≡ n * techWidth (g .years)
         → l ≡ part s (g .«technologies_at» + countWidth) (g .«technologies_at» + countWidth + m)
@@ -182,7 +208,7 @@ module _ (s : List ℕ) {g : Sections} (h : readPots s ≡ Accepted g) where
     unfolding readPots readTechs techsOf roundOf sections
     techs-read z p m q r =
         let a = goes s (toPots (roundOf s)) (afterPots s) h in
-        next-read s (a .0) (techs (roundOf s)) (Accepted (afterTechs s)) (λ x. x .«technologies_at») (λ x. techWidth (x .years)) (a .1) refl e
+        next-read s (a .0) (techs (roundOf s)) (Accepted (afterTechs s)) (λ x. x .«technologies_at») (λ x n. techWidth (x .years)) (a .1) refl e
         (λ x n next l. techsOf l (x .«technologies_at» + countWidth) (withTechs x n next)) refl z p
         (ap (λ (x : ℕ). g .«technologies_at» + countWidth + x) m) q r
 
@@ -212,12 +238,12 @@ module _ (s : List ℕ) {g : Sections} (h : readTechs s ≡ Accepted g) where
         within = techs-known s t .1;
       }
 
-  module _ {f : ℕ} (e : f ≡ countFault s (g .«applications_at») 0 mostApps) where
+  module _ {f : ℕ} (e : f ≡ countFault plain s (g .«applications_at») 0 mostApps) where
     pub apps-refused : (f ≡ 0 → ⊥) → Refused f (g .«applications_at») ≡ readApps s
     unfolding readTechs readApps
     apps-refused z =
         let a = goes s (toTechs (roundOf s)) (afterTechs s) h in
-        next-refused s (a .0) (apps (roundOf s)) (Accepted (afterApps s)) (λ x. x .«applications_at») (λ x. appWidth) (a .1) refl e z
+        next-refused s (a .0) (apps (roundOf s)) (Accepted (afterApps s)) (λ x. x .«applications_at») (λ x n. appWidth) (a .1) refl e z
 
     pub apps-read : f ≡ 0 → {n : ℕ} {years l : List ℕ} {r : Reading} → n ≡ le countWidth s (g .«applications_at»)
         → years ≡ yearsIn s g → l ≡ part s (g .«applications_at» + countWidth) (ends (g .«applications_at») n appWidth)
@@ -225,7 +251,7 @@ module _ (s : List ℕ) {g : Sections} (h : readTechs s ≡ Accepted g) where
     unfolding readTechs readApps appsOf roundOf sections
     apps-read z {n} {l = l} p y q r =
         let a = goes s (toTechs (roundOf s)) (afterTechs s) h in
-        next-read s (a .0) (apps (roundOf s)) (Accepted (afterApps s)) (λ x. x .«applications_at») (λ x. appWidth) (a .1) refl e
+        next-read s (a .0) (apps (roundOf s)) (Accepted (afterApps s)) (λ x. x .«applications_at») (λ x n. appWidth) (a .1) refl e
         (λ x n next l. appsOf (yearsIn s x) l (x .«applications_at» + countWidth) (withApps x n next)) refl z p refl q
         (r ∙ ap (λ (x : List ℕ). appsOf x l (g .«applications_at» + countWidth) (withApps g n (ends (g .«applications_at») n appWidth))) y)
 
@@ -234,21 +260,22 @@ module _ (s : List ℕ) {g : Sections} (h : readTechs s ≡ Accepted g) where
 module _ (s : List ℕ) where
   techs-long : Right s (techs (roundOf s))
       → roundOf s .t * techWidth (roundOf s .y)
-      ≤ length (part s (techsAt (roundOf s .y) (roundOf s .p) + countWidth) (appsAt (roundOf s .y) (roundOf s .p) (roundOf s .t)))
+      ≤ length (part s (techsAt (roundOf s .y) (roundOf s .c) (roundOf s .p) + countWidth) (appsAt (roundOf s .y) (roundOf s .c) (roundOf s .p) (roundOf s .t)))
   techs-long r =
       let R = roundOf s in
-      omega (arith, part-length s (techsAt (R .y) (R .p) + countWidth) (appsAt (R .y) (R .p) (R .t)) (omega arith) (techs-known s r .1))
+      omega (arith, part-length s (techsAt (R .y) (R .c) (R .p) + countWidth) (appsAt (R .y) (R .c) (R .p) (R .t)) (omega arith) (techs-known s r .1))
 
   apps-long : Right s (apps (roundOf s))
-      → roundOf s .n * appWidth
-      ≤ length (part s (appsAt (roundOf s .y) (roundOf s .p) (roundOf s .t) + countWidth) (bidsAt (roundOf s .y) (roundOf s .p) (roundOf s .t) (roundOf s .n)))
+      → let R = roundOf s in
+      R .n * appWidth ≤ length (part s (appsAt (R .y) (R .c) (R .p) (R .t) + countWidth) (bidsAt (R .y) (R .c) (R .p) (R .t) (R .n)))
   apps-long r =
       let R = roundOf s in
-      omega (arith, part-length s (appsAt (R .y) (R .p) (R .t) + countWidth) (bidsAt (R .y) (R .p) (R .t) (R .n)) (omega arith) (apps-known s r .1))
+      let at = appsAt (R .y) (R .c) (R .p) (R .t) in
+      omega (arith, part-length s (at + countWidth) (bidsAt (R .y) (R .c) (R .p) (R .t) (R .n)) (omega arith) (apps-known s r .1))
 
   apps-tech : Right s (apps (roundOf s)) → (a : ℕ) → a < roundOf s .n
-      → appAt (part s (appsAt (roundOf s .y) (roundOf s .p) (roundOf s .t) + countWidth) (bidsAt (roundOf s .y) (roundOf s .p) (roundOf s .t) (roundOf s .n)))
-      a .tech < roundOf s .t
+      → let R = roundOf s in
+      appAt (part s (appsAt (R .y) (R .c) (R .p) (R .t) + countWidth) (bidsAt (R .y) (R .c) (R .p) (R .t) (R .n))) a .tech < R .t
   unfolding roundOf sections
   apps-tech r a l = app-right _ _ _ _ a (record-right s (apps (roundOf s)) r a l .1) .tech
 
@@ -274,19 +301,19 @@ module _ (s : List ℕ) {g : Sections} (h : readApps s ≡ Accepted g) where
         tech = apps-tech s n;
       }
 
-  module _ {f : ℕ} (e : f ≡ countFault s (g .«bids_at») 0 mostBids) where
+  module _ {f : ℕ} (e : f ≡ countFault plain s (g .«bids_at») 0 mostBids) where
     pub bids-refused : (f ≡ 0 → ⊥) → Refused f (g .«bids_at») ≡ readBids s
     unfolding readApps readBids
     bids-refused z =
         let a = goes s (toApps (roundOf s)) (afterApps s) h in
-        next-refused s (a .0) (bids (roundOf s)) (Accepted (sectionsOf (roundOf s))) (λ x. x .«bids_at») (λ x. bidWidth) (a .1) refl e z
+        next-refused s (a .0) (bids (roundOf s)) (Accepted (sectionsOf (roundOf s))) (λ x. x .«bids_at») (λ x n. bidWidth) (a .1) refl e z
 
     pub bids-read : f ≡ 0 → {n : ℕ} {l : List ℕ} {r : Reading} → n ≡ le countWidth s (g .«bids_at»)
         → l ≡ part s (g .«bids_at» + countWidth) (ends (g .«bids_at») n bidWidth) → r ≡ bidsOf s l (g .«bids_at» + countWidth) (withBids g n) → r ≡ readBids s
     unfolding readApps readBids bidsOf bidFault sevenOf eightOf nineOf sectionsOf roundOf sections
     bids-read z p q r =
         let a = goes s (toApps (roundOf s)) (afterApps s) h in
-        next-read s (a .0) (bids (roundOf s)) (Accepted (sectionsOf (roundOf s))) (λ x. x .«bids_at») (λ x. bidWidth) (a .1) refl e
+        next-read s (a .0) (bids (roundOf s)) (Accepted (sectionsOf (roundOf s))) (λ x. x .«bids_at») (λ x n. bidWidth) (a .1) refl e
         (λ x n next l. bidsOf s l (x .«bids_at» + countWidth) (withBids x n)) refl z p refl q r
 
 -- ---- after the last section

@@ -1,7 +1,9 @@
 -- The sections read so far, and the reading of the first sections of a file. Assumes nothing.
 use Prim.Native.Nat.{ℕ, _+_, _*_}
 use mathlib.Core.List.{List, [], _∷_}
-use Rattle.rules.specs.Names.{countWidth, potWidth, techWidth, appWidth}
+use native.Mathlib.Decide.{decLe}
+use Rattle.rules.specs.Names.{countOutside, countWidth, potWidth, techWidth, appWidth}
+use Rattle.rules.specs.Lists.{given, both}
 use Rattle.rules.specs.File.{Round, roundOf, sectionsOf}
 use Rattle.rules.specs.declared.Sections.{Sections}
 use Rattle.rules.specs.declared.Reading.{Reading}
@@ -10,21 +12,29 @@ use Rattle.laws_reading.specs.Fault.{Table, judgesAll, years, pots, techs, apps
 use Rattle.layout.specs.Layout.{laidOut}
 use Rattle.records.specs.Records.{withYears}
 
--- ---- the sections so far: each brings its own count and, but for the last, the place of the next one's
+-- 2: so many records are outside their range
+unfoldable pub rangeFault : (n low high : ℕ) → ℕ
+rangeFault n low high = given (both (decLe low n) (decLe n high)) 0 countOutside
 
-abbrev pub withPots : Sections → (n next : ℕ) → Sections
-withPots g n next = laidOut (g .years) (g .deliveries) n (g .technologies) (g .applications) (g .bids) (g .«pots_at») next (g .«applications_at») (g .«bids_at»)
+-- ---- the sections so far: each brings its own count, the pots' also the bytes of a cap, and, but for the last, the place of the next one's
+
+abbrev pub withPots : Sections → (c n next : ℕ) → Sections
+withPots g c n next =
+    laidOut (g .years) (g .deliveries) c n (g .technologies) (g .applications) (g .bids) (g .«pots_at») next (g .«applications_at») (g .«bids_at»)
 
 abbrev pub withTechs : Sections → (n next : ℕ) → Sections
-withTechs g n next = laidOut (g .years) (g .deliveries) (g .pots) n (g .applications) (g .bids) (g .«pots_at») (g .«technologies_at») next (g .«bids_at»)
+withTechs g n next =
+    laidOut (g .years) (g .deliveries) (g .«cap_width») (g .pots) n (g .applications) (g .bids) (g .«pots_at») (g .«technologies_at») next (g .«bids_at»)
 
 abbrev pub withApps : Sections → (n next : ℕ) → Sections
-withApps g n next = laidOut (g .years) (g .deliveries) (g .pots) (g .technologies) n (g .bids) (g .«pots_at») (g .«technologies_at») (g .«applications_at») next
+withApps g n next =
+    laidOut (g .years) (g .deliveries) (g .«cap_width») (g .pots) (g .technologies) n (g .bids) (g .«pots_at») (g .«technologies_at»)
+    (g .«applications_at») next
 
 abbrev pub withBids : Sections → (n : ℕ) → Sections
 withBids g n =
-    laidOut (g .years) (g .deliveries) (g .pots) (g .technologies) (g .applications) n (g .«pots_at») (g .«technologies_at») (g .«applications_at»)
-    (g .«bids_at»)
+    laidOut (g .years) (g .deliveries) (g .«cap_width») (g .pots) (g .technologies) (g .applications) n (g .«pots_at») (g .«technologies_at»)
+    (g .«applications_at») (g .«bids_at»)
 
 -- where a section's n records of a width end, after its count at `at`
 abbrev pub ends : (at n width : ℕ) → ℕ
@@ -52,7 +62,8 @@ module _ (s : List ℕ) where
   afterYears = withYears (roundOf s .y) (roundOf s .d) countWidth
 
   abbrev pub afterPots : Sections
-  afterPots = withPots afterYears (roundOf s .p) (ends (afterYears .«pots_at») (roundOf s .p) (potWidth (roundOf s .y)))
+  afterPots =
+      withPots afterYears (roundOf s .c) (roundOf s .p) (ends (afterYears .«pots_at») (roundOf s .p) (potWidth (roundOf s .y) (roundOf s .c)))
 
   abbrev pub afterTechs : Sections
   afterTechs = withTechs afterPots (roundOf s .t) (ends (afterPots .«technologies_at») (roundOf s .t) (techWidth (roundOf s .y)))

@@ -3,6 +3,7 @@ ghost use mathlib.Core.Path.{_≡_};
 ghost use Rattle.rules.specs.declared.Reading.the-variants.{Accepted};
 ghost use Rattle.file.specs.Reads.{readYears, readPots, readTechs, readApps, readBids};
 use super::count::count_fault;
+use super::count::pots_count_fault;
 use layout::parts;
 use layout::pot;
 use layout::technology;
@@ -28,20 +29,23 @@ pub fn read_years(file: &[u8]) -> Reading
     years(records_after(file, 0, next), n, names::COUNT_WIDTH)
 }
 
-// The pots, after the years.
+// The pots, after the years. Their count tells of caps as well.
 pub fn read_pots(file: &[u8], past: Sections) -> Reading
     requires { ⌜ readYears (now file) ≡ Accepted past ⌝ }
     ensures { λ r. ⌜ r ≡ readPots (now (file .entry)) ⌝ }
 {
     let at = past.pots_at;
-    let f = count_fault(file, at, 1, names::MOST_POTS);
+    let f = pots_count_fault(file, at);
     if f != 0 {
         return Reading::Refused { number: f, at };
     }
-    let n = count_at(file, at) as usize;
+    let count = count_at(file, at);
+    let cap_width = pot::cap_told(count);
+    let n = pot::pots_told(count) as usize;
     let start = at + names::COUNT_WIDTH;
-    let next = start + pot::place(past.years, n);
+    let next = start + pot::place(past.years, cap_width, n);
     let mut done = past;
+    done.cap_width = cap_width;
     done.pots = n;
     done.technologies_at = next;
     pots(records_after(file, at, next), start, done)

@@ -1,8 +1,11 @@
--- A number is the same where it is read from equal places or from equal parts. Assumes nothing.
-use Prim.Native.Nat.{ℕ, _+_, _*_}
-use mathlib.Core.Path.{_≡_, ap, _∙_}
+-- A number is the same where it is read from equal places or from equal parts; and what a count of pots tells. Assumes nothing.
+use Prim.Native.Nat.{ℕ, _+_, _-_, _*_, _≤_, _<_}
+use mathlib.Core.Path.{_≡_, refl, ap, _∙_}
 use mathlib.Core.List.{List}
+use borrow.Author.Tests.{lt-ltb, le-ltb}
+use Rattle.rules.specs.Names.{capWidth, capsAdded}
 use Rattle.rules.specs.Bytes.{le}
+use Rattle.rules.specs.File.{potsTold, capTold}
 
 -- a number read at a place that was worked out
 pub read-at : (w : ℕ) (s : List ℕ) (c : ℕ) {r p q : ℕ} → p ≡ q → r ≡ le w s (p + c) → r ≡ le w s (q + c)
@@ -15,3 +18,21 @@ read-in f e h = h ∙ ap f e
 -- the bytes of i records whose width was worked out
 pub times : (i : ℕ) {w v : ℕ} → w ≡ v → i * w ≡ i * v
 times i e = ap (λ (w : ℕ). i * w) e
+
+-- a count of pots without caps, and one with them
+module _ (n : ℕ) where
+  pub pots-plain : n < capsAdded → n ≡ potsTold n
+  unfolding potsTold
+  pots-plain h = rw (lt-ltb n capsAdded h) refl
+
+  pub pots-capped : capsAdded ≤ n → n - capsAdded ≡ potsTold n
+  unfolding potsTold
+  pots-capped h = rw (le-ltb n capsAdded h) refl
+
+  pub cap-plain : n < capsAdded → 0 ≡ capTold n
+  unfolding capTold
+  cap-plain h = rw (lt-ltb n capsAdded h) refl
+
+  pub cap-capped : capsAdded ≤ n → capWidth ≡ capTold n
+  unfolding capTold
+  cap-capped h = rw (le-ltb n capsAdded h) refl

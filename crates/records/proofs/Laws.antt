@@ -3,20 +3,33 @@ use Prim.Native.Nat.{ℕ, _+_, _%_, _≤_, _<_}
 use mathlib.Core.Path.{_≡_, sym, ap, _∙_}
 use mathlib.Core.List.{List}
 use native.Mathlib.Omega.{arith}
-use Rattle.rules.specs.Names.{whole, highestPrice, priceStep}
-use Rattle.rules.specs.File.{App, appAt}
-use Rattle.rules.specs.Refusals.{appFault}
+use Rattle.rules.specs.Names.{whole, highestBudget, highestPrice, priceStep}
+use Rattle.rules.specs.File.{App, budgetAt, capAt, appAt}
+use Rattle.rules.specs.Refusals.{potFault, appFault}
 use Rattle.rules.specs.declared.Reading.{Reading}
 use Rattle.rules.specs.declared.Reading.the-variants.{Refused}
 use Rattle.laws_reading.specs.Walk.{given-yes, same-rule, part-broken}
 use Rattle.laws_reading.specs.Reading.{holds}
-use Rattle.records.specs.Numbers.{pricesOf, numbersOf, drawOf}
+use Rattle.records.specs.Numbers.{capFault, pricesOf, numbersOf, drawOf}
 
 -- ---- refusals
 
 -- a record at fault whose place was worked out
 pub placed : (f base : ℕ) {x y : ℕ} {r : Reading} → x ≡ y → Refused f (base + y) ≡ r → Refused f (base + x) ≡ r
 placed f base e h = ap (λ (x : ℕ). Refused f (base + x)) e ∙ h
+
+-- ---- the pots
+
+module _ (y c : ℕ) (pots : List ℕ) (i : ℕ) (b : (k : ℕ) → k < y → budgetAt y c pots i k ≤ highestBudget) where
+  -- the budgets are right, and there is no cap
+  pub no-cap-asked : c ≡ 0 → 0 ≡ potFault y c pots i
+  unfolding potFault
+  no-cap-asked e = sym (given-yes _ _ _ (b, λ l. absurd (omega arith)))
+
+  -- the budgets are right, and it is the cap that is asked
+  pub cap-asked : (c ≡ 0 → ⊥) → {r cap : ℕ} → r ≡ capFault cap → cap ≡ capAt y c pots i → r ≡ potFault y c pots i
+  unfolding capFault potFault
+  cap-asked z e p = e ∙ ap capFault p ∙ same-rule _ _ _ (λ w. (b, λ l. w)) (λ h. h .1 (omega (arith, z)))
 
 -- ---- the technologies
 

@@ -2,9 +2,14 @@
 use Prim.Native.Nat.{ℕ, _%_}
 use mathlib.Core.List.{List}
 use native.Mathlib.Decide.{decLe, decLt, ℕ-discrete}
-use Rattle.rules.specs.Names.{techBroken, appBroken, whole, highestPrice, priceStep, largestCapacity}
+use Rattle.rules.specs.Names.{potBroken, techBroken, appBroken, whole, highestPrice, priceStep, largestCapacity}
 use Rattle.rules.specs.Lists.{given, both, when, never, every}
 use Rattle.rules.specs.File.{App, yearAt, appAt}
+use Rattle.rules.specs.Refusals.{capRight?}
+
+-- 4 of a pot's cap
+unfoldable pub capFault : (cap : ℕ) → ℕ
+capFault cap = given (capRight? cap) 0 potBroken
 
 -- 5 of a technology's numbers in year y, the delivery years being the first d
 unfoldable pub pricesOf : (y d admin reference load : ℕ) → ℕ

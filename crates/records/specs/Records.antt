@@ -11,7 +11,7 @@ use Rattle.layout.specs.Layout.{laidOut}
 
 -- the sections of a file of which the years are read: how many, d of them delivery years, from `base` on
 abbrev pub withYears : (n d base : ℕ) → Sections
-withYears n d base = laidOut n d 0 0 0 0 (base + n * yearWidth) 0 0 0
+withYears n d base = laidOut n d 0 0 0 0 0 (base + n * yearWidth) 0 0 0
 
 -- ---- the records `recs`, which start at `base` of the file, in file order; `g` is the answer where nothing is wrong
 
@@ -20,7 +20,8 @@ yearsOf recs n base = scan (recordFault recs yearWidth (yearFault recs)) yearWid
 
 unfoldable pub potsOf : List ℕ → (base : ℕ) → Sections → Reading
 potsOf recs base g =
-    scan (recordFault recs (potWidth (g .years)) (potFault (g .years) recs)) (potWidth (g .years)) base 0 (g .pots) (Accepted g)
+    let width = potWidth (g .years) (g .«cap_width») in
+    scan (recordFault recs width (potFault (g .years) (g .«cap_width») recs)) width base 0 (g .pots) (Accepted g)
 
 unfoldable pub techsOf : List ℕ → (base : ℕ) → Sections → Reading
 techsOf recs base g =

@@ -4,43 +4,62 @@ ghost use Prim.Native.Nat.{_+_, _*_, _≤_, _<_, _^_};
 ghost use lib.ListN.{length};
 ghost use Rattle.rules.specs.Names.{mostYears, potWidth};
 ghost use Rattle.rules.specs.Refusals.{recordFault, potFault};
+ghost use Rattle.laws_reading.specs.Reading.{CapTold};
+ghost use Rattle.records.specs.Numbers.{capFault};
 ghost use Rattle.records.specs.Records.{potsOf};
 use layout::pot;
 use rules::Reading;
 use rules::Sections;
 
-// What is wrong with pot p, in a file of so many years: 0 if nothing is.
-fn pot_fault(recs: &[u8], years: usize, p: usize) -> u64
-    requires { ⌜ (years ≤ mostYears) × (p * potWidth years ≤ length (now recs)) ⌝ }
-    ensures { λ r. ⌜ r ≡ recordFault (now (recs .entry)) (potWidth years) (potFault years (now (recs .entry))) p ⌝ }
+// What is wrong with a cap: 0 if nothing is.
+fn cap_fault(cap: u64) -> u64
+    ensures { λ r. ⌜ r ≡ capFault cap ⌝ }
 {
-    if recs.len() - pot::place(years, p) < pot::width(years) {
-        return names::ENDS_EARLY;
+    if cap == names::NO_CAP {
+        return 0;
     }
-    let mut y: usize = 0;
-    while y < years {
-        if names::HIGHEST_BUDGET < pot::budget(recs, years, p, y) {
-            return names::POT_BROKEN;
-        }
-        y += 1;
+    if names::HIGHEST_CAP < cap {
+        return names::POT_BROKEN;
     }
     0
 }
 
+// What is wrong with pot p, in a file of so many years and with so many bytes of cap a pot: 0 if nothing is.
+fn pot_fault(recs: &[u8], years: usize, cap_width: usize, p: usize) -> u64
+    requires { ⌜ (years ≤ mostYears) × (CapTold «cap_width» × (p * potWidth years «cap_width» ≤ length (now recs))) ⌝ }
+    ensures { λ r. ⌜ r ≡ recordFault (now (recs .entry)) (potWidth years «cap_width») (potFault years «cap_width» (now (recs .entry))) p ⌝ }
+{
+    if recs.len() - pot::place(years, cap_width, p) < pot::width(years, cap_width) {
+        return names::ENDS_EARLY;
+    }
+    let mut y: usize = 0;
+    while y < years {
+        if names::HIGHEST_BUDGET < pot::budget(recs, years, cap_width, p, y) {
+            return names::POT_BROKEN;
+        }
+        y += 1;
+    }
+    if cap_width == 0 {
+        return 0;
+    }
+    cap_fault(pot::cap(recs, years, cap_width, p))
+}
+
 // The pots' records, in the part of the file that they occupy and that starts at `base`. If nothing is wrong, `done` is the answer.
 pub fn pots(recs: &[u8], base: usize, done: Sections) -> Reading
-    requires { ⌜ (done .years ≤ mostYears) × (base + length (now recs) < 2 ^ 63) ⌝ }
+    requires { ⌜ (done .years ≤ mostYears) × (CapTold (done .«cap_width») × (base + length (now recs) < 2 ^ 63)) ⌝ }
     ensures { λ r. ⌜ r ≡ potsOf (now (recs .entry)) base done ⌝ }
 {
     let years = done.years;
+    let cap_width = done.cap_width;
     let n = done.pots;
     let mut p: usize = 0;
     while p < n {
-        let f = pot_fault(recs, years, p);
+        let f = pot_fault(recs, years, cap_width, p);
         if f != 0 {
             return Reading::Refused {
                 number: f,
-                at: base + pot::place(years, p),
+                at: base + pot::place(years, cap_width, p),
             };
         }
         p += 1;

@@ -13,13 +13,13 @@ use Rattle.file.proofs.section.read_applications.Tie as tie
 -- what is known once the count is accepted: the records start within the file
 room : (c : tie.After-count-at) → let p = c .before .before .before .before .args in
     (p .past .«applications_at» + countWidth ≤ length (now (p .file))) × Facts3 (now (p .file)) (p .past)
-room c = (counted _ _ _ _ (c .before .before .count-fault .ensures) (c .before .if1 .left) .0, facts3 _ (c .before .before .before .before .pre))
+room c = (counted _ _ _ _ _ (c .before .before .count-fault .ensures) (c .before .if1 .left) .0, facts3 _ (c .before .before .before .before .pre))
 
 returns : tie.Need-returns
 returns c = apps-refused _ (c .before .before .before .pre) (c .before .count-fault .ensures) (c .if1 .taken)
 
 count-at-requires : tie.Need-count-at-requires
-count-at-requires c κs = omega (arith, counted _ _ _ _ (c .before .count-fault .ensures) (c .if1 .left))
+count-at-requires c κs = omega (arith, counted _ _ _ _ _ (c .before .count-fault .ensures) (c .if1 .left))
 
 add-start : tie.Need-add-start
 add-start c = omega (arith, room c)

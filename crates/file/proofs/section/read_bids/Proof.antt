@@ -11,13 +11,13 @@ use Rattle.file.proofs.section.read_bids.Tie as tie
 
 -- once the count is accepted, the records start within the file
 room : (c : tie.After-count-at) → let p = c .before .before .before .before .args in p .past .«bids_at» + countWidth ≤ length (now (p .file))
-room c = counted _ _ _ _ (c .before .before .count-fault .ensures) (c .before .if1 .left) .0
+room c = counted _ _ _ _ _ (c .before .before .count-fault .ensures) (c .before .if1 .left) .0
 
 returns : tie.Need-returns
 returns c = bids-refused _ (c .before .before .before .pre) (c .before .count-fault .ensures) (c .if1 .taken)
 
 count-at-requires : tie.Need-count-at-requires
-count-at-requires c κs = omega (arith, counted _ _ _ _ (c .before .count-fault .ensures) (c .if1 .left))
+count-at-requires c κs = omega (arith, counted _ _ _ _ _ (c .before .count-fault .ensures) (c .if1 .left))
 
 add-start : tie.Need-add-start
 add-start c = omega (arith, room c)

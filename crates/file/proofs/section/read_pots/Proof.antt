@@ -2,31 +2,41 @@
 use borrow.Author.Needs.{needs}
 use native.Mathlib.Omega.{arith}
 use Prim.Native.Nat.{_+_, _*_, _≤_}
+use mathlib.Core.Path.{ap}
 use lib.ListN.{length}
 use denote.Ref.{now}
-use Rattle.rules.specs.Names.{countWidth, mostYears, mostPots, potWidth}
-use Rattle.file.proofs.Laws.{counted, few-bytes, facts1, pots-refused, pots-read}
+use Rattle.rules.specs.Names.{countWidth, capWidth, mostYears, mostPots, potWidth}
+use Rattle.rules.specs.File.{potsTold}
+use Rattle.file.proofs.Laws.{counted, cap-found, few-bytes, facts1, pots-refused, pots-read}
 use Rattle.file.proofs.section.read_pots.Statement.{statement}
 use Rattle.file.proofs.section.read_pots.Tie as tie
 
 returns : tie.Need-returns
-returns c = pots-refused _ (c .before .before .before .pre) (c .before .count-fault .ensures) (c .if1 .taken)
+returns c = pots-refused _ (c .before .before .before .pre) (c .before .pots-count-fault .ensures) (c .if1 .taken)
 
 count-at-requires : tie.Need-count-at-requires
-count-at-requires c κs = counted _ _ _ _ (c .before .count-fault .ensures) (c .if1 .left) .0
+count-at-requires c κs = counted _ _ _ _ _ (c .before .pots-count-fault .ensures) (c .if1 .left) .0
 
 -- once the count is accepted, the records start within the file, and are few and small
-room : (k : tie.After-count-at) → let p = k .before .before .before .before .args in
+room : (k : tie.After-pots-told) → let p = k .before .before .before .before .before .before .args in
     (p .past .«pots_at» + countWidth ≤ length (now (p .file)))
-    × ((p .past .years ≤ mostYears) × (k .count-at .result * potWidth (p .past .years) ≤ mostPots * potWidth mostYears))
+    × ((p .past .years ≤ mostYears)
+    × (k .pots-told .result * potWidth (p .past .years) (k .before .cap-told .result) ≤ mostPots * potWidth mostYears capWidth))
 room k =
-    let p = k .before .before .before .before in
-    let n = counted _ _ _ _ (k .before .before .count-fault .ensures) (k .before .if1 .left) in
-    let m = facts1 _ (p .pre) .most in
-    (n .0, (m, few-bytes mostPots (potWidth mostYears) (k .count-at .result) (potWidth (p .args .past .years)) (omega (arith, n)) (omega arith)))
+    let p = k .before .before .before .before .before .before in
+    let n = counted _ _ _ _ _ (k .before .before .before .before .pots-count-fault .ensures) (k .before .before .before .if1 .left) in
+    let few : k .pots-told .result ≤ mostPots = omega (arith, n, k .pots-told .ensures .0, ap potsTold (k .before .before .count-at .ensures .0)) in
+    let m = facts1 _ (p .pre) .most in (
+      n .0,
+      (
+        m,
+        few-bytes mostPots (potWidth mostYears capWidth) (k .pots-told .result) (potWidth (p .args .past .years) (k .before .cap-told .result)) few
+            (omega (arith, k .before .cap-told .ensures .1)),
+      ),
+    )
 
 place-requires : tie.Need-place-requires
-place-requires c κs = omega (arith, room c)
+place-requires c κs = omega (arith, room c, c .before .cap-told .ensures .1)
 
 add-start : tie.Need-add-start
 add-start c = omega (arith, room c)
@@ -38,16 +48,20 @@ records-after-requires : tie.Need-records-after-requires
 records-after-requires c κs = omega (arith, room (c .before))
 
 pots-requires : tie.Need-pots-requires
-pots-requires c κs = omega (arith, room (c .before .before))
+pots-requires c κs =
+    let k = c .before .before in
+    (room k .1 .0, (cap-found _ (k .before .cap-told .ensures .0), omega (arith, room k)))
 
 returns-2 : tie.Need-returns-2
 returns-2 c =
     let k = c .before .before .before in
-    let o = k .before in
-    pots-read _ (o .before .before .before .pre) (o .before .count-fault .ensures) (o .if1 .left) (k .count-at .ensures .0)
+    let o = k .before .before .before in
+    pots-read _ (o .before .before .before .pre) (o .before .pots-count-fault .ensures) (o .if1 .left) (k .before .before .count-at .ensures .0)
+    (k .before .cap-told .ensures .0) (k .pots-told .ensures .0)
     (c .before .before .place .ensures)
     (c .before .records-after .ensures .0) (c .pots .ensures)
 
 pub read-pots-spec : {M : Type 1} → statement M
 read-pots-spec =
-    tie.close (tie.spec (λ c κs. search needs) returns count-at-requires add-start place-requires add-next records-after-requires pots-requires returns-2)
+    tie.close (tie.spec (λ c κs. search needs) returns count-at-requires (λ c κs. search needs) (λ c κs. search needs) add-start place-requires add-next
+    records-after-requires pots-requires returns-2)

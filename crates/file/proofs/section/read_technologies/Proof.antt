@@ -13,7 +13,7 @@ returns : tie.Need-returns
 returns c = techs-refused _ (c .before .before .before .pre) (c .before .count-fault .ensures) (c .if1 .taken)
 
 count-at-requires : tie.Need-count-at-requires
-count-at-requires c κs = counted _ _ _ _ (c .before .count-fault .ensures) (c .if1 .left) .0
+count-at-requires c κs = counted _ _ _ _ _ (c .before .count-fault .ensures) (c .if1 .left) .0
 
 -- once the count is accepted, the records start within the file, and are few and small
 room : (k : tie.After-count-at) → let p = k .before .before .before .before .args in
@@ -21,7 +21,7 @@ room : (k : tie.After-count-at) → let p = k .before .before .before .before .a
     × ((p .past .years ≤ mostYears) × (k .count-at .result * techWidth (p .past .years) ≤ mostTechs * techWidth mostYears))
 room k =
     let p = k .before .before .before .before in
-    let n = counted _ _ _ _ (k .before .before .count-fault .ensures) (k .before .if1 .left) in
+    let n = counted _ _ _ _ _ (k .before .before .count-fault .ensures) (k .before .if1 .left) in
     let m = facts2 _ (p .pre) .most in
     (n .0, (m, few-bytes mostTechs (techWidth mostYears) (k .count-at .result) (techWidth (p .args .past .years)) (omega (arith, n)) (omega arith)))
 

@@ -14,7 +14,7 @@ returns c = years-refused _ (c .before .count-fault .ensures) (c .if1 .taken)
 
 -- once the count is accepted, it stands in the file
 room : (c : tie.Else1) → countWidth ≤ length (now (c .before .before .before .args .file))
-room c = counted _ _ _ _ (c .before .count-fault .ensures) (c .if1 .left) .0
+room c = counted _ _ _ _ _ (c .before .count-fault .ensures) (c .if1 .left) .0
 
 count-at-requires : tie.Need-count-at-requires
 count-at-requires c κs = room c

@@ -9,6 +9,7 @@ use Rattle.rules.specs.Names.{potWidth}
 use Rattle.rules.specs.Refusals.{recordFault, potFault, scan}
 use Rattle.rules.specs.declared.Reading.the-variants.{Accepted}
 use Rattle.laws_reading.specs.Walk.{at-fault, goes-on, at-end}
+use Rattle.laws_reading.specs.Reading.{cap-most}
 use Rattle.laws_reading.specs.Fault.{no-fault}
 use Rattle.records.specs.Records.{potsOf}
 use Rattle.records.proofs.Laws.{placed}
@@ -16,16 +17,19 @@ use Rattle.records.proofs.pots.pots.Statement.{statement}
 use Rattle.records.proofs.pots.pots.Tie as tie
 
 abbrev Inv-loop : tie.InvT-loop
-Inv-loop recs base done years n p₀ p =
-    (p ≤ n) × (p * potWidth years ≤ length recs)
-    × (scan (recordFault recs (potWidth years) (potFault years recs)) (potWidth years) base p (n - p) (Accepted done) ≡ potsOf recs base done)
+Inv-loop recs base done years cap n p₀ p =
+    (p ≤ n) × (p * potWidth years cap ≤ length recs)
+    × (scan (recordFault recs (potWidth years cap) (potFault years cap recs)) (potWidth years cap) base p (n - p) (Accepted done) ≡ potsOf recs base done)
 
 abbrev μ-loop : tie.MeasureT-loop
-μ-loop recs base done years n p₀ p = n - p
+μ-loop recs base done years cap n p₀ p = n - p
 
 loop-holds : tie.Need-loop-holds Inv-loop μ-loop
 unfolding potsOf
 loop-holds c = (omega arith, omega arith, rw (sub-zero (c .before .args .done .pots)))
+
+place-requires : tie.Need-place-requires Inv-loop μ-loop
+place-requires c κs = omega (arith, cap-most (c .before .before .before .before .before .pre .1 .0))
 
 returns : tie.Need-returns Inv-loop μ-loop
 returns c =
@@ -35,7 +39,7 @@ returns c =
 loop-again : tie.Need-loop-again Inv-loop μ-loop
 loop-again c =
     let z = sym (c .before .pot-fault .ensures) ∙ c .if1 .left in
-    let w = no-fault _ _ (potFault _ _) _ z .0 in
+    let w = no-fault _ _ (potFault _ _ _) _ z .0 in
     (omega arith, omega arith, goes-on _ _ _ _ _ _ (c .before .before .before .loop .inv .2) (omega arith) z)
 
 returns-2 : tie.Need-returns-2 Inv-loop μ-loop
@@ -43,5 +47,5 @@ returns-2 c = at-end _ _ _ _ _ _ (c .before .loop .inv .2) (omega arith)
 
 pub pots-spec : {M : Type 1} → statement M
 pots-spec =
-    tie.close (tie.spec Inv-loop μ-loop loop-holds (λ c κs. search needs) (λ c κs. search needs) (λ c. search needs) returns (λ c. search needs)
+    tie.close (tie.spec Inv-loop μ-loop loop-holds (λ c κs. search needs) place-requires (λ c. search needs) returns (λ c. search needs)
     (λ c. search needs) loop-again returns-2)
