@@ -2,34 +2,36 @@
 use Prim.Native.Nat.{ℕ, zero, suc, _+_, _-_, _*_, _≤_, _<_}
 use mathlib.Core.Path.{_≡_, refl, sym, ap, subst, _∙_}
 use mathlib.Core.Bool.{Bool, true, false, not}
+use mathlib.Core.Option.{none, some}
 use mathlib.Core.List.{List, [], _∷_}
 use native.Mathlib.Numerals.{add-one}
 use native.Mathlib.Omega.{arith}
 use native.Mathlib.Nat.{add-zero, le-antisymm, mul-le-mul-right}
 use lib.ListN.{length, getD, set, take, drop, length-set, getD-replicate}
 use lib.Seq.{getD-drop, getD-set-same, getD-set-other}
-use lib.Dec.{eqb}
+use lib.Dec.{eqb, ltb}
 use borrow.Author.Tests.{eqb-true, eqb-false, eq-eqb, ne-eqb, lt-ltb, le-ltb}
-use Rattle.rules.specs.Names.{mostYears, mostBids, mostApps, potWidth, pencePerPound, highestBudget}
+use Rattle.rules.specs.Names.{mostYears, mostBids, mostApps, noCap, potWidth, pencePerPound, highestBudget}
 use Rattle.rules.specs.Lists.{pick, sift, below}
 use Rattle.rules.specs.Bytes.{part}
-use Rattle.rules.specs.File.{Round, App, Bid, appAt, bidAt, budgetAt}
-use Rattle.rules.specs.Round.{Row, blank, atAdminPrice, mine, appMine, rowFor}
+use Rattle.rules.specs.File.{Round, App, Bid, appAt, bidAt, budgetAt, capAt}
+use Rattle.rules.specs.Round.{Row, blank, atAdminPrice, mine, appMine, rowFor, capOf}
 use Rattle.laws_pot.specs.Lists.{case}
 use Rattle.laws_reading.specs.Reading.{Sound}
 use Rattle.laws_round.specs.Bids.{app-in}
 use Rattle.layout.specs.Layout.{Room}
-use Rattle.sheet.specs.Sheet.{entrantsAt, absent, entered, rowStanding, entrantAt, entrants, inAuction, inTest, rowPlace, figurePlace, figuresPlace}
+use Rattle.sheet.specs.Sheet.{entrantsAt, limitAt, absent, entered, rowStanding, entrantAt, entrants, inAuction, inTest, rowPlace, figurePlace, figuresPlace}
 use Rattle.sheet.specs.Sheet.{sheetLength, adminsAt, adminAt, figuresAt, places, appPlace}
 use Rattle.rows.specs.Rows.{rowOf, adminRow, rowNumbers, figureNumbers, figuresIn}
 use Rattle.rows.proofs.Laws.{figure-blank, figure-own}
-use Rattle.fill.specs.Fill.{BlankAdmins, BlankFrom, Stands, Kept, Rest, Put, Figured, placed, RowsRight, AdminsRight, FiguresRight, AllFigures, LimitsRight}
-use Rattle.fill.specs.Fill.{AdminsWritten, FiguresOf, FiguresWritten, Entered}
+use Rattle.fill.specs.Fill.{BlankAdmins, BlankFrom, Stands, Kept, Rest, Put, Figured, placed, RowsRight, AdminsRight, FiguresRight, AllFigures}
+use Rattle.fill.specs.Fill.{LimitsRight}
+use Rattle.fill.specs.Fill.{AdminsWritten, FiguresOf, FiguresWritten, CapWritten, Entered}
 
 -- ---- the record of a pot
 
-pub pot-room : (R : Round) → Sound R → (p : ℕ) → p < R .p → Room (R .pots) (potWidth (R .y)) p
-pot-room R S p h = omega (arith, S .pots-whole, mul-le-mul-right {m = suc p} (potWidth (R .y)) h)
+pub pot-room : (R : Round) → Sound R → (p : ℕ) → p < R .p → Room (R .pots) (potWidth (R .y) (R .c)) p
+pot-room R S p h = omega (arith, S .pots-whole, mul-le-mul-right {m = suc p} (potWidth (R .y) (R .c)) h)
 
 -- a part of a file of bytes has bytes
 take-byte : (n : ℕ) (s : List ℕ) → ((i : ℕ) → getD s i 0 < 256) → (i : ℕ) → getD (take n s) i 0 < 256
@@ -96,27 +98,68 @@ figures-more R t b k y {v} {s} {u} f e q =
     (put-stands (figurePlace k y) e q)
 
 -- those of a bid whose technology was read are right
-pub figures-own : (R : Round) (k : ℕ) (x : Bid) {a : App} (s : List ℕ) → a ≡ appAt (R .apps) (x .app) → Figured R (a .tech) x k (R .y) s
+pub figures-own : (R : Round) (k : ℕ) (x : Bid) {a : App} (t s : List ℕ) → a ≡ appAt (R .apps) (x .app) → FiguresOf R (a .tech) x k t s
     → FiguresRight R (rowFor R x) k s
-figures-own R k x s ea f y l = subst (λ (v : List ℕ). Stands v s (figurePlace k y)) (figure-own R x ea y l) (f y l)
+unfolding rowFor
+figures-own R k x t s ea f = record {
+  capacity = f .capacity;
+  years = λ y l. subst (λ (v : List ℕ). Stands v s (figurePlace k y)) (figure-own R x ea y l) (f .right y l);
+}
 
 -- a budget, read in the part that the pots occupy, is within its range
-pub budget-in : (R : Round) (p y : ℕ) {pots : List ℕ} {x : ℕ} → Sound R → pots ≡ R .pots → p < R .p → y < R .y → x ≡ budgetAt (R .y) pots p y
+pub budget-in : (R : Round) (p y : ℕ) {pots : List ℕ} {x : ℕ} → Sound R → pots ≡ R .pots → p < R .p → y < R .y → x ≡ budgetAt (R .y) (R .c) pots p y
     → x ≤ highestBudget
 budget-in R p y S e h l q = rw (q, e) (S .budget-most p y h l)
 
-pub limits-more : (years : ℕ) (pots : List ℕ) (p y : ℕ) (s : List ℕ) {x : ℕ} → y < length s → LimitsRight years pots p y s
-    → x ≡ pencePerPound * budgetAt years pots p y → LimitsRight years pots p (y + 1) (set s y x)
-limits-more years pots p y s {x} h f e =
-    and-next (λ k. getD (set s y x) k 0 ≡ pencePerPound * budgetAt years pots p k) y
+pub limits-more : (years cap : ℕ) (pots : List ℕ) (p y : ℕ) (s : List ℕ) {x : ℕ} → y < length s → LimitsRight years cap pots p y s
+    → x ≡ pencePerPound * budgetAt years cap pots p y → LimitsRight years cap pots p (y + 1) (set s y x)
+limits-more years cap pots p y s {x} h f e =
+    and-next (λ k. getD (set s y x) k 0 ≡ pencePerPound * budgetAt years cap pots p k) y
     (λ j l. getD-set-other s y j x 0 (λ z. omega arith) ∙ f j l)
     (getD-set-same s y x 0 h ∙ e)
 
 -- all of them, read in the part that the pots occupy
-pub limits-all : (R : Round) (p : ℕ) {y : ℕ} {pots : List ℕ} (s : List ℕ) → pots ≡ R .pots → y ≤ R .y → R .y ≤ y → LimitsRight (R .y) pots p y s
-    → LimitsRight (R .y) (R .pots) p (R .y) s
+pub limits-all : (R : Round) (p : ℕ) {y : ℕ} {pots : List ℕ} (s : List ℕ) → pots ≡ R .pots → y ≤ R .y → R .y ≤ y → LimitsRight (R .y) (R .c) pots p y s
+    → LimitsRight (R .y) (R .c) (R .pots) p (R .y) s
 limits-all R p {pots = pots} s e h l f =
-    subst (λ (x : List ℕ). LimitsRight (R .y) x p (R .y) s) e (all-of (λ n. LimitsRight (R .y) pots p n s) f h l)
+    subst (λ (x : List ℕ). LimitsRight (R .y) (R .c) x p (R .y) s) e (all-of (λ n. LimitsRight (R .y) (R .c) pots p n s) f h l)
+
+-- the cap of a pot: of a file without caps, none, and one that is the limit after those of the years
+module _ (R : Round) (p : ℕ) (s : List ℕ) (long : length s ≡ sheetLength) where
+  uncapped : none ≡ capOf R p → CapWritten R p s s (R .y)
+  uncapped e = record {
+    right = rw (le-ltb (R .y) (R .y) (omega arith)) e;
+    least = omega arith;
+    most = omega arith;
+    kept = λ j h. refl;
+    rest = λ j h. refl;
+    long = long;
+  }
+
+  pub no-caps : R .c ≡ 0 → CapWritten R p s s (R .y)
+  no-caps e = uncapped (unfold capOf in rw e)
+
+  module _ (n : R .c ≡ 0 → ⊥) {pots : List ℕ} {x : ℕ} (ep : pots ≡ R .pots) (ex : x ≡ capAt (R .y) (R .c) pots p) where
+    read : x ≡ capAt (R .y) (R .c) (R .pots) p
+    read = ex ∙ ap (λ (l : List ℕ). capAt (R .y) (R .c) l p) ep
+
+    some-caps : ltb 0 (R .c) ≡ true
+    some-caps = lt-ltb 0 (R .c) (omega (arith, n))
+
+    pub cap-none : x ≡ noCap → CapWritten R p s s (R .y)
+    cap-none e = uncapped (unfold capOf in rw (some-caps, sym read ∙ e))
+
+    pub cap-some : (x ≡ noCap → ⊥) → R .y ≤ mostYears → CapWritten R p s (set s (R .y) x) (R .y + 1)
+    cap-some z l = record {
+      right =
+          rw (lt-ltb (R .y) (R .y + 1) (omega arith))
+          (unfold capOf limitAt in rw (some-caps, sym read, ne-eqb x noCap z, getD-set-same s (R .y) x 0 (omega (arith, long))));
+      least = omega arith;
+      most = omega arith;
+      kept = λ j h. getD-set-other s (R .y) j x 0 (λ e. omega arith);
+      rest = λ j h. getD-set-other s (R .y) j x 0 (λ e. omega arith);
+      long = length-set s (R .y) x ∙ long;
+    }
 
 pub rest-set : (n i : ℕ) (s t : List ℕ) (x : ℕ) → i < n → Rest n s t → Rest n s (set t i x)
 rest-set n i s t x h f j l = getD-set-other t i j x 0 (λ z. omega arith) ∙ f j l
@@ -131,7 +174,8 @@ pub own-test : (own : Bool) → eqb (pick own entered absent) entered ≡ own
 own-test true = refl
 own-test false = refl
 
-pub of-pot : (R : Round) (p k : ℕ) (s t : List ℕ) {q : Bool} → k < mostBids → RowsRight R p mostBids s → Rest (rowPlace k) s t → q ≡ inAuction t k → q ≡ mine R p k
+pub of-pot : (R : Round) (p k : ℕ) (s t : List ℕ) {q : Bool} → k < mostBids → RowsRight R p mostBids s → Rest (rowPlace k) s t → q ≡ inAuction t k
+    → q ≡ mine R p k
 unfolding rowStanding rowNumbers
 of-pot R p k s t h f same e =
     e ∙ ap (λ (x : ℕ). eqb x entered)
@@ -222,8 +266,11 @@ module _ (R : Round) (p k : ℕ) {s t : List ℕ} (d : Done R p k s t) where
   unfolding figureNumbers
   done-own {u} x e h ea q f = subst (Done R p (k + 1) s) (sym e) record {
     right = and-next (λ k. FiguresRight R (placed R p k) k u) k
-        (λ j g i m. stays t u (figureNumbers R (placed R p j) i) (figuresPlace k) (figurePlace j i) (d .right j g i m) (f .kept) (omega arith))
-        (subst (λ (r : Row). FiguresRight R r k u) q (figures-own R k x u ea (f .right)));
+        (λ j g. record {
+          capacity = f .kept (figuresPlace j) (omega arith) ∙ d .right j g .capacity;
+          years = λ i m. stays t u (figureNumbers R (placed R p j) i) (figuresPlace k) (figurePlace j i) (d .right j g .years i m) (f .kept) (omega arith);
+        })
+        (subst (λ (r : Row). FiguresRight R r k u) q (figures-own R k x t u ea f));
     kept = λ j g. f .kept j (omega arith) ∙ d .kept j g;
     rest = λ j g. f .rest j (omega arith) ∙ d .rest j (omega arith);
   }
@@ -234,8 +281,11 @@ module _ (R : Round) (p k : ℕ) {s t : List ℕ} (d : Done R p k s t) where
   done-other e n y from u b q = subst (Done R p (k + 1) s) (sym e) record {
     right = and-next (λ k. FiguresRight R (placed R p k) k t) k (d .right)
         (subst (λ (r : Row). FiguresRight R r k t) q
-        (λ i l j h. d .rest (figurePlace k i + j) (omega arith) ∙ b (figurePlace k i + j) (omega arith) (omega arith) ∙ sym (getD-replicate 3 j 0 0 h)
-        ∙ ap (λ (v : List ℕ). getD v j 0) (figure-blank R i)));
+        (record {
+          capacity = d .rest (figuresPlace k) (omega arith) ∙ b (figuresPlace k) (omega arith) (omega arith);
+          years = λ i l j h. d .rest (figurePlace k i + j) (omega arith) ∙ b (figurePlace k i + j) (omega arith) (omega arith)
+              ∙ sym (getD-replicate 3 j 0 0 h) ∙ ap (λ (v : List ℕ). getD v j 0) (figure-blank R i);
+        }));
     kept = d .kept;
     rest = λ j g. d .rest j (omega arith);
   }

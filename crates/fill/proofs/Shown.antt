@@ -3,6 +3,7 @@ use Prim.Native.Nat.{ℕ, _+_, _-_, _*_, _≤_, _<_, min}
 use mathlib.Core.Path.{_≡_, refl, sym, ap, subst, _∙_}
 use mathlib.Core.Bool.{Bool, true, false}
 use mathlib.Core.List.{List}
+use mathlib.Core.Option.{none, some}
 use native.Mathlib.Omega.{arith}
 use native.Mathlib.Nat.{add-zero, zero-mul, mul-zero}
 use lib.ListN.{length, getD, List·getD-eq-default, getD-replicate}
@@ -14,7 +15,7 @@ use Rattle.rules.specs.Lists.{pick, sift, below}
 use Rattle.rules.specs.Bytes.{le}
 use Rattle.rules.specs.Value.{exactParts, hoursOf, penny, mostEnergy}
 use Rattle.rules.specs.File.{Round, Bid, yearAt, budgetAt}
-use Rattle.rules.specs.Round.{Row, blank, energyOf, costOf, assemble, mine, appMine, rowFor, budgetOf, potOf}
+use Rattle.rules.specs.Round.{Row, blank, energyOf, costOf, assemble, mine, appMine, rowFor, budgetOf, capOf, potOf}
 use Rattle.laws_pot.specs.Lists.{case, in-sift, in-below, below-in, sift-same}
 use Rattle.laws_reading.specs.Reading.{Sound}
 use Rattle.laws_reading.specs.Reading as r
@@ -22,41 +23,54 @@ use Rattle.laws_pot.specs.Mono.{Lawful}
 use Rattle.laws_round.specs.Bids.{mine-in, mine-out, app-in, app-out, lawful}
 use Rattle.sheet.specs.Sheet.{sheetLength, limitAt, entrants, absent, entered, rowStanding, rowApp, rowYear, rowPrice, rowDraw, rowAdmin, figReference}
 use Rattle.sheet.specs.Sheet.{figEnergy, figShare, partsAt, sheetCost, inAuction, inTest, adminAt, adminOf, potIn, Ready, places, appPlace, adminsAt, rowPlace}
-use Rattle.sheet.specs.Sheet.{figurePlace}
+use Rattle.sheet.specs.Sheet.{capacityAt, figuresPlace, figurePlace}
 use Rattle.rows.specs.Rows.{rowOf, adminRow, rowNumbers, figureNumbers}
 use Rattle.rows.proofs.Laws.{Good, good, good-own, row-blank, energy-most, share-most}
-use Rattle.fill.specs.Fill.{placed, RowsRight, AdminsRight, AllFigures, LimitsRight, RowsWritten, AdminsWritten, FiguresWritten, LimitsWritten, Entered}
-use Rattle.fill.specs.Fill.{sizeOf}
+use Rattle.fill.specs.Fill.{placed, RowsRight, AdminsRight, AllFigures, LimitsRight, RowsWritten, AdminsWritten, FiguresWritten, LimitsWritten}
+use Rattle.fill.specs.Fill.{CapWritten, Entered, sizeOf}
 use Rattle.fill.proofs.Laws.{own-test, in-test, price-none, own-place}
 
 -- what has been written
-pub record Written (R : Round) (p : ℕ) (sheet : List ℕ) (n : ℕ) : Type 0 where
+pub record Written (R : Round) (p : ℕ) (sheet : List ℕ) (m n : ℕ) : Type 0 where
   pub length-is : length sheet ≡ sheetLength
   pub rows-right : RowsRight R p mostBids sheet
   pub admins-right : AdminsRight R p mostApps sheet
   pub figures-right : AllFigures R p places sheet
-  pub limits-right : LimitsRight (R .y) (R .pots) p (R .y) sheet
+  pub limits-right : LimitsRight (R .y) (R .c) (R .pots) p (R .y) sheet
+  pub cap-right : pick (ltb (R .y) m) (some (limitAt sheet (R .y))) none ≡ capOf R p
+  pub least : R .y ≤ m
+  pub most : m ≤ R .y + 1
   pub entered : entrants sheet n ≡ sift (inAuction sheet) (below (R .b))
 
--- from the steps of the filling: the rows, the prices, the figures of the bids and of the applications, the limits, the entrants
-pub written : {R : Round} {p n : ℕ} {s t u v w x y : List ℕ} → R .y ≤ mostYears → RowsWritten R p s t → AdminsWritten R p t u
-    → FiguresWritten R p mostBids u v → FiguresWritten R p places v w → LimitsWritten R p w x → Entered (R .b) x y n → Written R p y n
-unfolding rowNumbers figureNumbers
-written {R} {p} {n} {s} {t} {u} {v} {w} {x} {y} hy A B C D E F = record {
-  length-is = F .long;
+-- from the steps of the filling: the rows, the prices, the figures of the bids and of the applications, the limits, the cap, the entrants
+pub written : {R : Round} {p m n : ℕ} {s t u v w x y z : List ℕ} → R .y ≤ mostYears → RowsWritten R p s t → AdminsWritten R p t u
+    → FiguresWritten R p mostBids u v → FiguresWritten R p places v w → LimitsWritten R p w x → CapWritten R p x y m → Entered (R .b) y z n → Written R p z m n
+unfolding rowNumbers figureNumbers limitAt
+written {R} {p} {m} {n} {s} {t} {u} {v} {w} {x} {y} {z} hy A B C D E F G = record {
+  length-is = G .long;
   rows-right = λ k h j g.
-      F .rest (rowPlace k + j) (omega arith) ∙ E .rest (rowPlace k + j) (omega arith) ∙ D .rest (rowPlace k + j) (omega arith)
+      after (rowPlace k + j) (omega arith) ∙ D .rest (rowPlace k + j) (omega arith)
       ∙ C .rest (rowPlace k + j) (omega arith) ∙ B .rest (rowPlace k + j) (omega arith) ∙ A .right k h j g;
   admins-right = λ a h.
-      F .rest (adminsAt + a) (omega arith) ∙ E .rest (adminsAt + a) (omega arith) ∙ D .kept (adminsAt + a) (omega arith)
+      after (adminsAt + a) (omega arith) ∙ D .kept (adminsAt + a) (omega arith)
       ∙ C .kept (adminsAt + a) (omega arith) ∙ B .right a h;
-  figures-right = λ k h i f j g. F .rest (figurePlace k i + j) (omega arith) ∙ E .rest (figurePlace k i + j) (omega arith) ∙ D .right k h i f j g;
-  limits-right = λ i h. F .kept i (omega arith) ∙ E .right i h;
-  entered = F .right ∙ sift-same (inAuction x) (inAuction y) (below (R .b)) (λ k i. sym (ap (λ (z : ℕ). eqb z entered) (same k)));
+  figures-right = λ k h. record {
+    capacity = after (figuresPlace k) (omega arith) ∙ D .right k h .capacity;
+    years = λ i f j g. after (figurePlace k i + j) (omega arith) ∙ D .right k h .years i f j g;
+  };
+  limits-right = λ i h. G .kept i (omega arith) ∙ F .kept i h ∙ E .right i h;
+  cap-right = ap (λ (n : ℕ). pick (ltb (R .y) m) (some n) none) (G .kept (R .y) (omega arith)) ∙ F .right;
+  least = F .least;
+  most = F .most;
+  entered = G .right ∙ sift-same (inAuction y) (inAuction z) (below (R .b)) (λ k i. sym (ap (λ (x : ℕ). eqb x entered) (same k)));
 }
   where
-    same : (k : ℕ) → rowStanding y k ≡ rowStanding x k
-    same k = unfold rowStanding in F .rest (rowPlace k) (omega arith)
+    -- what stands from the administrative prices on was not changed after the figures
+    after : (j : ℕ) → adminsAt ≤ j → getD z j 0 ≡ getD w j 0
+    after j h = G .rest j h ∙ F .rest j (omega arith) ∙ E .rest j (omega arith)
+
+    same : (k : ℕ) → rowStanding z k ≡ rowStanding y k
+    same k = unfold rowStanding in G .rest (rowPlace k) (omega arith)
 
 -- ---- products
 
@@ -69,7 +83,7 @@ no-load price reference energy tlm rqm = simp (mul-zero, zero-mul)
 
 -- ---- the numbers of the sheet are those of the rows that the pot reads
 
-module _ (R : Round) (S : Sound R) (p : ℕ) {sheet : List ℕ} {n : ℕ} (W : Written R p sheet n) where
+module _ (R : Round) (S : Sound R) (p : ℕ) {sheet : List ℕ} {m n : ℕ} (W : Written R p sheet m n) where
   -- also after the last bid, where all is zero
   cell : (k j : ℕ) → j < 6 → getD sheet (rowPlace k + j) 0 ≡ getD (rowNumbers R p k) j 0
   unfolding rowNumbers
@@ -107,19 +121,24 @@ module _ (R : Round) (S : Sound R) (p : ℕ) {sheet : List ℕ} {n : ℕ} (W : W
     unfolding rowAdmin rowNumbers
     admin-is = cell k 5 (omega arith)
 
-    -- the figures at place k
+    -- the capacity at place k
+    capacity-is : k < places → capacityAt sheet k ≡ placed R p k .bid .capacity
+    unfolding capacityAt
+    capacity-is h = W .figures-right k h .capacity
+
+    -- and the figures there
     module _ (z : ℕ) (h : k < places) (l : z < R .y) where
       reference-is : figReference sheet k z ≡ placed R p k .reference z
       unfolding figReference figureNumbers
-      reference-is = ap (λ (i : ℕ). getD sheet i 0) (sym (add-zero (figurePlace k z))) ∙ W .figures-right k h z l 0 (omega arith)
+      reference-is = ap (λ (i : ℕ). getD sheet i 0) (sym (add-zero (figurePlace k z))) ∙ W .figures-right k h .years z l 0 (omega arith)
 
       energy-is : figEnergy sheet k z ≡ placed R p k .load z * energyOf (R .years) (placed R p k .bid) z
       unfolding figEnergy figureNumbers
-      energy-is = W .figures-right k h z l 1 (omega arith)
+      energy-is = W .figures-right k h .years z l 1 (omega arith)
 
       share-is : figShare sheet k z ≡ (whole - yearAt (R .years) z .tlm) * placed R p k .rqm
       unfolding figShare figureNumbers
-      share-is = W .figures-right k h z l 2 (omega arith)
+      share-is = W .figures-right k h .years z l 2 (omega arith)
 
       -- the exact cost at a strike price is that of the row whose figures they are
       parts-are : (strike : ℕ) {r : Row} → placed R p k ≡ r
@@ -184,7 +203,8 @@ module _ (R : Round) (S : Sound R) (p : ℕ) {sheet : List ℕ} {n : ℕ} (W : W
       let e : min (adminRow R p a .admin) (adminRow R p a .admin) ≡ adminRow R p a .admin = omega arith in
       rw (admin-price-is a, e) (parts-are (appPlace a) z (omega arith) l (adminRow R p a .admin) (own-place R p a))
 
-  own-cost-beyond : (a z : ℕ) → mostApps ≤ a → partsAt sheet (appPlace a) (adminOf sheet (R .n) a) z ≡ costOf (R .years) (adminRow R p a) (adminRow R p a .admin) z
+  own-cost-beyond : (a z : ℕ) → mostApps ≤ a
+      → partsAt sheet (appPlace a) (adminOf sheet (R .n) a) z ≡ costOf (R .years) (adminRow R p a) (adminRow R p a .admin) z
   unfolding partsAt costOf adminRow
   own-cost-beyond a z h =
       let m = app-out R p a (let m : R .n ≤ a = omega (arith, S .apps-few) in m) in
@@ -198,13 +218,39 @@ module _ (R : Round) (S : Sound R) (p : ℕ) {sheet : List ℕ} {n : ℕ} (W : W
       (λ t. rw t (case (ltb a mostApps) (λ u. own-cost-in a z (ltb-true a _ u) (ltb-true z _ t)) (λ u. own-cost-beyond a z (ltb-false a _ u))))
       (λ t. rw (t, own-load-out a z t) (sym (no-load _ _ _ _ _)))
 
+  -- ---- the capacities, of bids and applications of the pot alone
+
+  bid-capacity-is : (k : ℕ) → pick (inAuction sheet k) (capacityAt sheet k) 0 ≡ rowOf R p k .bid .capacity
+  unfolding rowOf placed
+  bid-capacity-is k =
+      case (mine R p k)
+      (λ t.
+      let h : k < mostBids = omega (arith, mine-in R p k t .0, S .bids-few) in
+      rw (standing-is k ∙ t, t) (capacity-is k (omega arith) ∙ rw (lt-ltb k mostBids h, t)))
+      (λ t. rw (standing-is k ∙ t, t))
+
+  app-capacity-is : (a : ℕ) → pick (ltb a (R .n)) (pick (inTest sheet a) (capacityAt sheet (appPlace a)) 0) 0 ≡ adminRow R p a .bid .capacity
+  app-capacity-is a =
+      case (ltb a (R .n))
+      (λ t.
+      let h : a < mostApps = omega (arith, S .apps-few, ltb-true a (R .n) t) in
+      rw (t, in-test R S p a sheet (admin-at a h))
+      (case (appMine R p a) (λ u. rw u (own a h)) (λ u. rw u (other a u))))
+      (λ t. rw t (other a (app-out R p a (ltb-false a (R .n) t))))
+    where
+      own : (a : ℕ) → a < mostApps → capacityAt sheet (appPlace a) ≡ adminRow R p a .bid .capacity
+      own a h = capacity-is (appPlace a) (omega arith) ∙ ap (λ (r : Row). r .bid .capacity) (own-place R p a)
+
+      other : (a : ℕ) → appMine R p a ≡ false → 0 ≡ adminRow R p a .bid .capacity
+      other a u = unfold adminRow in rw u
+
   -- ---- the pot
 
   budget-is : (z : ℕ) → pick (ltb z (R .y)) (limitAt sheet z) 0 ≡ budgetOf R p z
   unfolding limitAt
   budget-is z = case (ltb z (R .y)) (λ t. rw t (W .limits-right z (ltb-true z _ t))) (λ t. rw t)
 
-  pub shows : potIn sheet (sizeOf R n) ≡ potOf R p
+  pub shows : potIn sheet (sizeOf R m n) ≡ potOf R p
   unfolding potIn potOf assemble rowOf adminRow
   shows = λ i. record {
     bids = bids-are i;
@@ -218,8 +264,11 @@ module _ (R : Round) (S : Sound R) (p : ℕ) {sheet : List ℕ} {n : ℕ} (W : W
     budget = λ z. budget-is z i;
     draw = λ k. draw-is k i;
     admin = λ k. admin-is k i;
+    capacity = λ k. bid-capacity-is k i;
+    cap = W .cap-right i;
     adminPrice = λ a. admin-price-is a i;
     adminCost = λ a z. admin-cost-is a z i;
+    appCapacity = λ a. app-capacity-is a i;
   }
 
 -- ---- the ranges of a row's numbers
@@ -296,7 +345,7 @@ module _ (R : Round) (S : Sound R) (p : ℕ) (bytes : (i : ℕ) → getD (R .app
       energy-most (b .load z h)
       (hours-most z (placed R p k .bid .year) (placed R p k .bid .days) (yearAt (R .years) z .days) (b .days) (S .year z h .days-most)) (b .capacity) .1
 
-  module _ (h : p < R .p) {sheet : List ℕ} {n : ℕ} (W : Written R p sheet n) where
+  module _ (h : p < R .p) {sheet : List ℕ} {m n : ℕ} (W : Written R p sheet m n) where
     apart : (c d : ℕ) → c < R .b → d < R .b → inAuction sheet c ≡ true → inAuction sheet d ≡ true
         → rowPrice sheet c ≡ rowPrice sheet d → rowDraw sheet c ≡ rowDraw sheet d → c ≡ d
     unfolding potIn
@@ -304,18 +353,21 @@ module _ (R : Round) (S : Sound R) (p : ℕ) (bytes : (i : ℕ) → getD (R .app
         subst Lawful (sym (shows R S p W)) (lawful R p S) .apart c d (in-sift (inAuction sheet) (in-below c (R .b) i) t)
         (in-sift (inAuction sheet) (in-below d (R .b) j) u)
 
-    pub ready : Ready sheet (sizeOf R n)
+    pub ready : Ready sheet (sizeOf R m n)
     ready = record {
       few = S .bids-few;
       apps = S .apps-few;
       some = S .years-some;
       years = S .years-most;
+      columns-least = W .least;
+      columns-most = W .most;
       app = λ k l. rw (app-is R S p W k) (bounded k .app);
       year = λ k l. rw (year-is R S p W k) (bounded k .year);
       price = λ k l. rw (price-is R S p W k) (bounded k .price);
       admin = λ k l. rw (admin-is R S p W k) (bounded k .admin);
       draw = λ k l. rw (draw-is R S p W k) (bounded k .draw);
       admins = λ a l. rw (admin-at R S p W a (omega (arith, S .apps-few))) (bounded-own a .admin);
+      capacity = λ k l. rw (capacity-is R S p W k l) (bounded-at k .capacity);
       reference = λ k z l m. rw (reference-is R S p W k z l m) (bounded-at k .reference z m);
       energy = λ k z l m. rw (energy-is R S p W k z l m) (energy-in k z m);
       share = λ k z l m. rw (share-is R S p W k z l m) (share-most (yearAt (R .years) z .tlm) (bounded-at k .rqm));
@@ -324,6 +376,6 @@ module _ (R : Round) (S : Sound R) (p : ℕ) (bytes : (i : ℕ) → getD (R .app
       listed = W .entered;
     }
       where
-        limit-most : (z : ℕ) → getD sheet z 0 ≡ pencePerPound * budgetAt (R .y) (R .pots) p z → budgetAt (R .y) (R .pots) p z ≤ highestBudget
+        limit-most : (z : ℕ) → getD sheet z 0 ≡ pencePerPound * budgetAt (R .y) (R .c) (R .pots) p z → budgetAt (R .y) (R .c) (R .pots) p z ≤ highestBudget
             → limitAt sheet z ≤ pencePerPound * highestBudget
         limit-most z e g = unfold limitAt in rw e (omega arith)

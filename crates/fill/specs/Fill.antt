@@ -2,14 +2,16 @@
 use Prim.Native.Nat.{ℕ, _+_, _-_, _*_, _≤_, _<_}
 use mathlib.Core.Path.{_≡_}
 use mathlib.Core.List.{List}
+use mathlib.Core.Option.{none, some}
 use lib.ListN.{length, getD}
 use lib.Dec.{ltb}
 use Rattle.rules.specs.Names.{mostBids, mostApps, pencePerPound}
 use Rattle.rules.specs.Lists.{pick, sift, below}
 use Rattle.rules.specs.File.{Round, Bid, budgetAt}
-use Rattle.rules.specs.Round.{Row}
+use Rattle.rules.specs.Round.{Row, capOf}
 use Rattle.sheet.specs.declared.Size.{Size}
-use Rattle.sheet.specs.Sheet.{sheetLength, entrantsAt, adminsAt, figuresAt, rowsAt, figuresWidth, rowPlace, figuresPlace, figurePlace, entrants, inAuction}
+use Rattle.sheet.specs.Sheet.{sheetLength, entrantsAt, adminsAt, figuresAt, rowsAt, figuresWidth, rowPlace, figuresPlace, figurePlace, limitAt, entrants}
+use Rattle.sheet.specs.Sheet.{inAuction}
 use Rattle.rows.specs.Rows.{rowOf, adminRow, rowNumbers, figureNumbers, figuresIn}
 
 -- the numbers v stand at a place of s
@@ -49,25 +51,27 @@ Figured R t b k n sheet = (y : ℕ) → y < n → Stands (figuresIn R t b y) she
 unfoldable pub placed : Round → (p k : ℕ) → Row
 placed R p k = pick (ltb k mostBids) (rowOf R p k) (adminRow R p (k - mostBids))
 
--- the rows of the first n bids of pot p are right; the administrative prices of the first n applications; the figures of a row at place k; those at the first
--- n places; the first n limits
+-- the rows of the first n bids of pot p are right; the administrative prices of the first n applications; the capacity and the figures of a row at place k;
+-- those at the first n places; the first n limits
 abbrev pub RowsRight : Round → (p n : ℕ) → List ℕ → Type 0
 RowsRight R p n sheet = (k : ℕ) → k < n → Stands (rowNumbers R p k) sheet (rowPlace k)
 
 abbrev pub AdminsRight : Round → (p n : ℕ) → List ℕ → Type 0
 AdminsRight R p n sheet = (a : ℕ) → a < n → getD sheet (adminsAt + a) 0 ≡ adminRow R p a .admin
 
-abbrev pub FiguresRight : Round → Row → (k : ℕ) → List ℕ → Type 0
-FiguresRight R r k sheet = (y : ℕ) → y < R .y → Stands (figureNumbers R r y) sheet (figurePlace k y)
+pub record FiguresRight (R : Round) (r : Row) (k : ℕ) (sheet : List ℕ) : Type 0 where
+  pub capacity : getD sheet (figuresPlace k) 0 ≡ r .bid .capacity
+  pub years : (y : ℕ) → y < R .y → Stands (figureNumbers R r y) sheet (figurePlace k y)
 
 abbrev pub AllFigures : Round → (p n : ℕ) → List ℕ → Type 0
 AllFigures R p n sheet = (k : ℕ) → k < n → FiguresRight R (placed R p k) k sheet
 
-abbrev pub LimitsRight : (years : ℕ) (pots : List ℕ) (p n : ℕ) → List ℕ → Type 0
-LimitsRight years pots p n sheet = (y : ℕ) → y < n → getD sheet y 0 ≡ pencePerPound * budgetAt years pots p y
+abbrev pub LimitsRight : (years cap : ℕ) (pots : List ℕ) (p n : ℕ) → List ℕ → Type 0
+LimitsRight years cap pots p n sheet = (y : ℕ) → y < n → getD sheet y 0 ≡ pencePerPound * budgetAt years cap pots p y
 
--- ---- from s to t: the rows of all bids were written; the administrative prices of all applications; the figures of one bid at place k; those at all places
--- below n; the limits; the first n of m bids that enter. Nothing else was changed, and t is as long as a sheet
+-- ---- from s to t: the rows of all bids were written; the administrative prices of all applications; the capacity and the figures of one bid at place k; those
+-- at all places below n; the limits of the years; the cap, with which there are m limits; the first n of m bids that enter. Nothing else was changed, and t is
+-- as long as a sheet
 pub record RowsWritten (R : Round) (p : ℕ) (s t : List ℕ) : Type 0 where
   pub right : RowsRight R p mostBids t
   pub kept : Kept rowsAt s t
@@ -80,6 +84,7 @@ pub record AdminsWritten (R : Round) (p : ℕ) (s t : List ℕ) : Type 0 where
   pub long : length t ≡ sheetLength
 
 pub record FiguresOf (R : Round) (t : ℕ) (b : Bid) (k : ℕ) (s u : List ℕ) : Type 0 where
+  pub capacity : getD u (figuresPlace k) 0 ≡ b .capacity
   pub right : Figured R t b k (R .y) u
   pub kept : Kept (figuresPlace k) s u
   pub rest : Rest (figuresPlace k + figuresWidth) s u
@@ -92,7 +97,15 @@ pub record FiguresWritten (R : Round) (p n : ℕ) (s t : List ℕ) : Type 0 wher
   pub long : length t ≡ sheetLength
 
 pub record LimitsWritten (R : Round) (p : ℕ) (s t : List ℕ) : Type 0 where
-  pub right : LimitsRight (R .y) (R .pots) p (R .y) t
+  pub right : LimitsRight (R .y) (R .c) (R .pots) p (R .y) t
+  pub rest : Rest entrantsAt s t
+  pub long : length t ≡ sheetLength
+
+pub record CapWritten (R : Round) (p : ℕ) (s t : List ℕ) (m : ℕ) : Type 0 where
+  pub right : pick (ltb (R .y) m) (some (limitAt t (R .y))) none ≡ capOf R p
+  pub least : R .y ≤ m
+  pub most : m ≤ R .y + 1
+  pub kept : Kept (R .y) s t
   pub rest : Rest entrantsAt s t
   pub long : length t ≡ sheetLength
 
@@ -103,6 +116,6 @@ pub record Entered (m : ℕ) (s t : List ℕ) (n : ℕ) : Type 0 where
   pub rest : Rest adminsAt s t
   pub long : length t ≡ sheetLength
 
--- the size of a round's sheet, where n bids enter
-abbrev pub sizeOf : Round → ℕ → Size
-sizeOf R n = record { years = R .y; bids = R .b; applications = R .n; entered = n }
+-- the size of a round's sheet that has m limits, where n bids enter
+abbrev pub sizeOf : Round → (m n : ℕ) → Size
+sizeOf R m n = record { years = R .y; columns = m; bids = R .b; applications = R .n; entered = n }

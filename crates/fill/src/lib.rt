@@ -14,7 +14,7 @@ ghost use Rattle.layout.specs.Layout.{bidShown};
 ghost use Rattle.sheet.specs.Sheet.{sheetLength, places, potIn, Ready};
 ghost use Rattle.rows.specs.Rows.{roundIn, Held};
 ghost use Rattle.fill.specs.Fill.{Blank, BlankAdmins, BlankFrom, Put, RowsRight, AdminsRight, AllFigures, RowsWritten, AdminsWritten, FiguresOf};
-ghost use Rattle.fill.specs.Fill.{FiguresWritten, LimitsWritten, Entered, sizeOf};
+ghost use Rattle.fill.specs.Fill.{FiguresWritten, LimitsWritten, CapWritten, Entered, sizeOf};
 
 // The numbers v at a place of the sheet.
 fn put(sheet: &mut Sheet, at: usize, v: &[u64])
@@ -57,19 +57,20 @@ fn fill_admins(file: &[u8], sections: Sections, p: usize, sheet: &mut Sheet)
     }
 }
 
-// The figures of a bid of technology t, or of an application at its administrative price, at place k, in the years of the file.
+// The capacity and the figures of a bid of technology t, or of an application at its administrative price, at place k, in the years of the file.
 fn fill_years(file: &[u8], sections: Sections, t: usize, bid: Bid, k: usize, sheet: &mut Sheet)
     requires { ⌜ Held (now file) sections × (length (now sheet) ≡ sheetLength) ⌝ }
     requires { ⌜ (t < sections .technologies) × (bid .days ≤ longYear) × (bid .capacity ≤ largestCapacity) × (k < places) ⌝ }
     ensures { λ _. ⌜ FiguresOf (roundIn (now (file .entry)) sections) t (bidShown bid) k (now (sheet .entry)) (now (sheet .exit)) ⌝ }
 {
     let years = sections.years;
+    sheet[sheet::FIGURES_AT + k * sheet::FIGURES] = bid.capacity;
     let mut y: usize = 0;
     while y < years {
         let v = rows::figure(file, sections, t, bid, y);
         put(
             sheet,
-            sheet::FIGURES_AT + k * sheet::FIGURES + y * sheet::FIGURE,
+            sheet::FIGURES_AT + k * sheet::FIGURES + 1 + y * sheet::FIGURE,
             &v,
         );
         y += 1;
@@ -111,18 +112,38 @@ fn fill_admin_figures(file: &[u8], sections: Sections, p: usize, sheet: &mut She
     }
 }
 
-// The limits: the budgets of pot p, in pence.
+// The limits of the years: the budgets of pot p, in pence.
 fn fill_limits(file: &[u8], sections: Sections, p: usize, sheet: &mut Sheet)
     requires { ⌜ Held (now file) sections × (p < sections .pots) × (length (now sheet) ≡ sheetLength) ⌝ }
     ensures { λ _. ⌜ LimitsWritten (roundIn (now (file .entry)) sections) p (now (sheet .entry)) (now (sheet .exit)) ⌝ }
 {
     let recs = parts::pots(file, sections);
     let years = sections.years;
+    let cap_width = sections.cap_width;
     let mut y: usize = 0;
     while y < years {
-        sheet[y] = value::pence(pot::budget(recs, years, p, y));
+        sheet[y] = value::pence(pot::budget(recs, years, cap_width, p, y));
         y += 1;
     }
+}
+
+// The cap of pot p, if it has one, as the limit after those of the years; how many limits there are then.
+fn fill_cap(file: &[u8], sections: Sections, p: usize, sheet: &mut Sheet) -> usize
+    requires { ⌜ Held (now file) sections × (p < sections .pots) × (length (now sheet) ≡ sheetLength) ⌝ }
+    ensures { λ r. ⌜ CapWritten (roundIn (now (file .entry)) sections) p (now (sheet .entry)) (now (sheet .exit)) r ⌝ }
+{
+    let years = sections.years;
+    let cap_width = sections.cap_width;
+    if cap_width == 0 {
+        return years;
+    }
+    let recs = parts::pots(file, sections);
+    let cap = pot::cap(recs, years, cap_width, p);
+    if cap == names::NO_CAP {
+        return years;
+    }
+    sheet[years] = cap;
+    years + 1
 }
 
 // The bids that enter the auction, among the first m, and how many these are.
@@ -147,17 +168,19 @@ pub fn fill(file: &[u8], sections: Sections, p: usize, sheet: &mut Sheet) -> Siz
     requires { ⌜ Held (now file) sections × (p < sections .pots) ⌝ }
     requires { ⌜ (length (now sheet) ≡ sheetLength) × Blank (now sheet) ⌝ }
     ensures { λ r. ⌜ (potIn (now (sheet .exit)) r ≡ potOf (roundIn (now (file .entry)) sections) p) × Ready (now (sheet .exit)) r ⌝ }
-    ensures { λ r. ⌜ r ≡ sizeOf (roundIn (now (file .entry)) sections) (r .entered) ⌝ }
+    ensures { λ r. ⌜ r ≡ sizeOf (roundIn (now (file .entry)) sections) (r .columns) (r .entered) ⌝ }
 {
     fill_rows(file, sections, p, sheet);
     fill_admins(file, sections, p, sheet);
     fill_figures(file, sections, p, sheet);
     fill_admin_figures(file, sections, p, sheet);
     fill_limits(file, sections, p, sheet);
+    let columns = fill_cap(file, sections, p, sheet);
     let bids = sections.bids;
     let entered = fill_entrants(bids, sheet);
     Size {
         years: sections.years,
+        columns,
         bids,
         applications: sections.applications,
         entered,

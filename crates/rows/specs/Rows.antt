@@ -21,6 +21,7 @@ roundIn s sections = record {
   bids = bidsIn s sections;
   y = sections .years;
   d = sections .deliveries;
+  c = sections .«cap_width»;
   p = sections .pots;
   t = sections .technologies;
   n = sections .applications;

@@ -1,12 +1,13 @@
--- The sheet of a pot: its limits, its bids, its applications' administrative prices, the rows of all bids, and the yearly figures of bids and applications, as
--- numbers in one list; and the pot that it shows. How much of the list is used, a size says. Assumes nothing.
+-- The sheet of a pot: its limits, its bids, its applications' administrative prices, the rows of all bids, and the capacities and yearly figures of bids and
+-- applications, as numbers in one list; and the pot that it shows. How much of the list is used, a size says. Assumes nothing.
 use Prim.Native.Nat.{ℕ, zero, suc, _+_, _-_, _*_, _≤_, _<_, min}
 use mathlib.Core.Bool.{Bool, true, not}
 use mathlib.Core.Path.{_≡_}
+use mathlib.Core.Option.{none, some}
 use mathlib.Core.List.{List, [], _∷_}
 use lib.Dec.{eqb, ltb}
 use lib.ListN.{getD}
-use Rattle.rules.specs.Names.{mostBids, mostApps, mostYears, mostDeliveries, highestPrice, highestBudget, pencePerPound}
+use Rattle.rules.specs.Names.{mostBids, mostApps, mostYears, mostDeliveries, highestPrice, highestBudget, largestCapacity, pencePerPound}
 use Rattle.rules.specs.Lists.{pick, sift, below}
 use Rattle.rules.specs.Value.{penny, mostEnergy, mostShare}
 use Rattle.rules.specs.Pot.{Pot}
@@ -15,11 +16,11 @@ use Rattle.sheet.specs.declared.Size.{Size}
 -- ---- what stands where: a limit for each column, the bids of the pot, the administrative prices of its applications, the figures, and last the rows of the
 -- bids: there is no number after them, so that a bid past the last has a row of zeros
 
--- the columns of a row of totals: the years' money
+-- the columns of a row of totals: the years' money, and after it the capacity, where the pot has a cap on it
 abbrev pub columns : ℕ
-columns = mostYears
+columns = mostYears + 1
 
--- the numbers of a bid's row; of its figures in a year, and of those in all years
+-- the numbers of a bid's row; of its figures in a year, and of its capacity and those in all years
 abbrev pub rowWidth : ℕ
 rowWidth = 6
 
@@ -27,7 +28,7 @@ abbrev pub figureWidth : ℕ
 figureWidth = 3
 
 abbrev pub figuresWidth : ℕ
-figuresWidth = columns * figureWidth
+figuresWidth = 1 + mostYears * figureWidth
 
 -- the places for figures: those of bid k stand at place k, and after those of all bids the applications' have their places
 abbrev pub places : ℕ
@@ -51,7 +52,7 @@ rowsAt = figuresAt + places * figuresWidth
 abbrev pub sheetLength : ℕ
 sheetLength = rowsAt + mostBids * rowWidth
 
--- where the row of bid k starts; the figures at place k, and those of year y
+-- where the row of bid k starts; the capacity at place k, which the figures follow, and those of year y
 abbrev pub rowPlace : (k : ℕ) → ℕ
 rowPlace k = rowsAt + k * rowWidth
 
@@ -59,9 +60,9 @@ abbrev pub figuresPlace : (k : ℕ) → ℕ
 figuresPlace k = figuresAt + k * figuresWidth
 
 abbrev pub figurePlace : (k y : ℕ) → ℕ
-figurePlace k y = figuresPlace k + y * figureWidth
+figurePlace k y = figuresPlace k + 1 + y * figureWidth
 
--- the limit of column c: the budget of a year, in pence
+-- the limit of column c: the budget of a year, in pence; in the column after the years the cap
 unfoldable pub limitAt : List ℕ → ℕ → ℕ
 limitAt sheet c = getD sheet c 0
 
@@ -104,7 +105,10 @@ rowDraw sheet k = getD sheet (rowPlace k + 4) 0
 unfoldable pub rowAdmin : List ℕ → ℕ → ℕ
 rowAdmin sheet k = getD sheet (rowPlace k + 5) 0
 
--- ---- the figures at place k in a year: reference price, load factor × hours × capacity, (1 − TLM) × RQM
+-- ---- the capacity at place k; and the figures there in a year: reference price, load factor × hours × capacity, (1 − TLM) × RQM
+unfoldable pub capacityAt : List ℕ → (k : ℕ) → ℕ
+capacityAt sheet k = getD sheet (figuresPlace k) 0
+
 unfoldable pub figReference : List ℕ → (k y : ℕ) → ℕ
 figReference sheet k y = getD sheet (figurePlace k y) 0
 
@@ -122,7 +126,7 @@ partsAt sheet k strike y = (strike - figReference sheet k y) * figEnergy sheet k
 unfoldable pub sheetCost : List ℕ → (k price y : ℕ) → ℕ
 sheetCost sheet k price y = partsAt sheet k (min price (rowAdmin sheet k)) y
 
--- ---- the pot that a sheet shows, of a size: so many years, bids and applications
+-- ---- the pot that a sheet shows, of a size: so many years, columns, bids and applications
 abbrev pub inAuction : List ℕ → (k : ℕ) → Bool
 inAuction sheet k = eqb (rowStanding sheet k) entered
 
@@ -146,8 +150,11 @@ potIn sheet of = record {
   budget = λ y. pick (ltb y (of .years)) (limitAt sheet y) 0;
   draw = rowDraw sheet;
   admin = rowAdmin sheet;
+  capacity = λ k. pick (inAuction sheet k) (capacityAt sheet k) 0;
+  cap = pick (ltb (of .years) (of .columns)) (some (limitAt sheet (of .years))) none;
   adminPrice = adminOf sheet (of .applications);
   adminCost = λ a y. pick (ltb y (of .years)) (partsAt sheet (appPlace a) (adminOf sheet (of .applications) a) y) 0;
+  appCapacity = λ a. pick (ltb a (of .applications)) (pick (inTest sheet a) (capacityAt sheet (appPlace a)) 0) 0;
 }
 
 -- what has been seen to before a pot is cleared
@@ -156,12 +163,16 @@ pub record Ready (sheet : List ℕ) (of : Size) : Type 0 where
   pub apps : of .applications ≤ mostApps
   pub some : 0 < of .years
   pub years : of .years ≤ mostYears
+  -- a column for each year, and at most one more
+  pub columns-least : of .years ≤ of .columns
+  pub columns-most : of .columns ≤ of .years + 1
   pub app : (k : ℕ) → k < of .bids → rowApp sheet k < mostApps
   pub year : (k : ℕ) → k < of .bids → rowYear sheet k < mostDeliveries
   pub price : (k : ℕ) → k < of .bids → rowPrice sheet k ≤ highestPrice
   pub admin : (k : ℕ) → k < of .bids → rowAdmin sheet k ≤ highestPrice
   pub draw : (k : ℕ) → k < of .bids → rowDraw sheet k < 65536
   pub admins : (a : ℕ) → a < of .applications → adminAt sheet a ≤ highestPrice
+  pub capacity : (k : ℕ) → k < places → capacityAt sheet k ≤ largestCapacity
   pub reference : (k y : ℕ) → k < places → y < of .years → figReference sheet k y ≤ highestPrice
   pub energy : (k y : ℕ) → k < places → y < of .years → figEnergy sheet k y ≤ mostEnergy
   pub share : (k y : ℕ) → k < places → y < of .years → figShare sheet k y ≤ mostShare

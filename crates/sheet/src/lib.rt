@@ -1,31 +1,33 @@
-// The sheet of a pot: its limits, its bids, its applications' administrative prices, the rows of all bids, and the yearly figures of bids and applications, as
-// numbers in one lent array, which the first test and the auction read; and its size. specs/Sheet.antt says what stands where.
+// The sheet of a pot: its limits, its bids, its applications' administrative prices, the rows of all bids, and the capacities and yearly figures of bids and
+// applications, as numbers in one lent array, which the first test and the auction read; and its size. specs/Sheet.antt says what stands where.
 ghost use mathlib.Core.Path.{_≡_};
 ghost use Prim.Native.Nat.{_<_};
-ghost use Rattle.rules.specs.Names.{mostBids, mostApps};
+ghost use Rattle.rules.specs.Names.{mostBids, mostApps, mostYears};
 ghost use Rattle.sheet.specs.Sheet.{columns, places, limitAt, entrantAt, adminAt, inAuction, inTest, rowApp, rowYear, rowPrice, rowDraw, rowAdmin};
-ghost use Rattle.sheet.specs.Sheet.{figReference, figEnergy, figShare};
+ghost use Rattle.sheet.specs.Sheet.{capacityAt, figReference, figEnergy, figShare};
 
-// How much of a sheet is used: the years, bids and applications of the file; and how many of the bids are of the pot, and enter its auction.
+// How much of a sheet is used: the years, bids and applications of the file; the columns of a row of the pot's totals; and how many of the bids are of the pot,
+// and enter its auction.
 pub struct Size {
     pub years: usize,
+    pub columns: usize,
     pub bids: usize,
     pub applications: usize,
     pub entered: usize,
 }
 
-// The columns of a row of totals, and of the limits that it is held to: the years' money.
-pub const COLUMNS: usize = names::YEARS;
+// The columns of a row of totals, and of the limits that it is held to: the years' money, and after it the capacity, where the pot has a cap on it.
+pub const COLUMNS: usize = names::YEARS + 1;
 
 // Places for figures: for those of the bids, by number, and after them for those of the applications.
 pub const PLACES: usize = names::BIDS + names::APPS;
 
-// Numbers to a row of a bid; to a year of its figures, and to all years of them.
+// Numbers to a row of a bid; to a year of its figures, and to its capacity and all years of them.
 pub const ROW: usize = 6;
 
 pub const FIGURE: usize = 3;
 
-pub const FIGURES: usize = COLUMNS * FIGURE;
+pub const FIGURES: usize = 1 + names::YEARS * FIGURE;
 
 // Where the entrants, the administrative prices, the figures and the rows start, after the limits; and the whole.
 pub const ENTRANTS_AT: usize = COLUMNS;
@@ -120,24 +122,32 @@ pub fn admin(sheet: &Sheet, k: usize) -> u64
     sheet[ROWS_AT + k * ROW + 5]
 }
 
+// The capacity at place k.
+pub fn capacity(sheet: &Sheet, k: usize) -> u64
+    requires { ⌜ k < places ⌝ }
+    ensures { λ r. ⌜ r ≡ capacityAt (now (sheet .entry)) k ⌝ }
+{
+    sheet[FIGURES_AT + k * FIGURES]
+}
+
 // The figures at place k, in year y.
 pub fn reference(sheet: &Sheet, k: usize, y: usize) -> u64
-    requires { ⌜ (k < places) × (y < columns) ⌝ }
+    requires { ⌜ (k < places) × (y < mostYears) ⌝ }
     ensures { λ r. ⌜ r ≡ figReference (now (sheet .entry)) k y ⌝ }
 {
-    sheet[FIGURES_AT + k * FIGURES + y * FIGURE]
+    sheet[FIGURES_AT + k * FIGURES + 1 + y * FIGURE]
 }
 
 pub fn energy(sheet: &Sheet, k: usize, y: usize) -> u64
-    requires { ⌜ (k < places) × (y < columns) ⌝ }
+    requires { ⌜ (k < places) × (y < mostYears) ⌝ }
     ensures { λ r. ⌜ r ≡ figEnergy (now (sheet .entry)) k y ⌝ }
 {
-    sheet[FIGURES_AT + k * FIGURES + y * FIGURE + 1]
+    sheet[FIGURES_AT + k * FIGURES + 1 + y * FIGURE + 1]
 }
 
 pub fn share(sheet: &Sheet, k: usize, y: usize) -> u64
-    requires { ⌜ (k < places) × (y < columns) ⌝ }
+    requires { ⌜ (k < places) × (y < mostYears) ⌝ }
     ensures { λ r. ⌜ r ≡ figShare (now (sheet .entry)) k y ⌝ }
 {
-    sheet[FIGURES_AT + k * FIGURES + y * FIGURE + 2]
+    sheet[FIGURES_AT + k * FIGURES + 1 + y * FIGURE + 2]
 }

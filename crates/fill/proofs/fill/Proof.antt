@@ -21,8 +21,13 @@ fill-figures-requires : tie.Need-fill-figures-requires
 fill-figures-requires c κs =
     let pre = c .before .before .before .before .before .before .pre in
     let rows = c .before .before .before .fill-rows .ensures in
-    let admins = c .before .fill-admins .ensures in
-    ((pre .0 .0, admins .long), (λ k h j l. admins .rest _ (omega arith) ∙ rows .right k h j l, λ j h l. admins .rest j (omega arith) ∙ rows .kept j (omega arith) ∙ pre .1 .1 j))
+    let admins = c .before .fill-admins .ensures in (
+      (pre .0 .0, admins .long),
+      (
+        λ k h j l. admins .rest _ (omega arith) ∙ rows .right k h j l,
+        λ j h l. admins .rest j (omega arith) ∙ rows .kept j (omega arith) ∙ pre .1 .1 j,
+      ),
+    )
 
 fill-admin-figures-requires : tie.Need-fill-admin-figures-requires
 fill-admin-figures-requires c κs =
@@ -42,27 +47,37 @@ fill-limits-requires c κs =
     let pre = c .before .before .before .before .before .before .before .before .before .before .pre in
     (pre .0 .0, pre .0 .1, c .before .fill-admin-figures .ensures .long)
 
+fill-cap-requires : tie.Need-fill-cap-requires
+fill-cap-requires c κs =
+    let pre = c .before .before .before .before .before .before .before .before .before .before .before .before .pre in
+    (pre .0 .0, pre .0 .1, c .before .fill-limits .ensures .long)
+
 fill-entrants-requires : tie.Need-fill-entrants-requires
-fill-entrants-requires c κs = (c .before .before .before .before .before .before .before .before .before .before .before .before .pre .0 .0 .sound .bids-few, c .before .fill-limits .ensures .long)
+fill-entrants-requires c κs =
+    let pre = c .before .before .before .before .before .before .before .before .before .before .before .before .before .before .pre in
+    (pre .0 .0 .sound .bids-few, c .before .fill-cap .ensures .long)
 
 returns : tie.Need-returns
 returns c =
-    let a = c .before .before .before .before .before .before .before .before .before .before .before .before .before .args in
-    let pre = c .before .before .before .before .before .before .before .before .before .before .before .before .before .pre in
-    let rows = c .before .before .before .before .before .before .before .before .before .before .fill-rows .ensures in
-    let admins = c .before .before .before .before .before .before .before .before .fill-admins .ensures in
-    let figures = c .before .before .before .before .before .before .fill-figures .ensures in
-    let own = c .before .before .before .before .fill-admin-figures .ensures in
-    let limits = c .before .before .fill-limits .ensures in
+    let past = c .before .before .before .before .before .before .before .before .before .before .before .before .before .before .before in
+    let a = past .args in
+    let pre = past .pre in
+    let rows = c .before .before .before .before .before .before .before .before .before .before .before .before .fill-rows .ensures in
+    let admins = c .before .before .before .before .before .before .before .before .before .before .fill-admins .ensures in
+    let figures = c .before .before .before .before .before .before .before .before .fill-figures .ensures in
+    let own = c .before .before .before .before .before .before .fill-admin-figures .ensures in
+    let limits = c .before .before .before .before .fill-limits .ensures in
+    let cap = c .before .before .fill-cap .ensures in
     let s = now (a .file) in
     let z = a .sections in
     let R = roundIn s z in
     let S = pre .0 .0 .sound in
-    let w = written (S .years-most) rows admins figures own limits (c .fill-entrants .ensures) in
-    let bytes = c .before .before .before .before .before .before .before .before .before .before .before .before .shared-slice-known .given in
+    let w = written (S .years-most) rows admins figures own limits cap (c .fill-entrants .ensures) in
+    let bytes = c .before .before .before .before .before .before .before .before .before .before .before .before .before .before .shared-slice-known .given in
     let byte = part-byte s (z .«applications_at» + countWidth) (z .«bids_at») (λ i. omega (arith, bytes i)) in
     ((shows R S (a .p) w, ready R S (a .p) byte (pre .0 .1) w), refl)
 
 pub fill-spec : {M : Type 1} → statement M
 fill-spec =
-    tie.close (tie.spec (λ c κs. search needs) fill-admins-requires fill-figures-requires fill-admin-figures-requires fill-limits-requires fill-entrants-requires returns)
+    tie.close (tie.spec (λ c κs. search needs) fill-admins-requires fill-figures-requires fill-admin-figures-requires fill-limits-requires fill-cap-requires
+    fill-entrants-requires returns)

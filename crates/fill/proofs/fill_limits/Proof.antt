@@ -14,11 +14,11 @@ use Rattle.fill.proofs.fill_limits.Statement.{statement}
 use Rattle.fill.proofs.fill_limits.Tie as tie
 
 abbrev Inv-loop : tie.InvT-loop
-Inv-loop file p sheet₀ recs years y₀ sheet y =
-    (y ≤ years) × (length sheet ≡ sheetLength) × LimitsRight years recs p y sheet × Rest entrantsAt sheet₀ sheet
+Inv-loop file p sheet₀ recs years cap y₀ sheet y =
+    (y ≤ years) × (length sheet ≡ sheetLength) × LimitsRight years cap recs p y sheet × Rest entrantsAt sheet₀ sheet
 
 abbrev μ-loop : tie.MeasureT-loop
-μ-loop file p sheet₀ recs years y₀ sheet y = years - y
+μ-loop file p sheet₀ recs years cap y₀ sheet y = years - y
 
 loop-holds : tie.Need-loop-holds Inv-loop μ-loop
 loop-holds c = (omega arith, c .before .before .pre .2, λ i h. absurd (omega arith), λ j h. refl)
@@ -45,7 +45,7 @@ loop-again c =
     let small = pre .0 .sound .years-most in (
       omega arith,
       simp length-set (loop .inv .1),
-      limits-more _ _ _ _ (loop .sheet) (omega (arith, loop .inv .1, taken, small)) (loop .inv .2)
+      limits-more _ _ _ _ _ (loop .sheet) (omega (arith, loop .inv .1, taken, small)) (loop .inv .2)
           (c .pence .ensures ∙ ap (λ (x : ℕ). pencePerPound * x) (c .before .budget .ensures)),
       rest-set entrantsAt _ (now (a .sheet)) (loop .sheet) (c .pence .result) (omega (arith, taken, small)) (loop .inv .3),
     )
@@ -60,5 +60,5 @@ returns c =
 
 pub fill-limits-spec : {M : Type 1} → statement M
 fill-limits-spec =
-    tie.close (tie.spec Inv-loop μ-loop (λ c κs. search needs) loop-holds budget-requires pence-requires (λ c. search needs) element-write-sheet (λ c. search needs)
-    (λ c. search needs) loop-again returns)
+    tie.close (tie.spec Inv-loop μ-loop (λ c κs. search needs) loop-holds budget-requires pence-requires (λ c. search needs) element-write-sheet
+    (λ c. search needs) (λ c. search needs) loop-again returns)

@@ -11,4 +11,4 @@ returns c = search needs
 pub energy-spec : {M : Type 1} → statement M
 energy-spec =
     tie.close (tie.spec (λ c. search needs) (λ c. search needs) (λ c. search needs) (λ c. search needs) (λ c. search needs) (λ c. search needs)
-    (λ c. search needs) returns)
+    (λ c. search needs) (λ c. search needs) returns)

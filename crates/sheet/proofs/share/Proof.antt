@@ -11,4 +11,4 @@ returns c = search needs
 pub share-spec : {M : Type 1} → statement M
 share-spec =
     tie.close (tie.spec (λ c. search needs) (λ c. search needs) (λ c. search needs) (λ c. search needs) (λ c. search needs) (λ c. search needs)
-    (λ c. search needs) returns)
+    (λ c. search needs) (λ c. search needs) returns)
