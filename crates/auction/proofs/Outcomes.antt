@@ -17,21 +17,21 @@ use Rattle.result.specs.Tells.{untold}
 use Rattle.rules.specs.declared.Told.{Told}
 use Rattle.laws_pot.specs.Lists.{case, clash, In, here, memb-in, sift-in, sift-same, sift-both, below-in}
 use Rattle.sheet.specs.declared.Size.{Size}
-use Rattle.sheet.specs.Sheet.{adminAt, rowApp, rowYear, rowAdmin, inAuction, entrantAt, entrants, potIn, Ready}
+use Rattle.sheet.specs.Sheet.{columns, adminAt, rowApp, rowYear, rowAdmin, inAuction, entrantAt, entrants, potIn, Ready}
 use Rattle.sheet.proofs.Entrants.{entrant-small}
 use Rattle.arrays.proofs.Arrays.{at-start, fill-each, repeated}
-use Rattle.totals.specs.Totals.{totalOf, filled, rowFits, adminTotalOf}
+use Rattle.totals.specs.Totals.{filled, rowFits, adminTotalOf}
 use Rattle.totals.proofs.Link as link
 use Rattle.ties.proofs.Sums.{price-won}
 use Rattle.pot.specs.declared.PotState.{PotState}
-use Rattle.pot.specs.Marks.{yearSum, Summed}
+use Rattle.pot.specs.Marks.{columnSum, Summed}
 use Rattle.pot.specs.Rep.{Rep, Stands}
 use Rattle.pot.proofs.Sums.{sum-total}
 use Rattle.pot.proofs.Link as held
 use Rattle.auction.specs.declared.End.{End}
 use Rattle.auction.specs.Cleared.{ClearedAs, EndedAs}
-use Rattle.auction.specs.Numbers.{reasonBy, reasonAt, reasonsOf, automaticsOf, winningOf, atAdmin, toldBy, noApps, appsOf, flatOf, soldOf}
-use Rattle.auction.proofs.Places.{row-each, reasons-at, automatics-at, bidOr, wonFor, winning-at}
+use Rattle.auction.specs.Numbers.{reasonBy, reasonAt, reasonsOf, automaticsOf, winningOf, atAdmin, toldBy, noApps, appsOf, flatOf, soldOf, moneyOf}
+use Rattle.auction.proofs.Places.{money-each, reasons-at, automatics-at, bidOr, wonFor, winning-at}
 
 module _ (sheet : List ℕ) (of : Size) (ok : Ready sheet of) where
   abbrev P : Pot
@@ -121,11 +121,15 @@ module _ (sheet : List ℕ) (of : Size) (ok : Ready sheet of) where
         app-won e = unfold potIn in ap (λ (x : Bool). pick x 4 5) e
 
     -- the row of totals
-    total-told : Summed sheet of s → (z : ℕ) → z < of .years → yearSum (s .sums) z ≡ total P ws z
-    total-told Q z g =
-        sum-total (Q .parts) z g ok others
-        ∙ sym (link.row-at sheet of ok (λ z. totalOf sheet marks (s .prices) z (of .bids)) z g) ∙ held.row-at sheet of ok ws s (held.holds-rep R) z g
+    total-told : Summed sheet of s → (y : ℕ) → y < of .years → getD (s .totals) y 0 ≡ total P ws y
+    total-told Q y g =
+        let c : y < of .columns = omega (arith, ok .columns-least) in
+        ap (λ (l : List ℕ). getD l y 0) (Q .row) ∙ link.row-at sheet of ok (columnSum (s .sums)) y c ∙ sum-total (Q .parts) y c ok others
+        ∙ held.total-is sheet of ok ws s (held.holds-rep R) y ∙ link.total-column P ws y (year g)
       where
+        year : {y : ℕ} → y < of .years → y < P .years
+        year h = unfold potIn in h
+
         others : (k : ℕ) → k < of .bids → inAuction sheet k ≡ false → eqb (getD marks k 0) becauseWon ≡ false
         others k h f = rw (R .other k (link.small sheet of ok k h) (link.not-bid sheet of ok k f))
 
@@ -135,9 +139,7 @@ module _ (sheet : List ℕ) (of : Size) (ok : Ready sheet of) where
     sold t u Q = record {
       outcome = unfold outcome in rw (t, u);
       price = λ d h. R .price d h ∙ (unfold priceIn in rw (t, u));
-      total = λ y.
-          ap (λ (l : List ℕ). getD l y 0) (Q .row)
-          ∙ row-each (yearSum (s .sums)) (totalIn P) (of .years) (ok .years) (λ z g. total-told Q z g ∙ (unfold totalIn in rw (t, u))) y;
+      total = λ y g. total-told Q y g ∙ (unfold totalIn in rw (t, u));
       reason = λ k i. reason-told k i ∙ (unfold reason in rw (t, u));
       app = λ a h.
           ap (λ (w : ℕ). toldBy sheet of (s .prices) a w (automaticReason P a)) (winning-told a (omega (arith, ok .apps)))
@@ -164,16 +166,15 @@ module _ (sheet : List ℕ) (of : Size) (ok : Ready sheet of) where
   unfolding toldBy
   lost a x = rw (le-ltb noBid (of .bids) (omega (arith, ok .few)))
 
-  admin : adminFits P ≡ true → {totals : List ℕ} → totals ≡ filled (λ z. adminTotalOf sheet z (of .applications)) (of .years)
+  admin : adminFits P ≡ true → {totals : List ℕ} → totals ≡ filled (λ c. adminTotalOf sheet of c (of .applications)) (of .columns)
       → EndedAs sheet of (flatOf 0 totals becauseAdministrative atAdmin)
   unfolding flatOf
   admin t {totals} e = record {
     outcome = unfold outcome in rw t;
     price = λ d h. at-start mostDeliveries d noPrice 0 h ∙ (unfold priceIn in rw t);
-    total = λ y.
-        ap (λ (l : List ℕ). getD l y 0) e
-        ∙ row-each (λ z. adminTotalOf sheet z (of .applications)) (totalIn P) (of .years) (ok .years)
-        (λ z g. link.admin-total-is sheet of ok z g ∙ (unfold totalIn in rw t)) y;
+    total = λ y g.
+        ap (λ (l : List ℕ). getD l y 0) e ∙ link.row-at sheet of ok (λ c. adminTotalOf sheet of c (of .applications)) y (omega (arith, ok .columns-least))
+        ∙ link.admin-total-is sheet of ok y g ∙ (unfold totalIn in rw t);
     reason = λ k i. flat-reason becauseAdministrative k (λ e. omega arith) i ∙ (unfold reason in rw t);
     app = λ a h.
         ap (λ (w : ℕ). toldBy sheet of none a w (automaticReason P a)) (at-start mostApps a atAdmin 0 (omega (arith, ok .apps)))
@@ -182,12 +183,12 @@ module _ (sheet : List ℕ) (of : Size) (ok : Ready sheet of) where
     automatic = rw t;
   }
 
-  wide : adminFits P ≡ false → wideEnd (auction P) ≡ true → EndedAs sheet of (flatOf 2 (replicate 8 0) becauseTooWide noBid)
+  wide : adminFits P ≡ false → wideEnd (auction P) ≡ true → EndedAs sheet of (flatOf 2 (replicate columns 0) becauseTooWide noBid)
   unfolding flatOf
   wide t u = record {
     outcome = unfold outcome in rw (t, u);
     price = λ d h. at-start mostDeliveries d noPrice 0 h ∙ (unfold priceIn in rw (t, u));
-    total = λ y. repeated 8 y 0 ∙ case (ltb y (of .years)) (λ l. rw l (unfold totalIn in rw (t, u))) (λ l. rw l);
+    total = λ y g. repeated columns y 0 ∙ (unfold totalIn in rw (t, u));
     reason = λ k i. flat-reason becauseTooWide k (λ e. omega arith) i ∙ (unfold reason in rw (t, u));
     app = λ a h.
         ap (λ (w : ℕ). toldBy sheet of none a w (automaticReason P a)) (at-start mostApps a noBid 0 (omega (arith, ok .apps)))
@@ -197,8 +198,8 @@ module _ (sheet : List ℕ) (of : Size) (ok : Ready sheet of) where
   }
 
   -- ---- one law for each return of `ended`: t is the answer of the first test, whose totals are `first`
-  module _ {first : List ℕ} {t : Bool} (ef : first ≡ filled (λ z. adminTotalOf sheet z (of .applications)) (of .years))
-      (et : t ≡ rowFits sheet first (of .years)) where
+  module _ {first : List ℕ} {t : Bool} (ef : first ≡ filled (λ c. adminTotalOf sheet of c (of .applications)) (of .columns))
+      (et : t ≡ rowFits sheet first (of .columns)) where
     fits-first : t ≡ adminFits P
     fits-first = link.admin-fits sheet of ok ef et
 
@@ -206,7 +207,7 @@ module _ (sheet : List ℕ) (of : Size) (ok : Ready sheet of) where
     ended-admin h e = rw e (admin (sym fits-first ∙ h) ef)
 
     module _ (s : PotState) (S : Stands P (auction P) s × Summed sheet of s) (h : t ≡ false) where
-      pub ended-wide : {r : End} → s .wide ≡ true → r ≡ flatOf 2 (replicate 8 0) becauseTooWide noBid → EndedAs sheet of r
+      pub ended-wide : {r : End} → s .wide ≡ true → r ≡ flatOf 2 (replicate columns 0) becauseTooWide noBid → EndedAs sheet of r
       ended-wide w e = rw e (wide (sym fits-first ∙ h) (sym (S .0 .wide) ∙ w))
 
       pub ended-sold : {r : End} → s .wide ≡ false → r ≡ soldOf sheet of s → EndedAs sheet of r
@@ -228,11 +229,12 @@ module _ (sheet : List ℕ) (of : Size) (ok : Ready sheet of) where
       → reasons ≡ reasonsOf sheet (e .marks) (e .won) (of .entered)
       → automatics ≡ automaticsOf sheet (e .automatic) (of .entered)
       → apps ≡ appsOf sheet of (e .prices) (e .winning) automatics (of .applications)
-      → ClearedAs of P (record { outcome = e .outcome; prices = e .prices; totals = e .totals; apps = apps; reasons = reasons })
-  cleared {e} E {reasons} {automatics} {apps} er em ea = record {
+      → {totals : List ℕ} → totals ≡ moneyOf (e .totals) (of .years)
+      → ClearedAs of P (record { outcome = e .outcome; prices = e .prices; totals = totals; apps = apps; reasons = reasons })
+  cleared {e} E {reasons} {automatics} {apps} er em ea et = record {
     outcome = E .outcome;
     price = E .price;
-    total = E .total;
+    total = λ y. ap (λ (l : List ℕ). getD l y 0) et ∙ money-each (e .totals) (totalIn P) (of .years) (ok .years) (E .total) y;
     app = λ a. ap (λ (l : List Told). getD l a untold) ea ∙ each-app a;
     reason = told;
   }

@@ -4,27 +4,26 @@ use mathlib.Core.Path.{_≡_, refl, _∙_}
 use mathlib.Core.Bool.{Bool, not, _&&_}
 use mathlib.Core.List.{List, [], _∷_, map}
 use native.Mathlib.Omega.{arith}
-use lib.ListN.{length, getD, replicate, length-set}
+use lib.ListN.{length, getD, length-set}
 use lib.Dec.{eqb, ltb}
-use borrow.Author.Tests.{eqb-true, ne-eqb, lt-ltb, le-ltb}
-use native.Mathlib.Decide.{decLt}
-use Rattle.rules.specs.Names.{mostBids, mostApps, noBid, noReason, becauseWon}
+use borrow.Author.Tests.{eqb-true}
+use Rattle.rules.specs.Names.{mostYears, mostBids, mostApps, noBid, noReason, becauseWon}
 use Rattle.rules.specs.Lists.{pick, memb, sift, below}
 use Rattle.laws_pot.specs.Lists.{case}
 use Rattle.sheet.specs.Sheet.{rowApp, entrantAt, entrants}
 use Rattle.arrays.proofs.Arrays.{eqb-sym, put-is, at-start, fill-each, zeros}
-use Rattle.totals.specs.Totals.{noRow, filled}
-use Rattle.auction.specs.Numbers.{reasonAt, noReasons, reasonsOf, automaticsOf, winningOf}
+use Rattle.auction.specs.Numbers.{reasonAt, noReasons, reasonsOf, automaticsOf, winningOf, noMoney, moneyOf}
 
--- a row of totals
-pub row-each : (f g : ℕ → ℕ) (n : ℕ) → n ≤ 8 → ((y : ℕ) → y < n → f y ≡ g y) → (y : ℕ) → getD (filled f n) y 0 ≡ pick (ltb y n) (g y) 0
-row-each f g n h q y = fill-each noRow f g n 0 (long h) blank q y
+-- the money of a row of totals
+pub money-each : (row : List ℕ) (g : ℕ → ℕ) (n : ℕ) → n ≤ mostYears → ((y : ℕ) → y < n → getD row y 0 ≡ g y)
+    → (y : ℕ) → getD (moneyOf row n) y 0 ≡ pick (ltb y n) (g y) 0
+money-each row g n h q y = fill-each noMoney (λ y. getD row y 0) g n 0 (long h) blank q y
   where
-    long : n ≤ 8 → n ≤ length noRow
-    long h = unfold noRow in h
+    long : n ≤ mostYears → n ≤ length noMoney
+    long h = unfold noMoney in h
 
-    blank : (k : ℕ) → _≡_ {A = ℕ} (getD noRow k 0) 0
-    blank k = unfold noRow in zeros 8 k
+    blank : (k : ℕ) → _≡_ {A = ℕ} (getD noMoney k 0) 0
+    blank k = unfold noMoney in zeros mostYears k
 
 -- ---- reasons
 

@@ -28,7 +28,7 @@ pub record ClearedAs (of : Size) (P : Pot) (c : Cleared) : Type 0 where
 pub record EndedAs (sheet : List ℕ) (of : Size) (e : End) : Type 0 where
   pub outcome : e .outcome ≡ outcome (potIn sheet of)
   pub price : (d : ℕ) → d < mostDeliveries → getD (e .prices) d 0 ≡ priceIn (potIn sheet of) d
-  pub total : (y : ℕ) → getD (e .totals) y 0 ≡ pick (ltb y (of .years)) (totalIn (potIn sheet of) y) 0
+  pub total : (y : ℕ) → y < of .years → getD (e .totals) y 0 ≡ totalIn (potIn sheet of) y
   pub app : (a : ℕ) → a < of .applications
       → toldBy sheet of (e .prices) a (getD (e .winning) a 0) (automaticReason (potIn sheet of) a) ≡ toldIn (potIn sheet of) a
   pub automatic : e .automatic ≡ by (potIn sheet of) becauseAdministrative becauseSilent becauseTooWide

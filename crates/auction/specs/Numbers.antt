@@ -4,7 +4,8 @@ use mathlib.Core.Bool.{Bool, false}
 use mathlib.Core.List.{List}
 use lib.ListN.{getD, set, replicate}
 use lib.Dec.{eqb, ltb}
-use Rattle.rules.specs.Names.{mostBids, mostApps, mostDeliveries, auctioned, noPrice, noBid, noReason, becauseWon, unlookedWon, unlookedElse, becauseSilent}
+use Rattle.rules.specs.Names.{mostYears, mostBids, mostApps, mostDeliveries, auctioned, noPrice, noBid, noReason, becauseWon, unlookedWon}
+use Rattle.rules.specs.Names.{unlookedElse, becauseSilent}
 use Rattle.rules.specs.Lists.{pick}
 use Rattle.result.specs.Tells.{untold}
 use Rattle.rules.specs.declared.Told.{Told}
@@ -88,3 +89,10 @@ soldOf sheet of s = record {
   winning = winningOf sheet (s .marks) (of .bids);
   automatic = becauseSilent;
 }
+
+-- ---- what is told of a row of totals: the money of the first n years, and nothing of a column after them
+unfoldable pub noMoney : List ℕ
+noMoney = replicate mostYears 0
+
+abbrev pub moneyOf : (row : List ℕ) → (n : ℕ) → List ℕ
+moneyOf row n = fill noMoney (λ y. getD row y 0) n

@@ -1,13 +1,15 @@
 // The clearing of one pot: the first test, the auction, and what is told of the pot, of its applications and of its bids. specs/Cleared.antt says what it is in
 // the words of the rules, specs/Numbers.antt what each function computes.
 ghost use mathlib.Core.Path.{_≡_};
-ghost use Prim.Native.Nat.{_<_};
+ghost use Prim.Native.Nat.{_≤_, _<_};
+ghost use Rattle.rules.specs.Names.{mostYears};
 ghost use Rattle.sheet.specs.Sheet.{potIn, Ready};
 ghost use Rattle.auction.specs.Cleared.{EndedAs, ClearedAs};
-ghost use Rattle.auction.specs.Numbers.{reasonBy, reasonsOf, automaticsOf, winningOf, toldBy, appsOf, flatOf, soldOf};
+ghost use Rattle.auction.specs.Numbers.{reasonBy, reasonsOf, automaticsOf, winningOf, toldBy, appsOf, flatOf, soldOf, moneyOf};
 use names::APPS;
 use names::BIDS;
 use names::MOST_DELIVERIES;
+use names::YEARS;
 use pot::PotState;
 use rules::Told;
 use sheet::COLUMNS;
@@ -18,12 +20,12 @@ use sheet::Size;
 pub struct Cleared {
     pub outcome: u64,
     pub prices: [u64; MOST_DELIVERIES],
-    pub totals: [u64; COLUMNS],
+    pub totals: [u64; YEARS],
     pub apps: [Told; APPS],
     pub reasons: [u64; BIDS],
 }
 
-// How a pot ended: its outcome, clearing prices and totals; the mark of each bid and which applications won, from which the reasons are told; with what
+// How a pot ended: its outcome, clearing prices and row of totals; the mark of each bid and which applications won, from which the reasons are told; with what
 // each application won: the number of its bid, AT_ADMIN, or NO_BID where it lost; and the automatic reason of one without a sealed bid.
 struct End {
     outcome: u64,
@@ -227,6 +229,21 @@ fn ended(sheet: &Sheet, of: Size) -> End
     sold(sheet, of, s)
 }
 
+// What is told of a row of totals: the money of the years, and nothing of a column after them.
+fn money(of: Size, row: [u64; COLUMNS]) -> [u64; YEARS]
+    requires { ⌜ of .years ≤ mostYears ⌝ }
+    ensures { λ r. ⌜ r ≡ moneyOf row (of .years) ⌝ }
+{
+    let mut out = [0u64; YEARS];
+    let years = of.years;
+    let mut y: usize = 0;
+    while y < years {
+        out[y] = row[y];
+        y += 1;
+    }
+    out
+}
+
 // The clearing of the pot that a sheet shows: it ends, and what is told of its applications and bids is told from how it ended, whatever the outcome.
 pub fn clear_pot(sheet: &Sheet, of: Size) -> Cleared
     requires { ⌜ Ready (now sheet) of ⌝ }
@@ -240,7 +257,8 @@ pub fn clear_pot(sheet: &Sheet, of: Size) -> Cleared
     let winning = e.winning;
     let automatics = automatics(sheet, of, e.automatic);
     let apps = apps(sheet, of, prices, winning, automatics);
-    let totals = e.totals;
+    let row = e.totals;
+    let totals = money(of, row);
     Cleared {
         outcome: e.outcome,
         prices,

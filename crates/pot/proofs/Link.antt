@@ -10,7 +10,7 @@ use lib.Dec.{eqb, ltb}
 use borrow.Author.Tests.{eqb-true}
 use Rattle.rules.specs.Names.{mostBids, noPrice, noReason, becauseWon, highestPrice}
 use Rattle.rules.specs.Lists.{pick, memb, sift, below}
-use Rattle.rules.specs.Pot.{Pot, Event, Trace, winners, downs, seen, closed, hanging, mark, priceFrom, clearing, total, within, fits, live, least, lowest}
+use Rattle.rules.specs.Pot.{Pot, Event, Trace, winners, downs, seen, closed, hanging, mark, priceFrom, clearing, fits, live, least, lowest}
 use Rattle.rules.specs.Pot.{taken}
 use Rattle.laws_pot.specs.Lists.{case, clash, and-true, In, here, there, memb-in, in-memb, sift-in, sift-same, sift-both, memb-join, memb-map-join, below-in}
 use Rattle.laws_pot.specs.Mono.{Lawful}
@@ -18,9 +18,9 @@ use Rattle.arrays.specs.Sets.{built, members}
 use Rattle.arrays.proofs.Arrays.{eqb-sym, put-is, members-built}
 use Rattle.sheet.specs.declared.Size.{Size}
 use Rattle.sheet.specs.Sheet.{potIn, Ready, inAuction, partsAt, sheetCost, rowApp, rowYear, rowPrice}
-use Rattle.totals.specs.Totals.{totalOf, filled, fitsTo}
+use Rattle.totals.specs.Totals.{totalOf, fitsTo}
 use Rattle.totals.proofs.Link as link
-use Rattle.totals.proofs.Link.{Marked}
+use Rattle.totals.proofs.Link.{Marked, columnTotal}
 use Rattle.ties.proofs.Sums.{price-won, Part, part-all, part-sift}
 use Rattle.pot.specs.declared.PotState.{PotState}
 use Rattle.pot.specs.Marks.{leastOr, liveOf, lowestOf, atOf, winOf, winAll}
@@ -181,8 +181,8 @@ module _ (sheet : List ℕ) (of : Size) (ok : Ready sheet of) where
 
   -- ---- what fits
   module _ (ws : List ℕ) (s : PotState) (H : Holds P ws s) where
-    pub total-is : (y : ℕ) → y < of .years → totalOf sheet (s .marks) (s .prices) y (of .bids) ≡ total P ws y
-    total-is y h = link.total-at sheet of ok ws (s .marks) (s .prices) (H .marked) (clearing P ws) same y h
+    pub total-is : (c : ℕ) → totalOf sheet of (s .marks) (s .prices) c (of .bids) ≡ columnTotal P ws c
+    total-is c = link.total-at sheet of ok ws (s .marks) (s .prices) (H .marked) (clearing P ws) same c
       where
         same : (i : ℕ) → In i (P .bids) → memb i ws ≡ true → getD (s .prices) (rowYear sheet i) 0 ≡ clearing P ws (rowYear sheet i)
         same i j w = H .price (rowYear sheet i) (ok .year i (bid-lt i j)) ∙ opened (price-won P noPrice i ws (memb-in i ws w))
@@ -190,14 +190,9 @@ module _ (sheet : List ℕ) (of : Size) (ok : Ready sheet of) where
             opened : priceFrom P noPrice ws (P .yr i) ≡ clearing P ws (P .yr i) → priceFrom P noPrice ws (rowYear sheet i) ≡ clearing P ws (rowYear sheet i)
             opened e = unfold potIn in e
 
-    pub row-at : (y : ℕ) → y < of .years → getD (filled (λ x. totalOf sheet (s .marks) (s .prices) x (of .bids)) (of .years)) y 0 ≡ total P ws y
-    row-at y h = link.row-at sheet of ok (λ x. totalOf sheet (s .marks) (s .prices) x (of .bids)) y h ∙ total-is y h
-
-    pub fits-is : (f : ℕ → ℕ) → ((y : ℕ) → y < of .years → f y ≡ totalOf sheet (s .marks) (s .prices) y (of .bids)) → fitsTo f sheet (of .years) ≡ fits P ws
-    fits-is f e = link.fits-is sheet of ok f (total P ws) (of .years) (omega arith) (λ y h. e y h ∙ total-is y h) ∙ opened
-      where
-        opened : within P (total P ws) (of .years) ≡ fits P ws
-        opened = unfold potIn in refl
+    pub fits-is : (f : ℕ → ℕ) → ((c : ℕ) → c < of .columns → f c ≡ totalOf sheet of (s .marks) (s .prices) c (of .bids))
+        → fitsTo f sheet (of .columns) ≡ fits P ws
+    fits-is f e = link.fits-is sheet of ok f ws (λ c h. e c h ∙ total-is c)
 
   -- ---- winning
   module _ (ws : List ℕ) (s : PotState) (S : Sizes s) (p : ℕ) where

@@ -75,8 +75,8 @@ module _ (sheet : List ℕ) (of : Size) (ok : Ready sheet of) where
     pub trial-others : (i : ℕ) → i < of .bids → inAuction sheet i ≡ false → eqb (getD (u .marks) i 0) becauseWon ≡ false
     trial-others i h f = won-by .marked .other i (link.small sheet of ok i h) (not-bid sheet of ok i f)
 
-    pub trial-fits : (f : ℕ → ℕ) → ((y : ℕ) → y < of .years → f y ≡ totalOf sheet (u .marks) (u .prices) y (of .bids))
-        → fitsTo f sheet (of .years) ≡ fits P (l ++ winners t)
+    pub trial-fits : (f : ℕ → ℕ) → ((c : ℕ) → c < of .columns → f c ≡ totalOf sheet of (u .marks) (u .prices) c (of .bids))
+        → fitsTo f sheet (of .columns) ≡ fits P (l ++ winners t)
     trial-fits = link.fits-is sheet of ok (l ++ winners t) u won-by
 
     -- all win, and the year that hangs closes

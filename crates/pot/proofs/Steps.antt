@@ -12,10 +12,11 @@ use Rattle.laws_pot.specs.Lists.{case, In, here, in-none}
 use Rattle.arrays.specs.Sets.{built, members, headOr}
 use Rattle.sheet.specs.declared.Size.{Size}
 use Rattle.sheet.specs.Sheet.{potIn, Ready, inAuction}
+use Rattle.sheet.proofs.Columns.{columns-few}
 use Rattle.totals.specs.Totals.{totalOf, rowFits}
 use Rattle.pot.specs.declared.PotState.{PotState}
 use Rattle.pot.specs.declared.Look.{Look}
-use Rattle.pot.specs.Marks.{lowestOf, atOf, winAll, Looked, settledOf, takenOf, aloneOf, tieOf, yearSum, withSums, renewedOf, totalledOf}
+use Rattle.pot.specs.Marks.{lowestOf, atOf, winAll, Looked, settledOf, takenOf, aloneOf, tieOf, columnSum, withSums, renewedOf, totalledOf}
 use Rattle.pot.specs.Marks.{triedOf, trialOf, Summed}
 use Rattle.pot.specs.Rep.{Rep, Stepped}
 use Rattle.pot.proofs.Looks as looks
@@ -69,7 +70,7 @@ many-tried sheet of p s ea ev = rw (ev, ea) (revalued-sums sheet of (winAll shee
 module _ (sheet : List ℕ) (of : Size) (ok : Ready sheet of) (s : PotState) {p : ℕ} (k q : List ℕ) {v : PotState} {f : Bool}
     (ep : p ≡ lowestOf sheet s (of .bids))
     (ev : v ≡ withSums k q (winAll sheet p s (members (takenOf sheet of s) (of .bids)))) (Sv : Summed sheet of v)
-    (ef : f ≡ rowFits sheet (v .totals) (of .years)) where
+    (ef : f ≡ rowFits sheet (v .totals) (of .columns)) where
   module _ (t : Trace) where
     abbrev P : Pot
     P = potIn sheet of
@@ -87,8 +88,8 @@ module _ (sheet : List ℕ) (of : Size) (ok : Ready sheet of) (s : PotState) {p 
     fits-is : Rep P t s → f ≡ fits P (taken P t ++ winners t)
     unfolding withSums
     fits-is R =
-        row-fits (yearSum (v .sums)) sheet (of .years) (ok .years) (Sv .row) ef ∙ looks.trial-fits sheet of ok t s R (yearSum (v .sums))
-        (λ y h. sum-total (Sv .parts) y h ok (others R) ∙ ap (λ (u : PotState). totalOf sheet (u .marks) (u .prices) y (of .bids)) (tried R))
+        row-fits (columnSum (v .sums)) sheet (of .columns) (columns-few ok) (Sv .row) ef ∙ looks.trial-fits sheet of ok t s R (columnSum (v .sums))
+        (λ c h. sum-total (Sv .parts) c h ok (others R) ∙ ap (λ (u : PotState). totalOf sheet of (u .marks) (u .prices) c (of .bids)) (tried R))
 
   -- all that were taken fit
   pub step-fits : {r : PotState} → f ≡ true → r ≡ settledOf v → Stepped (potIn sheet of) s r

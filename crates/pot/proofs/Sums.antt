@@ -23,24 +23,24 @@ use Rattle.totals.proofs.Laws.{fits-same, row-none}
 use Rattle.totals.proofs.Parts.{part-most, total-parts}
 use Rattle.pot.specs.declared.PotState.{PotState}
 use Rattle.pot.specs.Marks.{winOf, winAll, turnAll, turnOf, turnedOf, hungOf, shutOf, settledOf, widened, aloneOf, followsOf, sharedOf, choiceIn}
-use Rattle.pot.specs.Marks.{restOf, tieOf, firstMark, noMarks, startedOf, sumsSize, yearSum, mostSum, withSums, renewedRow, renewedOf, renewedTo}
+use Rattle.pot.specs.Marks.{restOf, tieOf, firstMark, noMarks, startedOf, sumsSize, columnSum, mostSum, withSums, renewedRow, renewedOf, renewedTo}
 use Rattle.pot.specs.Marks.{totalledOf, revaluedOf, triedOf, trialOf, Parted, Summed}
 use Rattle.pot.specs.Rep.{Rep, Stands}
 
 -- ---- a row of the sums is written: its own places, and those of another year
-laid-filled : (l : List ℕ) (d : ℕ) (f : ℕ → ℕ) (n y : ℕ) → length l ≡ sumsSize → d < 4 → n ≤ 8 → y < n
-    → getD (placed (λ x. getD (filled f n) x 0) l (d * columns) n) (d * columns + y) 0 ≡ f y
-laid-filled l d f n y h g k i = placed-at (λ x. getD (filled f n) x 0) l (d * 8) n y 0 (omega arith) i ∙ fill-at noRow f n y 0 (size k) i
+laid-filled : (l : List ℕ) (d : ℕ) (f : ℕ → ℕ) (n c : ℕ) → length l ≡ sumsSize → d < 4 → n ≤ columns → c < n
+    → getD (placed (λ x. getD (filled f n) x 0) l (d * columns) n) (d * columns + c) 0 ≡ f c
+laid-filled l d f n c h g k i = placed-at (λ x. getD (filled f n) x 0) l (d * columns) n c 0 (omega arith) i ∙ fill-at noRow f n c 0 (size k) i
   where
-    size : n ≤ 8 → n ≤ length noRow
+    size : n ≤ columns → n ≤ length noRow
     size g = unfold noRow in g
 
-laid-other : (l : List ℕ) (d : ℕ) (row : List ℕ) (n c y : ℕ) → (c ≡ d → ⊥) → n ≤ 8 → y < 8
-    → getD (placed (λ x. getD row x 0) l (d * columns) n) (c * columns + y) 0 ≡ getD l (c * columns + y) 0
-laid-other l d row n c y h k i = placed-other (λ x. getD row x 0) l (d * 8) n (c * 8 + y) 0 (λ j g q. h (omega arith))
+laid-other : (l : List ℕ) (d : ℕ) (row : List ℕ) (n a c : ℕ) → (a ≡ d → ⊥) → n ≤ columns → c < columns
+    → getD (placed (λ x. getD row x 0) l (d * columns) n) (a * columns + c) 0 ≡ getD l (a * columns + c) 0
+laid-other l d row n a c h k i = placed-other (λ x. getD row x 0) l (d * columns) n (a * columns + c) 0 (λ j g q. h (omega arith))
 
 pub renewed-is : (sheet : List ℕ) (of : Size) (d : ℕ) (s : PotState) {row sums : List ℕ} → row ≡ renewedRow sheet of d s
-    → sums ≡ placed (λ y. getD row y 0) (s .sums) (d * columns) (of .years)
+    → sums ≡ placed (λ c. getD row c 0) (s .sums) (d * columns) (of .columns)
     → _≡_ {A = PotState} (record {
       marks = s .marks;
       won = s .won;
@@ -54,7 +54,7 @@ pub renewed-is : (sheet : List ℕ) (of : Size) (d : ℕ) (s : PotState) {row su
 unfolding renewedOf withSums
 renewed-is sheet of d s er es = rw (es, er)
 
-pub totalled-is : (of : Size) (s : PotState) {row : List ℕ} → row ≡ filled (yearSum (s .sums)) (of .years)
+pub totalled-is : (of : Size) (s : PotState) {row : List ℕ} → row ≡ filled (columnSum (s .sums)) (of .columns)
     → _≡_ {A = PotState} (record {
       marks = s .marks;
       won = s .won;
@@ -88,32 +88,32 @@ pub renewed-next : (sheet : List ℕ) (of : Size) (s : PotState) (d : ℕ) {t r 
 unfolding renewedTo
 renewed-next sheet of s d et er = rw (add-one d, er, et)
 
--- ---- marks and the sums of a year
-module _ (sheet marks : List ℕ) (price i v : ℕ) where
+-- ---- marks and the sums of a delivery year
+module _ (sheet : List ℕ) (of : Size) (marks : List ℕ) (price i v : ℕ) where
   -- a bid of another year
-  part-other : (d y : ℕ) (l : List ℕ) → (rowYear sheet i ≡ d → ⊥) → partOn sheet (set marks i v) price d y l ≡ partOn sheet marks price d y l
+  part-other : (d c : ℕ) (l : List ℕ) → (rowYear sheet i ≡ d → ⊥) → partOn sheet of (set marks i v) price d c l ≡ partOn sheet of marks price d c l
   unfolding partOn
-  part-other d y [] h = refl
-  part-other d y (n ∷ l) h = rw (part-other d y l h) (ap (λ (x : ℕ). partOn sheet marks price d y l + x) (same (eqb n i) refl))
+  part-other d c [] h = refl
+  part-other d c (n ∷ l) h = rw (part-other d c l h) (ap (λ (x : ℕ). partOn sheet of marks price d c l + x) (same (eqb n i) refl))
     where
       same : (b : Bool) → eqb n i ≡ b
-          → pick (eqb (getD (set marks i v) n 0) becauseWon && eqb (rowYear sheet n) d) (worthOf sheet n price y) 0
-          ≡ pick (eqb (getD marks n 0) becauseWon && eqb (rowYear sheet n) d) (worthOf sheet n price y) 0
+          → pick (eqb (getD (set marks i v) n 0) becauseWon && eqb (rowYear sheet n) d) (worthOf sheet of n price c) 0
+          ≡ pick (eqb (getD marks n 0) becauseWon && eqb (rowYear sheet n) d) (worthOf sheet of n price c) 0
       same true t =
           rw (eqb-true n i t, ne-eqb (rowYear sheet i) d h)
           (none (eqb (getD (set marks i v) i 0) becauseWon) ∙ sym (none (eqb (getD marks i 0) becauseWon)))
         where
-          none : (b : Bool) → pick (b && false) (worthOf sheet i price y) 0 ≡ 0
+          none : (b : Bool) → pick (b && false) (worthOf sheet of i price c) 0 ≡ 0
           none true = refl
           none false = refl
       same false f = rw (getD-set-other marks i n v 0 (eqb-false n i f))
 
   -- a bid that did not win and does not
-  part-down : (d y : ℕ) (l : List ℕ) → eqb v becauseWon ≡ false → eqb (getD marks i 0) becauseWon ≡ false
-      → partOn sheet (set marks i v) price d y l ≡ partOn sheet marks price d y l
+  part-down : (d c : ℕ) (l : List ℕ) → eqb v becauseWon ≡ false → eqb (getD marks i 0) becauseWon ≡ false
+      → partOn sheet of (set marks i v) price d c l ≡ partOn sheet of marks price d c l
   unfolding partOn
-  part-down d y [] g h = refl
-  part-down d y (n ∷ l) g h = rw (part-down d y l g h) (ap (λ (x : ℕ). partOn sheet marks price d y l + x) (same (eqb n i) refl))
+  part-down d c [] g h = refl
+  part-down d c (n ∷ l) g h = rw (part-down d c l g h) (ap (λ (x : ℕ). partOn sheet of marks price d c l + x) (same (eqb n i) refl))
     where
       lost : (l : List ℕ) (k : ℕ) → eqb (getD l k 0) becauseWon ≡ false → eqb (getD (set l k v) k 0) becauseWon ≡ false
       lost [] k e = e
@@ -121,17 +121,17 @@ module _ (sheet marks : List ℕ) (price i v : ℕ) where
       lost (x ∷ l) (suc k) e = lost l k e
 
       same : (b : Bool) → eqb n i ≡ b
-          → pick (eqb (getD (set marks i v) n 0) becauseWon && eqb (rowYear sheet n) d) (worthOf sheet n price y) 0
-          ≡ pick (eqb (getD marks n 0) becauseWon && eqb (rowYear sheet n) d) (worthOf sheet n price y) 0
+          → pick (eqb (getD (set marks i v) n 0) becauseWon && eqb (rowYear sheet n) d) (worthOf sheet of n price c) 0
+          ≡ pick (eqb (getD marks n 0) becauseWon && eqb (rowYear sheet n) d) (worthOf sheet of n price c) 0
       same true t = rw (eqb-true n i t, lost marks i h, h)
       same false f = rw (getD-set-other marks i n v 0 (eqb-false n i f))
 
 -- no bid has won
-part-none : (sheet marks : List ℕ) (price d y : ℕ) (l : List ℕ) → ((k : ℕ) → In k l → eqb (getD marks k 0) becauseWon ≡ false)
-    → partOn sheet marks price d y l ≡ 0
+part-none : (sheet : List ℕ) (of : Size) (marks : List ℕ) (price d c : ℕ) (l : List ℕ) → ((k : ℕ) → In k l → eqb (getD marks k 0) becauseWon ≡ false)
+    → partOn sheet of marks price d c l ≡ 0
 unfolding partOn
-part-none sheet marks price d y [] h = refl
-part-none sheet marks price d y (n ∷ l) h = rw (part-none sheet marks price d y l (λ k i. h k (there i)), h n (here refl))
+part-none sheet of marks price d c [] h = refl
+part-none sheet of marks price d c (n ∷ l) h = rw (part-none sheet of marks price d c l (λ k i. h k (there i)), h n (here refl))
 
 module _ (sheet : List ℕ) (of : Size) where
   -- ---- what keeps the sums and totals right
@@ -141,8 +141,8 @@ module _ (sheet : List ℕ) (of : Size) where
     parts = record {
       size = S .parts .size;
       part =
-          λ d y g k. S .parts .part d y g k
-          ∙ sym (part-down sheet (s .marks) (getD (s .prices) d 0) i 2 d y (sift (inAuction sheet) (below (of .bids))) refl h);
+          λ d c g k. S .parts .part d c g k
+          ∙ sym (part-down sheet of (s .marks) (getD (s .prices) d 0) i 2 d c (sift (inAuction sheet) (below (of .bids))) refl h);
     };
     row = S .row;
   }
@@ -182,24 +182,24 @@ module _ (sheet : List ℕ) (of : Size) where
 
   -- ---- what makes them right
   -- a bid wins, and its year is renewed: the other years are as before
-  pub parted-win : (p i : ℕ) (s : PotState) {d : ℕ} {u r : PotState} → of .years ≤ 8 → rowYear sheet i < 4 → d ≡ rowYear sheet i → u ≡ winOf sheet p i s
+  pub parted-win : (p i : ℕ) (s : PotState) {d : ℕ} {u r : PotState} → of .columns ≤ columns → rowYear sheet i < 4 → d ≡ rowYear sheet i → u ≡ winOf sheet p i s
       → r ≡ renewedOf sheet of d u → Parted sheet of s → Parted sheet of r
   unfolding renewedOf withSums winOf partOf
   parted-win p i s {d} ly ld ed eu er S = rw (er, eu, ed) (record {
-    size = placed-length (λ x. getD (filled part (of .years)) x 0) (s .sums) (rowYear sheet i * 8) (of .years) ∙ S .size;
-    part = λ c y g k. case (eqb c (rowYear sheet i))
-        (λ t. rw (eqb-true c (rowYear sheet i) t) (laid-filled (s .sums) (rowYear sheet i) part (of .years) y (S .size) ld ly k))
+    size = placed-length (λ x. getD (filled part (of .columns)) x 0) (s .sums) (rowYear sheet i * columns) (of .columns) ∙ S .size;
+    part = λ a c g k. case (eqb a (rowYear sheet i))
+        (λ t. rw (eqb-true a (rowYear sheet i) t) (laid-filled (s .sums) (rowYear sheet i) part (of .columns) c (S .size) ld ly k))
         (λ f.
-        let n = eqb-false c (rowYear sheet i) f in
-        laid-other (s .sums) (rowYear sheet i) (filled part (of .years)) (of .years) c y n ly (omega arith) ∙ S .part c y g k
-        ∙ rw (getD-set-other (s .prices) (rowYear sheet i) c p 0 n)
-        (sym (part-other sheet (s .marks) (getD (s .prices) c 0) i becauseWon c y (sift (inAuction sheet) (below (of .bids))) (λ e. n (sym e)))));
+        let n = eqb-false a (rowYear sheet i) f in
+        laid-other (s .sums) (rowYear sheet i) (filled part (of .columns)) (of .columns) a c n ly (omega arith) ∙ S .part a c g k
+        ∙ rw (getD-set-other (s .prices) (rowYear sheet i) a p 0 n)
+        (sym (part-other sheet of (s .marks) (getD (s .prices) a 0) i becauseWon a c (sift (inAuction sheet) (below (of .bids))) (λ e. n (sym e)))));
   })
     where
       part : ℕ → ℕ
-      part y = partOf sheet (set (s .marks) i becauseWon) (getD (set (s .prices) (rowYear sheet i) p) (rowYear sheet i) 0) (rowYear sheet i) y (of .bids)
+      part c = partOf sheet of (set (s .marks) i becauseWon) (getD (set (s .prices) (rowYear sheet i) p) (rowYear sheet i) 0) (rowYear sheet i) c (of .bids)
 
-  pub summed-one : (p i : ℕ) {s r : PotState} → of .years ≤ 8 → rowYear sheet i < 4 → r ≡ triedOf sheet of p i s → Summed sheet of s → Summed sheet of r
+  pub summed-one : (p i : ℕ) {s r : PotState} → of .columns ≤ columns → rowYear sheet i < 4 → r ≡ triedOf sheet of p i s → Summed sheet of s → Summed sheet of r
   unfolding triedOf
   summed-one p i {s} ly ld e S = summed-totalled e (parted-win p i s ly ld refl refl refl (S .parts))
 
@@ -213,61 +213,61 @@ module _ (sheet : List ℕ) (of : Size) where
     renewed-size : (n : ℕ) → length ((renewedTo sheet of s n) .sums) ≡ length (s .sums)
     unfolding renewedTo renewedOf withSums
     renewed-size zero = refl
-    renewed-size (suc n) = placed-length _ ((renewedTo sheet of s n) .sums) (n * 8) (of .years) ∙ renewed-size n
+    renewed-size (suc n) = placed-length _ ((renewedTo sheet of s n) .sums) (n * columns) (of .columns) ∙ renewed-size n
 
-    renewed-parts : (n : ℕ) → length (s .sums) ≡ sumsSize → of .years ≤ 8 → n ≤ 4 → (d y : ℕ) → d < n → y < of .years
-        → getD ((renewedTo sheet of s n) .sums) (d * 8 + y) 0 ≡ partOf sheet (s .marks) (getD (s .prices) d 0) d y (of .bids)
+    renewed-parts : (n : ℕ) → length (s .sums) ≡ sumsSize → of .columns ≤ columns → n ≤ 4 → (d c : ℕ) → d < n → c < of .columns
+        → getD ((renewedTo sheet of s n) .sums) (d * columns + c) 0 ≡ partOf sheet of (s .marks) (getD (s .prices) d 0) d c (of .bids)
     unfolding renewedTo renewedOf withSums
-    renewed-parts zero h g k d y i j = absurd (omega arith)
-    renewed-parts (suc n) h g k d y i j = case (eqb d n)
-        (λ t. rw (eqb-true d n t) (laid-filled ((renewedTo sheet of s n) .sums) n part (of .years) y (renewed-size n ∙ h) k g j ∙ same))
+    renewed-parts zero h g k d c i j = absurd (omega arith)
+    renewed-parts (suc n) h g k d c i j = case (eqb d n)
+        (λ t. rw (eqb-true d n t) (laid-filled ((renewedTo sheet of s n) .sums) n part (of .columns) c (renewed-size n ∙ h) k g j ∙ same))
         (λ f. let e = eqb-false d n f in
-        laid-other ((renewedTo sheet of s n) .sums) n (filled part (of .years)) (of .years) d y e g (omega arith)
-        ∙ renewed-parts n h g (omega arith) d y (omega arith) j)
+        laid-other ((renewedTo sheet of s n) .sums) n (filled part (of .columns)) (of .columns) d c e g (omega arith)
+        ∙ renewed-parts n h g (omega arith) d c (omega arith) j)
       where
         part : ℕ → ℕ
-        part y = partOf sheet ((renewedTo sheet of s n) .marks) (getD ((renewedTo sheet of s n) .prices) n 0) n y (of .bids)
+        part c = partOf sheet of ((renewedTo sheet of s n) .marks) (getD ((renewedTo sheet of s n) .prices) n 0) n c (of .bids)
 
-        same : part y ≡ partOf sheet (s .marks) (getD (s .prices) n 0) n y (of .bids)
-        same = ap (λ (t : PotState). partOf sheet (t .marks) (getD (t .prices) n 0) n y (of .bids)) (renewed-sums n)
+        same : part c ≡ partOf sheet of (s .marks) (getD (s .prices) n 0) n c (of .bids)
+        same = ap (λ (t : PotState). partOf sheet of (t .marks) (getD (t .prices) n 0) n c (of .bids)) (renewed-sums n)
 
-    pub parted-renewed : {r : PotState} → length (s .sums) ≡ sumsSize → of .years ≤ 8 → r ≡ renewedTo sheet of s 4 → Parted sheet of r
+    pub parted-renewed : {r : PotState} → length (s .sums) ≡ sumsSize → of .columns ≤ columns → r ≡ renewedTo sheet of s 4 → Parted sheet of r
     unfolding withSums
     parted-renewed h g e = rw e (record {
       size = renewed-size 4 ∙ h;
       part =
-          λ d y i j. renewed-parts 4 h g (omega arith) d y i j
-          ∙ sym (ap (λ (t : PotState). partOf sheet (t .marks) (getD (t .prices) d 0) d y (of .bids)) (renewed-sums 4));
+          λ d c i j. renewed-parts 4 h g (omega arith) d c i j
+          ∙ sym (ap (λ (t : PotState). partOf sheet of (t .marks) (getD (t .prices) d 0) d c (of .bids)) (renewed-sums 4));
     })
 
     pub revalued-sums : revaluedOf sheet of s ≡ withSums ((revaluedOf sheet of s) .sums) ((revaluedOf sheet of s) .totals) s
     unfolding revaluedOf totalledOf withSums
     revalued-sums =
-        ap (λ (t : PotState). withSums ((renewedTo sheet of s 4) .sums) (filled (yearSum ((renewedTo sheet of s 4) .sums)) (of .years)) t) (renewed-sums 4)
+        ap (λ (t : PotState). withSums ((renewedTo sheet of s 4) .sums) (filled (columnSum ((renewedTo sheet of s 4) .sums)) (of .columns)) t) (renewed-sums 4)
 
-    pub summed-revalued : {r : PotState} → length (s .sums) ≡ sumsSize → of .years ≤ 8 → r ≡ revaluedOf sheet of s → Summed sheet of r
+    pub summed-revalued : {r : PotState} → length (s .sums) ≡ sumsSize → of .columns ≤ columns → r ≡ revaluedOf sheet of s → Summed sheet of r
     unfolding revaluedOf
     summed-revalued h g e = summed-totalled e (parted-renewed h g refl)
 
   -- no bid has been looked at
-  pub summed-started : {s : PotState} → of .bids ≤ mostBids → of .years ≤ 8 → s ≡ startedOf sheet of → Summed sheet of s
+  pub summed-started : {s : PotState} → of .bids ≤ mostBids → of .columns ≤ columns → s ≡ startedOf sheet of → Summed sheet of s
   unfolding startedOf partOf
   summed-started h g e = rw e (record {
     parts =
         record {
           size = refl;
-          part = λ d y i j. zeros 32 (d * 8 + y)
-              ∙ sym (part-none sheet (fill noMarks (λ i. firstMark (inAuction sheet i)) (of .bids)) (getD (replicate 4 _) d 0) d y
+          part = λ d c i j. zeros sumsSize (d * columns + c)
+              ∙ sym (part-none sheet of (fill noMarks (λ i. firstMark (inAuction sheet i)) (of .bids)) (getD (replicate 4 _) d 0) d c
               (sift (inAuction sheet) (below (of .bids))) (λ k i. fresh k (below-in k (of .bids) (sift-in k (inAuction sheet) (below (of .bids)) i .0))));
         };
-    row = start g ∙ ap (λ (f : ℕ → ℕ). filled f (of .years)) (λ j y. sym (blank y) j);
+    row = start g ∙ ap (λ (f : ℕ → ℕ). filled f (of .columns)) (λ j c. sym (blank c) j);
   })
     where
-      start : of .years ≤ 8 → replicate 8 0 ≡ filled (λ _. 0) (of .years)
-      start g = unfold noRow in row-none (of .years) g
+      start : of .columns ≤ columns → replicate columns 0 ≡ filled (λ _. 0) (of .columns)
+      start g = unfold noRow in row-none (of .columns) g
 
-      blank : (y : ℕ) → yearSum (replicate 32 0) y ≡ 0
-      blank y = unfold yearSum in rw (zeros 32 y, zeros 32 (8 + y), zeros 32 (16 + y), zeros 32 (24 + y))
+      blank : (c : ℕ) → columnSum (replicate sumsSize 0) c ≡ 0
+      blank c = unfold columnSum in rw (zeros sumsSize c, zeros sumsSize (columns + c), zeros sumsSize (2 * columns + c), zeros sumsSize (3 * columns + c))
 
       size : of .bids ≤ length noMarks
       size = unfold noMarks in h
@@ -290,7 +290,7 @@ unfolding turnAll turnOf
 turn-sums sheet v s [] = refl
 turn-sums sheet v s (i ∷ l) = turn-sums sheet v s l
 
-module _ (sheet : List ℕ) (of : Size) {s : PotState} (ly : of .years ≤ 8) (S : Summed sheet of s) where
+module _ (sheet : List ℕ) (of : Size) {s : PotState} (ly : of .columns ≤ columns) (S : Summed sheet of s) where
   -- several are tried
   pub win-size : (p : ℕ) (l : List ℕ) {u : PotState} → u ≡ winAll sheet p s l → length (u .sums) ≡ sumsSize
   win-size p l eu = ap (λ (t : PotState). length (t .sums)) eu ∙ ap length (win-sums sheet p s l) ∙ S .parts .size
@@ -312,53 +312,53 @@ module _ (sheet : List ℕ) (of : Size) {s : PotState} (ly : of .years ≤ 8) (S
       go true = summed-wide sheet of s S
       go false = summed-revalued sheet of (sharedOf sheet of l (choiceIn sheet of l p s) p s) (shared-size l (choiceIn sheet of l p s) p refl) ly refl
 
--- ---- the sums of a year together are its total
-module _ {sheet : List ℕ} {of : Size} {s : PotState} (S : Parted sheet of s) (y : ℕ) (h : y < of .years) where
+-- ---- the sums of a column together are its total
+module _ {sheet : List ℕ} {of : Size} {s : PotState} (S : Parted sheet of s) (c : ℕ) (h : c < of .columns) where
   abbrev part : ℕ → ℕ
-  part d = partOf sheet (s .marks) (getD (s .prices) d 0) d y (of .bids)
+  part d = partOf sheet of (s .marks) (getD (s .prices) d 0) d c (of .bids)
 
-  four : yearSum (s .sums) y ≡ part 0 + (part 1 + (part 2 + part 3))
-  unfolding yearSum
+  four : columnSum (s .sums) c ≡ part 0 + (part 1 + (part 2 + part 3))
+  unfolding columnSum
   four = rw (at0, at1, at2, at3)
     where
-      at0 : getD (s .sums) y 0 ≡ part 0
-      at0 = let e : y ≡ 0 * 8 + y = omega arith in ap (λ (k : ℕ). getD (s .sums) k 0) e ∙ S .part 0 y (omega arith) h
+      at0 : getD (s .sums) c 0 ≡ part 0
+      at0 = let e : c ≡ 0 * columns + c = omega arith in ap (λ (k : ℕ). getD (s .sums) k 0) e ∙ S .part 0 c (omega arith) h
 
-      at1 : getD (s .sums) (8 + y) 0 ≡ part 1
-      at1 = let e : 8 + y ≡ 1 * 8 + y = omega arith in ap (λ (k : ℕ). getD (s .sums) k 0) e ∙ S .part 1 y (omega arith) h
+      at1 : getD (s .sums) (columns + c) 0 ≡ part 1
+      at1 = let e : columns + c ≡ 1 * columns + c = omega arith in ap (λ (k : ℕ). getD (s .sums) k 0) e ∙ S .part 1 c (omega arith) h
 
-      at2 : getD (s .sums) (16 + y) 0 ≡ part 2
-      at2 = let e : 16 + y ≡ 2 * 8 + y = omega arith in ap (λ (k : ℕ). getD (s .sums) k 0) e ∙ S .part 2 y (omega arith) h
+      at2 : getD (s .sums) (2 * columns + c) 0 ≡ part 2
+      at2 = let e : 2 * columns + c ≡ 2 * columns + c = omega arith in ap (λ (k : ℕ). getD (s .sums) k 0) e ∙ S .part 2 c (omega arith) h
 
-      at3 : getD (s .sums) (24 + y) 0 ≡ part 3
-      at3 = let e : 24 + y ≡ 3 * 8 + y = omega arith in ap (λ (k : ℕ). getD (s .sums) k 0) e ∙ S .part 3 y (omega arith) h
+      at3 : getD (s .sums) (3 * columns + c) 0 ≡ part 3
+      at3 = let e : 3 * columns + c ≡ 3 * columns + c = omega arith in ap (λ (k : ℕ). getD (s .sums) k 0) e ∙ S .part 3 c (omega arith) h
 
   -- where the winners are all of the pot
   pub sum-total : Ready sheet of → ((k : ℕ) → k < of .bids → inAuction sheet k ≡ false → eqb (getD (s .marks) k 0) becauseWon ≡ false)
-      → yearSum (s .sums) y ≡ totalOf sheet (s .marks) (s .prices) y (of .bids)
-  sum-total ok others = four ∙ sym (total-parts sheet of (s .marks) (s .prices) y ok others)
+      → columnSum (s .sums) c ≡ totalOf sheet of (s .marks) (s .prices) c (of .bids)
+  sum-total ok others = four ∙ sym (total-parts sheet of (s .marks) (s .prices) c ok others)
 
-  pub sum-most : Ready sheet of → yearSum (s .sums) y ≤ mostSum
+  pub sum-most : Ready sheet of → columnSum (s .sums) c ≤ mostSum
   sum-most v =
       let few = v .few in
-      let most : (d : ℕ) → part d ≤ dearest * (of .bids) = λ d. part-most sheet (s .marks) (getD (s .prices) d 0) d of y v h in
+      let most : (d : ℕ) → part d ≤ dearest * (of .bids) = λ d. part-most sheet of (s .marks) (getD (s .prices) d 0) d c v in
       omega (arith, four, most 0, most 1, most 2, most 3)
 
 -- added one after the other
-module _ (l : List ℕ) (y : ℕ) where
-  pub added-is : getD l y 0 + getD l (8 + y) 0 + getD l (16 + y) 0 + getD l (24 + y) 0 ≡ yearSum l y
-  unfolding yearSum
+module _ (l : List ℕ) (c : ℕ) where
+  pub added-is : getD l c 0 + getD l (columns + c) 0 + getD l (2 * columns + c) 0 + getD l (3 * columns + c) 0 ≡ columnSum l c
+  unfolding columnSum
   added-is = omega arith
 
-  pub added-low : yearSum l y ≤ mostSum
-      → (getD l y 0 + getD l (8 + y) 0 ≤ mostSum) × (getD l y 0 + getD l (8 + y) 0 + getD l (16 + y) 0 ≤ mostSum) ×
-      (getD l y 0 + getD l (8 + y) 0 + getD l (16 + y) 0 + getD l (24 + y) 0 ≤ mostSum)
+  pub added-low : columnSum l c ≤ mostSum
+      → (getD l c 0 + getD l (columns + c) 0 ≤ mostSum) × (getD l c 0 + getD l (columns + c) 0 + getD l (2 * columns + c) 0 ≤ mostSum) ×
+      (getD l c 0 + getD l (columns + c) 0 + getD l (2 * columns + c) 0 + getD l (3 * columns + c) 0 ≤ mostSum)
   added-low h = (omega (arith, added-is), omega (arith, added-is), omega (arith, added-is))
 
--- the row of year totals fits where the sums do
-pub row-fits : (f : ℕ → ℕ) (sheet : List ℕ) (n : ℕ) {row : List ℕ} {b : Bool} → n ≤ 8 → row ≡ filled f n → b ≡ rowFits sheet row n → b ≡ fitsTo f sheet n
+-- the row of totals fits where the sums do
+pub row-fits : (f : ℕ → ℕ) (sheet : List ℕ) (n : ℕ) {row : List ℕ} {b : Bool} → n ≤ columns → row ≡ filled f n → b ≡ rowFits sheet row n → b ≡ fitsTo f sheet n
 row-fits f sheet n h er eb =
-    eb ∙ ap (λ (r : List ℕ). rowFits sheet r n) er ∙ fits-same (λ y. getD (filled f n) y 0) f sheet n (λ y g. fill-at noRow f n y 0 size g)
+    eb ∙ ap (λ (r : List ℕ). rowFits sheet r n) er ∙ fits-same (λ c. getD (filled f n) c 0) f sheet n (λ c g. fill-at noRow f n c 0 size g)
   where
     size : n ≤ length noRow
     size = unfold noRow in h

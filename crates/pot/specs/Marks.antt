@@ -173,20 +173,20 @@ sharedOf sheet of l wins price s =
 
 -- ---- the sums by delivery year
 
--- what the winners of the four delivery years cost in year y, and the most that this can be
-unfoldable pub yearSum : List ℕ → ℕ → ℕ
-yearSum l y = getD l y 0 + (getD l (columns + y) 0 + (getD l (2 * columns + y) 0 + getD l (3 * columns + y) 0))
+-- what the winners of the four delivery years count in column c, and the most that this can be
+unfoldable pub columnSum : List ℕ → ℕ → ℕ
+columnSum l c = getD l c 0 + (getD l (columns + c) 0 + (getD l (2 * columns + c) 0 + getD l (3 * columns + c) 0))
 
 abbrev pub mostSum : ℕ
 mostSum = mostDeliveries * (dearest * mostBids)
 
--- the places of the sums: a row of years for each delivery year
+-- the places of the sums: a row of columns for each delivery year
 abbrev pub sumsSize : ℕ
 sumsSize = mostDeliveries * columns
 
 pub record Totalling (of : Size) (sums : List ℕ) : Type 0 where
-  pub years : of .years ≤ columns
-  pub small : (y : ℕ) → y < of .years → yearSum sums y ≤ mostSum
+  pub columns : of .columns ≤ columns
+  pub small : (c : ℕ) → c < of .columns → columnSum sums c ≤ mostSum
 
 -- other sums and totals, and all else as it was
 unfoldable pub withSums : (sums totals : List ℕ) → PotState → PotState
@@ -201,22 +201,22 @@ withSums l q s = record {
   wide = s .wide;
 }
 
--- what the winners that start in year d cost; they are revalued; and so in each year below n
+-- what the winners that start in year d count; they are revalued; and so in each year below n
 abbrev pub renewedRow : (sheet : List ℕ) (of : Size) (d : ℕ) → PotState → List ℕ
-renewedRow sheet of d s = filled (λ y. partOf sheet (s .marks) (getD (s .prices) d 0) d y (of .bids)) (of .years)
+renewedRow sheet of d s = filled (λ c. partOf sheet of (s .marks) (getD (s .prices) d 0) d c (of .bids)) (of .columns)
 
 unfoldable pub renewedOf : (sheet : List ℕ) (of : Size) (d : ℕ) → PotState → PotState
-renewedOf sheet of d s = withSums (placed (λ y. getD (renewedRow sheet of d s) y 0) (s .sums) (d * columns) (of .years)) (s .totals) s
+renewedOf sheet of d s = withSums (placed (λ c. getD (renewedRow sheet of d s) c 0) (s .sums) (d * columns) (of .columns)) (s .totals) s
 
 unfoldable pub renewedTo : (sheet : List ℕ) (of : Size) → PotState → ℕ → PotState
 renewedTo sheet of s zero = s
 renewedTo sheet of s (suc d) = renewedOf sheet of d (renewedTo sheet of s d)
 
--- the row of year totals, from the sums
+-- the row of totals, from the sums
 unfoldable pub totalledOf : Size → PotState → PotState
-totalledOf of s = withSums (s .sums) (filled (yearSum (s .sums)) (of .years)) s
+totalledOf of s = withSums (s .sums) (filled (columnSum (s .sums)) (of .columns)) s
 
--- every winner is revalued: the row of year totals
+-- every winner is revalued: the row of totals
 unfoldable pub revaluedOf : (sheet : List ℕ) (of : Size) → PotState → PotState
 revaluedOf sheet of s = totalledOf of (renewedTo sheet of s mostDeliveries)
 
@@ -230,12 +230,12 @@ trialOf sheet of price l s = revaluedOf sheet of (winAll sheet price s (members 
 -- the sums are those of the winners; and the totals are those of the sums
 pub record Parted (sheet : List ℕ) (of : Size) (s : PotState) : Type 0 where
   pub size : length (s .sums) ≡ sumsSize
-  pub part : (d y : ℕ) → d < mostDeliveries → y < of .years
-      → getD (s .sums) (d * columns + y) 0 ≡ partOf sheet (s .marks) (getD (s .prices) d 0) d y (of .bids)
+  pub part : (d c : ℕ) → d < mostDeliveries → c < of .columns
+      → getD (s .sums) (d * columns + c) 0 ≡ partOf sheet of (s .marks) (getD (s .prices) d 0) d c (of .bids)
 
 pub record Summed (sheet : List ℕ) (of : Size) (s : PotState) : Type 0 where
   pub parts : Parted sheet of s
-  pub row : s .totals ≡ filled (yearSum (s .sums)) (of .years)
+  pub row : s .totals ≡ filled (columnSum (s .sums)) (of .columns)
 
 -- what a trial and a tie read
 pub record Valued (sheet : List ℕ) (of : Size) (s : PotState) : Type 0 where

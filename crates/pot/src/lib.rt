@@ -23,7 +23,7 @@ use sheet::Size;
 // No year hangs.
 const NO_YEAR: usize = MOST_DELIVERIES;
 
-// A row of years for each delivery year: what the winners that start there cost at its clearing price.
+// A row of columns for each delivery year: what the winners that start there count at its clearing price.
 type Sums = [u64; MOST_DELIVERIES * COLUMNS];
 
 // The marks of every bid, the applications that have won, the years that are open, and the clearing price of each year.
@@ -33,7 +33,7 @@ pub struct PotState {
     pub opened: [bool; MOST_DELIVERIES],
     pub prices: [u64; MOST_DELIVERIES],
     pub sums: Sums,
-    // what all winners cost: the row of year totals
+    // what all winners count: the row of totals
     pub totals: [u64; COLUMNS],
     // the year left open though a bid was turned down there, or `NO_YEAR`
     pub hang: usize,

@@ -6,7 +6,7 @@ ghost use Rattle.rules.specs.Names.{mostDeliveries};
 ghost use Rattle.arrays.specs.Sets.{placed};
 ghost use Rattle.sheet.specs.Sheet.{columns, Ready};
 ghost use Rattle.totals.specs.Totals.{filled};
-ghost use Rattle.pot.specs.Marks.{sumsSize, yearSum, Totalling, Valued, renewedOf, renewedTo, totalledOf, revaluedOf, triedOf, trialOf};
+ghost use Rattle.pot.specs.Marks.{sumsSize, columnSum, Totalling, Valued, renewedOf, renewedTo, totalledOf, revaluedOf, triedOf, trialOf};
 use super::PotState;
 use super::Sums;
 use names::BIDS;
@@ -17,30 +17,30 @@ use sheet::Size;
 
 // A row of totals, laid as that of delivery year d.
 fn laid(of: Size, sums: Sums, row: [u64; COLUMNS], d: usize) -> Sums
-    requires { ⌜ (of .years ≤ columns) × (d < mostDeliveries) ⌝ }
-    ensures { λ r. ⌜ r ≡ placed (λ y. getD row y 0) sums (d * columns) (of .years) ⌝ }
+    requires { ⌜ (of .columns ≤ columns) × (d < mostDeliveries) ⌝ }
+    ensures { λ r. ⌜ r ≡ placed (λ c. getD row c 0) sums (d * columns) (of .columns) ⌝ }
 {
     let mut out = sums;
-    let years = of.years;
-    let mut y: usize = 0;
-    while y < years {
-        out[d * COLUMNS + y] = row[y];
-        y += 1;
+    let columns = of.columns;
+    let mut c: usize = 0;
+    while c < columns {
+        out[d * COLUMNS + c] = row[c];
+        c += 1;
     }
     out
 }
 
-// The row of year totals: what the winners of the four delivery years cost together.
-fn year_totals(of: Size, sums: Sums) -> [u64; COLUMNS]
+// The row of totals: what the winners of the four delivery years count together.
+fn column_totals(of: Size, sums: Sums) -> [u64; COLUMNS]
     requires { ⌜ Totalling of sums ⌝ }
-    ensures { λ r. ⌜ r ≡ filled (yearSum sums) (of .years) ⌝ }
+    ensures { λ r. ⌜ r ≡ filled (columnSum sums) (of .columns) ⌝ }
 {
     let mut row = [0u64; COLUMNS];
-    let years = of.years;
-    let mut y: usize = 0;
-    while y < years {
-        row[y] = sums[y] + sums[COLUMNS + y] + sums[2 * COLUMNS + y] + sums[3 * COLUMNS + y];
-        y += 1;
+    let columns = of.columns;
+    let mut c: usize = 0;
+    while c < columns {
+        row[c] = sums[c] + sums[COLUMNS + c] + sums[2 * COLUMNS + c] + sums[3 * COLUMNS + c];
+        c += 1;
     }
     row
 }
@@ -73,18 +73,18 @@ impl PotState {
         t
     }
 
-    // The row of year totals, from the sums.
+    // The row of totals, from the sums.
     pub(crate) fn totalled(mut self, of: Size) -> PotState
         requires { ⌜ Totalling of (self .sums) ⌝ }
         ensures { λ r. ⌜ r ≡ totalledOf of self ⌝ }
     {
         let sums = self.sums;
-        let row = year_totals(of, sums);
+        let row = column_totals(of, sums);
         self.totals = row;
         self
     }
 
-    // Every winner is revalued: the row of year totals.
+    // Every winner is revalued: the row of totals.
     pub(crate) fn revalued(self, sheet: &Sheet, of: Size) -> PotState
         requires { ⌜ Ready (now sheet) of × (length (self .sums) ≡ sumsSize) ⌝ }
         ensures { λ r. ⌜ r ≡ revaluedOf (now (sheet .entry)) of self ⌝ }

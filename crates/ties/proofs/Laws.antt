@@ -36,38 +36,38 @@ module _ (prices : List ℕ) (p t d : ℕ) {b : Bool} {row : List ℕ} (eb : b �
   repriced-miss h = rw (add-one d, er, sym eb ∙ h)
 
 -- a row of totals at the prices of the set t is that set's row of the table
-row-is : (sheet : List ℕ) (of : Size) (marks prices : List ℕ) (p t y : ℕ) → of .years ≤ 8 → y < 8
-    → getD (filled (λ y. totalOf sheet marks (repricedTo prices p t 4) y (of .bids)) (of .years)) y 0 ≡ baseAt sheet of marks prices p (t * 8 + y)
+row-is : (sheet : List ℕ) (of : Size) (marks prices : List ℕ) (p t c : ℕ) → of .columns ≤ columns → c < columns
+    → getD (filled (λ c. totalOf sheet of marks (repricedTo prices p t 4) c (of .bids)) (of .columns)) c 0 ≡ baseAt sheet of marks prices p (t * columns + c)
 unfolding baseAt noRow
-row-is sheet of marks prices p t y h g =
+row-is sheet of marks prices p t c h g =
     rw (q, w)
-    (case (ltb y (of .years))
-    (λ u. rw u (fill-at noRow f (of .years) y 0 h (ltb-true y (of .years) u)))
-    (λ u. rw u (fill-rest noRow f (of .years) y 0 (ltb-false y (of .years) u) ∙ zeros 8 y)))
+    (case (ltb c (of .columns))
+    (λ u. rw u (fill-at noRow f (of .columns) c 0 h (ltb-true c (of .columns) u)))
+    (λ u. rw u (fill-rest noRow f (of .columns) c 0 (ltb-false c (of .columns) u) ∙ zeros columns c)))
   where
     f : ℕ → ℕ
-    f y = totalOf sheet marks (repricedTo prices p t 4) y (of .bids)
+    f c = totalOf sheet of marks (repricedTo prices p t 4) c (of .bids)
 
-    q : (t * 8 + y) / 8 ≡ t
+    q : (t * columns + c) / columns ≡ t
     q = omega arith
 
-    w : (t * 8 + y) % 8 ≡ y
+    w : (t * columns + c) % columns ≡ c
     w = omega arith
 
-pub bases-next : (sheet : List ℕ) (of : Size) (marks prices : List ℕ) (p t : ℕ) {trial row base r : List ℕ} → of .years ≤ columns
-    → trial ≡ repricedTo prices p t mostDeliveries → row ≡ filled (λ y. totalOf sheet marks trial y (of .bids)) (of .years)
-    → base ≡ fill noBase (baseAt sheet of marks prices p) (t * columns) → r ≡ placed (λ y. getD row y 0) base (t * columns) columns
+pub bases-next : (sheet : List ℕ) (of : Size) (marks prices : List ℕ) (p t : ℕ) {trial row base r : List ℕ} → of .columns ≤ columns
+    → trial ≡ repricedTo prices p t mostDeliveries → row ≡ filled (λ c. totalOf sheet of marks trial c (of .bids)) (of .columns)
+    → base ≡ fill noBase (baseAt sheet of marks prices p) (t * columns) → r ≡ placed (λ c. getD row c 0) base (t * columns) columns
     → r ≡ fill noBase (baseAt sheet of marks prices p) ((t + 1) * columns)
 bases-next sheet of marks prices p t {trial} {row} {base} {r} h et ew eb er =
-    er ∙ ap (λ (l : List ℕ). placed (λ y. getD row y 0) l (t * 8) 8) eb
-    ∙ placed-fill noBase (baseAt sheet of marks prices p) (λ y. getD row y 0) (t * 8) 8
-    (λ y g. ap (λ (l : List ℕ). getD l y 0) ew′ ∙ row-is sheet of marks prices p t y h g)
+    er ∙ ap (λ (l : List ℕ). placed (λ c. getD row c 0) l (t * columns) columns) eb
+    ∙ placed-fill noBase (baseAt sheet of marks prices p) (λ c. getD row c 0) (t * columns) columns
+    (λ c g. ap (λ (l : List ℕ). getD l c 0) ew′ ∙ row-is sheet of marks prices p t c h g)
     ∙ ap (fill noBase (baseAt sheet of marks prices p)) next
   where
-    ew′ : row ≡ filled (λ y. totalOf sheet marks (repricedTo prices p t 4) y (of .bids)) (of .years)
-    ew′ = ew ∙ ap (λ (u : List ℕ). filled (λ y. totalOf sheet marks u y (of .bids)) (of .years)) et
+    ew′ : row ≡ filled (λ c. totalOf sheet of marks (repricedTo prices p t 4) c (of .bids)) (of .columns)
+    ew′ = ew ∙ ap (λ (u : List ℕ). filled (λ c. totalOf sheet of marks u c (of .bids)) (of .columns)) et
 
-    next : t * 8 + 8 ≡ (t + 1) * 8
+    next : t * columns + columns ≡ (t + 1) * columns
     next = omega arith
 
 -- ---- a bid alone
@@ -81,10 +81,10 @@ pow-low (suc (suc (suc (suc d)))) h = absurd (omega arith)
 pub pow-at : {d r : ℕ} (e : ℕ) → d ≡ e → e < 4 → r ≡ 2 ^ d → r ≤ 8
 pow-at e q h er = rw (er, q) (pow-low e h)
 
-pub alone-is : (sheet base : List ℕ) (p k y : ℕ) {d t w : ℕ} → d ≡ rowYear sheet k → t ≡ 2 ^ d → w ≡ worthOf sheet k p y
-    → getD base (t * 8 + y) 0 + w ≡ aloneTotal sheet base p k y
+pub alone-is : (sheet : List ℕ) (of : Size) (base : List ℕ) (p k c : ℕ) {d t w : ℕ} → d ≡ rowYear sheet k → t ≡ 2 ^ d → w ≡ worthOf sheet of k p c
+    → getD base (t * columns + c) 0 + w ≡ aloneTotal sheet of base p k c
 unfolding aloneTotal
-alone-is sheet base p k y ed et ew = rw (ew, et, ed)
+alone-is sheet of base p k c ed et ew = rw (ew, et, ed)
 
 pub and-yes : {a b c : Bool} → a ≡ true → c ≡ b → c ≡ (a && b)
 and-yes h e = rw (h, e)
@@ -125,13 +125,13 @@ unfolding startOf
 start-is sheet list j er = er
 
 module _ (sheet : List ℕ) (of : Size) (list : List ℕ) (p i : ℕ) where
-  pub own-in : {r : ℕ} → i % 8 < of .years → r ≡ worthOf sheet (getD list (i / 8) 0) p (i % 8) → r ≡ ownAt sheet of list p i
+  pub own-in : {r : ℕ} → i % columns < of .columns → r ≡ worthOf sheet of (getD list (i / columns) 0) p (i % columns) → r ≡ ownAt sheet of list p i
   unfolding ownAt
-  own-in h e = rw (e, lt-ltb (i % 8) (of .years) h)
+  own-in h e = rw (e, lt-ltb (i % columns) (of .columns) h)
 
-  pub own-out : of .years ≤ i % 8 → 0 ≡ ownAt sheet of list p i
+  pub own-out : of .columns ≤ i % columns → 0 ≡ ownAt sheet of list p i
   unfolding ownAt
-  own-out h = rw (le-ltb (i % 8) (of .years) h)
+  own-out h = rw (le-ltb (i % columns) (of .columns) h)
 
 -- ---- combinations
 module _ (t d : ℕ) {b : Bool} (eb : b ≡ has t d) where
@@ -156,12 +156,12 @@ module _ (ranks : List ℕ) (mask j : ℕ) {b : Bool} (eb : b ≡ has mask (getD
     unfolding touchedOf
     touched-miss h = rw (add-one j, sym eb ∙ h, et)
 
-  module _ (own : List ℕ) (y : ℕ) {s : ℕ} (es : s ≡ combinedOf own ranks mask y j) where
-    pub combined-hit : b ≡ true → s + getD own (j * 8 + y) 0 ≡ combinedOf own ranks mask y (j + 1)
+  module _ (own : List ℕ) (c : ℕ) {s : ℕ} (es : s ≡ combinedOf own ranks mask c j) where
+    pub combined-hit : b ≡ true → s + getD own (j * columns + c) 0 ≡ combinedOf own ranks mask c (j + 1)
     unfolding combinedOf
     combined-hit h = rw (add-one j, sym eb ∙ h, es)
 
-    pub combined-miss : b ≡ false → s ≡ combinedOf own ranks mask y (j + 1)
+    pub combined-miss : b ≡ false → s ≡ combinedOf own ranks mask c (j + 1)
     unfolding combinedOf
     combined-miss h = rw (add-one j, sym eb ∙ h, es) (omega arith)
 
@@ -184,19 +184,19 @@ unfolding oneYearAt
 one-year-is ranks starts k i ew er = rw (er, ew)
 
 -- ---- the search
-pub joint-is : (base costs : List ℕ) (mask t y : ℕ) {n : ℕ} → n ≡ mask
-    → getD base (t * columns + y) 0 + getD costs (n % partSize * columns + y) 0 + getD costs (partRows + n / partSize * columns + y) 0
-    ≡ jointOf base costs mask t y
+pub joint-is : (base costs : List ℕ) (mask t c : ℕ) {n : ℕ} → n ≡ mask
+    → getD base (t * columns + c) 0 + getD costs (n % partSize * columns + c) 0 + getD costs (partRows + n / partSize * columns + c) 0
+    ≡ jointOf base costs mask t c
 unfolding jointOf
-joint-is base costs mask t y e = rw e
+joint-is base costs mask t c e = rw e
 
--- a year above its budget, whatever the others
-pub fits-stops : (f : ℕ → ℕ) (sheet : List ℕ) (y n : ℕ) {x q : ℕ} → x ≡ f y → q ≡ limitAt sheet y → q < x → y < n → false ≡ fitsTo f sheet n
+-- a column above its limit, whatever the others
+pub fits-stops : (f : ℕ → ℕ) (sheet : List ℕ) (c n : ℕ) {x q : ℕ} → x ≡ f c → q ≡ limitAt sheet c → q < x → c < n → false ≡ fitsTo f sheet n
 unfolding fitsTo
-fits-stops f sheet y zero e l h g = absurd (omega arith)
-fits-stops f sheet y (suc n) e l h g =
-    case (eqb y n) (λ t. rw (← (eqb-true y n t), ← e, ← l, lt-leb _ _ h))
-    (λ u. let d = eqb-false y n u in rw (← (fits-stops f sheet y n e l h (omega arith))) (no (leb (f n) (limitAt sheet n))))
+fits-stops f sheet c zero e l h g = absurd (omega arith)
+fits-stops f sheet c (suc n) e l h g =
+    case (eqb c n) (λ t. rw (← (eqb-true c n t), ← e, ← l, lt-leb _ _ h))
+    (λ u. let d = eqb-false c n u in rw (← (fits-stops f sheet c n e l h (omega arith))) (no (leb (f n) (limitAt sheet n))))
   where
     no : (b : Bool) → false ≡ (b && false)
     no true = refl
@@ -218,7 +218,7 @@ unfolding lastBy
 last-is of base costs dates mask et el ew = rw (ew, et, el)
 
 pub ok-is : (sheet : List ℕ) (of : Size) (base costs dates : List ℕ) (mask : ℕ) {t : ℕ} {f : Bool} → t ≡ unionOf dates mask
-    → f ≡ fitsTo (jointOf base costs mask t) sheet (of .years) → f ≡ okBy sheet of base costs dates mask
+    → f ≡ fitsTo (jointOf base costs mask t) sheet (of .columns) → f ≡ okBy sheet of base costs dates mask
 unfolding okBy
 ok-is sheet of base costs dates mask et ef = rw (ef, et)
 

@@ -9,20 +9,21 @@ use lib.Dec.{eqb, ltb}
 use borrow.Author.Tests.{eqb-true, eqb-false, eq-eqb, ne-eqb, lt-ltb}
 use Rattle.rules.specs.Names.{mostBids, noPrice}
 use Rattle.rules.specs.Lists.{pick, memb, sift, below, sum}
-use Rattle.rules.specs.Pot.{Pot, has, best, value, priceFrom, clearing, tally, total, within, fits, remaining, rank, combination, chosen, choose}
+use Rattle.rules.specs.Pot.{Pot, has, best, priceFrom, clearing, tally, total, fits, remaining, rank, combination, chosen, choose}
 use Rattle.laws_pot.specs.Lists.{case, In, memb-in, in-memb, in-one, in-map, sift-in, sift-same, sift-both, memb-join, below-in}
 use Rattle.laws_pot.specs.Bits.{has-none, add-adds, add-other}
 use Rattle.laws_pot.specs.Tie.{tally-same, best-same, combination-in}
 use Rattle.arrays.specs.Sets.{none, built, members}
 use Rattle.arrays.proofs.Arrays.{put-is, at-start, fill-at, members-built}
 use Rattle.sheet.specs.declared.Size.{Size}
-use Rattle.sheet.specs.Sheet.{potIn, Ready, inAuction, rowYear, rowDraw}
+use Rattle.sheet.proofs.Columns.{columns-few}
+use Rattle.sheet.specs.Sheet.{columns, potIn, Ready, inAuction, rowYear, rowDraw}
 use Rattle.totals.specs.Totals.{worthOf, totalOf}
 use Rattle.totals.proofs.Link as link
-use Rattle.totals.proofs.Link.{Marked}
-use Rattle.ties.specs.Ties.{repricedTo, baseAt, noBase, basesOf, aloneTotal, aloneFits, keepsOf, compactOf, listed, aboveOf, rankOf, ranksOf, startOf}
-use Rattle.ties.specs.Ties.{startsOf, ownAt, noOwn, ownsOf, Numbers, touchOf, touchedOf, maskTotal, figure, okMask, lastMask, bestMask, combinationOf}
-use Rattle.ties.specs.Ties.{choiceAt, choiceOf}
+use Rattle.totals.proofs.Link.{Marked, columnOf, columnTotal}
+use Rattle.ties.specs.Ties.{yearSets, repricedTo, baseAt, noBase, basesOf, aloneTotal, aloneFits, keepsOf, compactOf, listed, aboveOf, rankOf, ranksOf}
+use Rattle.ties.specs.Ties.{startOf, startsOf, ownAt, noOwn, ownsOf, Numbers, touchOf, touchedOf, maskTotal, figure, okMask, lastMask, bestMask}
+use Rattle.ties.specs.Ties.{combinationOf, choiceAt, choiceOf}
 use Rattle.ties.proofs.Laws.{pow-low}
 use Rattle.ties.proofs.Parts.{touch-low}
 use Rattle.ties.proofs.Lists.{listed-is, numbers, rank-at, start-at}
@@ -112,20 +113,20 @@ module _ (sheet : List ℕ) (of : Size) (ok : Ready sheet of) where
           (λ f. rw f (one n (let d = eqb-false n i f in omega arith)))
 
   -- the members of a set that has the bids of a part
-  pub part-members : (c : List ℕ) (s : List Bool) → Part P c → ((i : ℕ) → i < of .bids → getD s i false ≡ memb i c) → members s (of .bids) ≡ c
-  part-members c s Q h =
+  pub part-members : (bs : List ℕ) (s : List Bool) → Part P bs → ((i : ℕ) → i < of .bids → getD s i false ≡ memb i bs) → members s (of .bids) ≡ bs
+  part-members bs s Q h =
       opened
-      ∙ sift-same (λ i. getD s i false) (λ i. inAuction sheet i && memb i c) (below (of .bids)) (λ i j. h i (below-in i (of .bids) j) ∙ alike i)
-      ∙ sym (sift-both (λ i. memb i c) (inAuction sheet) (below (of .bids))) ∙ closed
+      ∙ sift-same (λ i. getD s i false) (λ i. inAuction sheet i && memb i bs) (below (of .bids)) (λ i j. h i (below-in i (of .bids) j) ∙ alike i)
+      ∙ sym (sift-both (λ i. memb i bs) (inAuction sheet) (below (of .bids))) ∙ closed
     where
       opened : members s (of .bids) ≡ sift (λ i. getD s i false) (below (of .bids))
       opened = unfold members in refl
 
-      closed : sift (λ i. memb i c) (sift (inAuction sheet) (below (of .bids))) ≡ c
+      closed : sift (λ i. memb i bs) (sift (inAuction sheet) (below (of .bids))) ≡ bs
       closed = unfold potIn in (Q .part)
 
-      alike : (i : ℕ) → memb i c ≡ (inAuction sheet i && memb i c)
-      alike i = case (memb i c) (λ t. rw (t, link.bid-in sheet of ok i (part-in P i Q (memb-in i c t)))) (λ f. rw f (no (inAuction sheet i)))
+      alike : (i : ℕ) → memb i bs ≡ (inAuction sheet i && memb i bs)
+      alike i = case (memb i bs) (λ t. rw (t, link.bid-in sheet of ok i (part-in P i Q (memb-in i bs t)))) (λ f. rw f (no (inAuction sheet i)))
         where
           no : (t : Bool) → false ≡ (t && false)
           no true = refl
@@ -141,23 +142,23 @@ module _ (sheet : List ℕ) (of : Size) (ok : Ready sheet of) where
     start : (i : ℕ) → In i (P .bids) → rowYear sheet i < 4
     start i h = ok .year i (link.bid-lt sheet of ok i h)
 
-    row-at : (t y : ℕ) → t < 16 → y < of .years → getD base (t * 8 + y) 0 ≡ totalOf sheet marks (repricedTo prices p t 4) y (of .bids)
+    row-at : (t c : ℕ) → t < 16 → c < of .columns → getD base (t * columns + c) 0 ≡ totalOf sheet of marks (repricedTo prices p t 4) c (of .bids)
     unfolding noBase baseAt
-    row-at t y h g =
-        ap (λ (l : List ℕ). getD l (t * 8 + y) 0) eb
-        ∙ fill-at noBase (baseAt sheet of marks prices p) 128 (t * 8 + y) 0 (omega arith) (omega (arith, ok .years))
-        ∙ rw (over8, by8, lt-ltb y (of .years) g)
+    row-at t c h g =
+        ap (λ (l : List ℕ). getD l (t * columns + c) 0) eb
+        ∙ fill-at noBase (baseAt sheet of marks prices p) (yearSets * columns) (t * columns + c) 0 (omega arith) (omega (arith, columns-few ok))
+        ∙ rw (place, row, lt-ltb c (of .columns) g)
       where
-        over8 : (t * 8 + y) % 8 ≡ y
-        over8 = omega (arith, ok .years)
+        place : (t * columns + c) % columns ≡ c
+        place = omega (arith, columns-few ok)
 
-        by8 : (t * 8 + y) / 8 ≡ t
-        by8 = omega (arith, ok .years)
+        row : (t * columns + c) / columns ≡ t
+        row = omega (arith, columns-few ok)
 
-    base-is : (t y : ℕ) → t < 16 → y < of .years → getD base (t * 8 + y) 0 ≡ tally P (value P) (λ i. memb i ws) (over t) y (P .bids)
-    base-is t y h g =
-        row-at t y h g
-        ∙ link.total-at sheet of ok ws marks (repricedTo prices p t 4) M (over t) same y g
+    base-is : (t c : ℕ) → t < 16 → c < of .columns → getD base (t * columns + c) 0 ≡ tally P (columnOf P) (λ i. memb i ws) (over t) c (P .bids)
+    base-is t c h g =
+        row-at t c h g
+        ∙ link.total-at sheet of ok ws marks (repricedTo prices p t 4) M (over t) same c
       where
         same : (i : ℕ) → In i (P .bids) → memb i ws ≡ true → getD (repricedTo prices p t 4) (rowYear sheet i) 0 ≡ over t (rowYear sheet i)
         same i j w =
@@ -168,43 +169,46 @@ module _ (sheet : List ℕ) (of : Size) (ok : Ready sheet of) where
             opened e = unfold potIn in e
 
     -- bids at price p that have not won, and the years in which they start
-    pub record Tried (c : List ℕ) (t : ℕ) : Type 0 where
-      pub part : Part P c
-      pub price : (i : ℕ) → In i c → P .price i ≡ p
-      pub fresh : (i : ℕ) → In i c → memb i ws ≡ false
+    pub record Tried (bs : List ℕ) (t : ℕ) : Type 0 where
+      pub part : Part P bs
+      pub price : (i : ℕ) → In i bs → P .price i ≡ p
+      pub fresh : (i : ℕ) → In i bs → memb i ws ≡ false
       pub low : t < 16
-      pub years : (d : ℕ) → d < 4 → has t d ≡ memb d (map (P .yr) c)
+      pub years : (d : ℕ) → d < 4 → has t d ≡ memb d (map (P .yr) bs)
 
-    pub joined : (c : List ℕ) (t y : ℕ) → Tried c t → y < of .years → getD base (t * 8 + y) 0 + sum (λ i. worthOf sheet i p y) c ≡ total P (c ++ ws) y
-    joined c t y T g = sym (
-        tally-same P (value P) (λ i. memb i (c ++ ws)) (λ i. memb i c || memb i ws) (clearing P (c ++ ws)) (over t) y (P .bids) (λ i j. memb-join i c ws)
+    pub joined : (bs : List ℕ) (t c : ℕ) → Tried bs t → c < of .columns
+        → getD base (t * columns + c) 0 + sum (λ i. worthOf sheet of i p c) bs ≡ columnTotal P (bs ++ ws) c
+    joined bs t c T g = sym (
+        tally-same P (columnOf P) (λ i. memb i (bs ++ ws)) (λ i. memb i bs || memb i ws) (clearing P (bs ++ ws)) (over t) c (P .bids) (λ i j. memb-join i bs ws)
         (λ i j u. price i j)
-        ∙ tally-split P (value P) (λ i. memb i c) (λ i. memb i ws) (over t) y (P .bids) (λ i j u. T .fresh i (memb-in i c u))
-        ∙ ap₂ _+_ (sym (base-is t y (T .low) g))
-        (tally-sum P (value P) (λ i. memb i c) (over t) y (P .bids) ∙ ap (sum (λ i. value P i (over t (P .yr i)) y)) (T .part .part)
-        ∙ sum-same (λ i. value P i (over t (P .yr i)) y) (λ i. worthOf sheet i p y) c own)
+        ∙ tally-split P (columnOf P) (λ i. memb i bs) (λ i. memb i ws) (over t) c (P .bids) (λ i j u. T .fresh i (memb-in i bs u))
+        ∙ ap₂ _+_ (sym (base-is t c (T .low) g))
+        (tally-sum P (columnOf P) (λ i. memb i bs) (over t) c (P .bids) ∙ ap (sum (λ i. columnOf P i (over t (P .yr i)) c)) (T .part .part)
+        ∙ sum-same (λ i. columnOf P i (over t (P .yr i)) c) (λ i. worthOf sheet of i p c) bs own)
         )
       where
-        years : (i : ℕ) → In i (P .bids) → has t (P .yr i) ≡ memb (P .yr i) (map (P .yr) c)
+        years : (i : ℕ) → In i (P .bids) → has t (P .yr i) ≡ memb (P .yr i) (map (P .yr) bs)
         years i j = T .years (P .yr i) (low (start i j))
           where
             low : rowYear sheet i < 4 → P .yr i < 4
             low h = unfold potIn in h
 
-        price : (i : ℕ) → In i (P .bids) → clearing P (c ++ ws) (P .yr i) ≡ over t (P .yr i)
-        price i j = price-one P 0 p c ws (P .yr i) (T .price) ∙ ap (λ (u : Bool). pick u p (clearing P ws (P .yr i))) (sym (years i j))
+        price : (i : ℕ) → In i (P .bids) → clearing P (bs ++ ws) (P .yr i) ≡ over t (P .yr i)
+        price i j = price-one P 0 p bs ws (P .yr i) (T .price) ∙ ap (λ (u : Bool). pick u p (clearing P ws (P .yr i))) (sym (years i j))
 
-        own : (i : ℕ) → In i c → value P i (over t (P .yr i)) y ≡ worthOf sheet i p y
-        own i j = rw (years i (part-in P i (T .part) j), in-memb (in-map (P .yr) j)) (link.value-is sheet of ok i p y g)
+        own : (i : ℕ) → In i bs → columnOf P i (over t (P .yr i)) c ≡ worthOf sheet of i p c
+        own i j =
+            let k = part-in P i (T .part) j in
+            rw (years i k, in-memb (in-map (P .yr) j)) (link.column-is sheet of ok i p c (link.bid-in sheet of ok i k))
 
     -- ---- what fits alone
     module _ (a : List Bool) (l : List ℕ) (of-set : members a (of .bids) ≡ l) (Q : Part P l) (pl : (i : ℕ) → In i l → P .price i ≡ p)
         (fl : (i : ℕ) → In i l → memb i ws ≡ false) where
-      alone-is : (i y : ℕ) → In i l → y < of .years → aloneTotal sheet base p i y ≡ total P (i ∷ ws) y
+      alone-is : (i c : ℕ) → In i l → c < of .columns → aloneTotal sheet of base p i c ≡ columnTotal P (i ∷ ws) c
       unfolding aloneTotal
-      alone-is i y j g = omega (arith, plus) ∙ joined (i ∷ []) (2 ^ rowYear sheet i) y tried g
+      alone-is i c j g = omega (arith, plus) ∙ joined (i ∷ []) (2 ^ rowYear sheet i) c tried g
         where
-          plus : sum (λ i. worthOf sheet i p y) (i ∷ []) ≡ worthOf sheet i p y + 0
+          plus : sum (λ i. worthOf sheet of i p c) (i ∷ []) ≡ worthOf sheet of i p c + 0
           plus = unfold sum in refl
 
           tried : Tried (i ∷ []) (2 ^ rowYear sheet i)
@@ -220,10 +224,7 @@ module _ (sheet : List ℕ) (of : Size) (ok : Ready sheet of) where
               opened d = unfold potIn in refl
 
       alone-fits : (i : ℕ) → In i l → aloneFits sheet of base p i ≡ fits P (i ∷ ws)
-      alone-fits i j = link.fits-is sheet of ok (aloneTotal sheet base p i) (total P (i ∷ ws)) (of .years) (omega arith) (λ y h. alone-is i y j h) ∙ opened
-        where
-          opened : within P (total P (i ∷ ws)) (of .years) ≡ fits P (i ∷ ws)
-          opened = unfold potIn in refl
+      alone-fits i j = link.fits-is sheet of ok (aloneTotal sheet of base p i) (i ∷ ws) (λ c h. alone-is i c j h)
 
       module _ (s : List Bool) (es : s ≡ built (keepsOf sheet of base p a) (of .bids)) where
         abbrev r : List ℕ
@@ -277,16 +278,17 @@ module _ (sheet : List ℕ) (of : Size) (ok : Ready sheet of) where
           unfolding startOf potIn
           start-is j g = start-at sheet of list k ok N j g
 
-          own-is : (j y : ℕ) → j < k → y < of .years → getD own (j * 8 + y) 0 ≡ worthOf sheet (getD list j 0) p y
+          own-is : (j c : ℕ) → j < k → c < of .columns → getD own (j * columns + c) 0 ≡ worthOf sheet of (getD list j 0) p c
           unfolding noOwn ownAt
-          own-is j y g h =
-              fill-at noOwn (ownAt sheet of list p) (k * 8) (j * 8 + y) 0 (omega arith) (omega (arith, ok .years)) ∙ rw (over8, by8, lt-ltb y (of .years) h)
+          own-is j c g h =
+              fill-at noOwn (ownAt sheet of list p) (k * columns) (j * columns + c) 0 (omega arith) (omega (arith, columns-few ok))
+              ∙ rw (place, row, lt-ltb c (of .columns) h)
             where
-              over8 : (j * 8 + y) % 8 ≡ y
-              over8 = omega (arith, ok .years)
+              place : (j * columns + c) % columns ≡ c
+              place = omega (arith, columns-few ok)
 
-              by8 : (j * 8 + y) / 8 ≡ j
-              by8 = omega (arith, ok .years)
+              row : (j * columns + c) / columns ≡ j
+              row = omega (arith, columns-few ok)
 
           module _ (mask : ℕ) where
             abbrev sel : ℕ → Bool
@@ -311,14 +313,14 @@ module _ (sheet : List ℕ) (of : Size) (ok : Ready sheet of) where
                 low : (n : ℕ) → n < k → P .yr (getD list n 0) < 4
                 low n g = unfold potIn in ok .year (getD list n 0) (N .small n g)
 
-            sum-is : (t y n : ℕ) → n ≤ k → y < of .years
-                → maskTotal base own ranks mask t y n ≡ getD base (t * 8 + y) 0 + sum (λ i. worthOf sheet i p y) (sift sel (listed list n))
+            sum-is : (t c n : ℕ) → n ≤ k → c < of .columns
+                → maskTotal base own ranks mask t c n ≡ getD base (t * columns + c) 0 + sum (λ i. worthOf sheet of i p c) (sift sel (listed list n))
             unfolding maskTotal listed sum
-            sum-is t y zero h g = omega arith
-            sum-is t y (suc n) h g =
-                let ih = sum-is t y n (omega arith) g in
+            sum-is t c zero h g = omega arith
+            sum-is t c (suc n) h g =
+                let ih = sum-is t c n (omega arith) g in
                 case (sel (getD list n 0))
-                (λ u. rw (sel-is n h ∙ u, u, own-is n y h g, ih) (omega arith))
+                (λ u. rw (sel-is n h ∙ u, u, own-is n c h g, ih) (omega arith))
                 (λ u. rw (sel-is n h ∙ u, u, ih) (omega arith))
 
             set-size : (n : ℕ) → length (combinationOf list ranks mask n) ≡ mostBids
@@ -368,25 +370,25 @@ module _ (sheet : List ℕ) (of : Size) (ok : Ready sheet of) where
                   years = λ d g. f .1 d g ∙ ap (λ (x : List ℕ). memb d (map (P .yr) x)) of-com;
                 }
 
-            figure-is : (y : ℕ) → y < of .years → figure base own ranks k mask years y ≡ total P (cs ++ ws) y
+            figure-is : (c : ℕ) → c < of .columns → figure base own ranks k mask years c ≡ columnTotal P (cs ++ ws) c
             unfolding figure
-            figure-is y g =
-                sum-is years y k (omega arith) g ∙ ap (λ (x : List ℕ). getD base (years * 8 + y) 0 + sum (λ i. worthOf sheet i p y) x) of-com
-                ∙ joined cs years y tried g
+            figure-is c g =
+                sum-is years c k (omega arith) g ∙ ap (λ (x : List ℕ). getD base (years * columns + c) 0 + sum (λ i. worthOf sheet of i p c) x) of-com
+                ∙ joined cs years c tried g
 
             ok-is : okMask sheet of base own ranks starts k mask ≡ fits P (cs ++ ws)
             unfolding okMask
-            ok-is = link.fits-is sheet of ok (figure base own ranks k mask years) (total P (cs ++ ws)) (of .years) (omega arith) figure-is ∙ opened
-              where
-                opened : within P (total P (cs ++ ws)) (of .years) ≡ fits P (cs ++ ws)
-                opened = unfold potIn in refl
+            ok-is = link.fits-is sheet of ok (figure base own ranks k mask years) (cs ++ ws) figure-is
 
             last-is : lastMask of base own ranks starts k mask ≡ total P (cs ++ ws) (P .years - 1)
             unfolding lastMask
-            last-is = figure-is (of .years - 1) (omega (arith, ok .some)) ∙ opened
+            last-is = figure-is (of .years - 1) (omega (arith, ok .some, ok .columns-least)) ∙ opened ∙ link.total-column P (cs ++ ws) (P .years - 1) year
               where
-                opened : total P (cs ++ ws) (of .years - 1) ≡ total P (cs ++ ws) (P .years - 1)
+                opened : columnTotal P (cs ++ ws) (of .years - 1) ≡ columnTotal P (cs ++ ws) (P .years - 1)
                 opened = unfold potIn in refl
+
+                year : P .years - 1 < P .years
+                year = unfold potIn in omega (arith, ok .some)
 
             of-set-com : members (combinationOf list ranks mask k) (of .bids) ≡ cs
             of-set-com = part-members cs (combinationOf list ranks mask k) part-com (λ i g. set-is k i (omega arith) g ∙ ap (memb i) of-com)

@@ -6,18 +6,19 @@ use mathlib.Core.List.{List, _∷_}
 use native.Mathlib.Omega.{arith}
 use lib.ListN.{length, getD, set, length-set}
 use lib.Dec.{eqb, ltb}
-use borrow.Author.Tests.{eqb-true, eqb-false, eq-eqb, ne-eqb, ltb-true}
+use borrow.Author.Tests.{eqb-true, eqb-false, eq-eqb, ne-eqb}
+use Rattle.rules.specs.Names.{widestTie}
 use Rattle.rules.specs.Value.{dearest}
 use Rattle.rules.specs.Lists.{sift, below}
 use Rattle.laws_pot.specs.Lists.{case, In, here, there, sift-in, sift-le, below-in}
 use Rattle.arrays.specs.Sets.{members}
 use Rattle.arrays.proofs.Arrays.{fill-at, fill-le, zeros, members-less, put-is}
 use Rattle.sheet.specs.declared.Size.{Size}
-use Rattle.sheet.specs.Sheet.{rowDraw, Ready}
+use Rattle.sheet.specs.Sheet.{columns, rowDraw, Ready}
 use Rattle.totals.proofs.Laws.{worth-le, total-le}
 use Rattle.ties.specs.declared.tied.Tied.{Tied}
-use Rattle.ties.specs.Ties.{Bounded, repricedTo, baseAt, noBase, basesOf, mostBase, listed, noList, compactOf, aboveOf, rankOf, ranksOf, startOf}
-use Rattle.ties.specs.Ties.{startsOf, tiedOf, Few, Numbers, Placed, ownAt, noOwn, ownsOf, Owned}
+use Rattle.ties.specs.Ties.{yearSets, Bounded, repricedTo, baseAt, noBase, basesOf, mostBase, listed, noList, compactOf, aboveOf, rankOf, ranksOf}
+use Rattle.ties.specs.Ties.{startOf, startsOf, tiedOf, Few, Numbers, Placed, ownAt, noOwn, ownsOf, Owned}
 
 -- ---- the list of a set is its members
 compact-length : (l : List Bool) (n : ℕ) → length (compactOf l n) ≡ 10
@@ -93,25 +94,25 @@ pub base-ok : (sheet : List ℕ) (of : Size) (marks prices : List ℕ) (p : ℕ)
     → Bounded base mostBase
 unfolding noBase baseAt
 base-ok sheet of marks prices p v e = rw e (record {
-  small = λ i. fill-le noBase (baseAt sheet of marks prices p) mostBase 128 i (omega arith)
-      (λ j g. case (ltb (j % 8) (of .years))
+  small = λ i. fill-le noBase (baseAt sheet of marks prices p) mostBase (yearSets * columns) i (omega arith)
+      (λ j g. case (ltb (j % columns) (of .columns))
       (λ t. rw t (omega (
         arith,
         v .few,
-        total-le sheet of marks (repricedTo prices p (j / 8) 4) (j % 8) (of .bids) v (ltb-true (j % 8) (of .years) t) (omega arith),
+        total-le sheet of marks (repricedTo prices p (j / columns) 4) (j % columns) (of .bids) v (omega arith),
       )))
       (λ f. rw f (omega arith)))
-      (λ j. rw (zeros 128 j) (omega arith));
+      (λ j. rw (zeros (yearSets * columns) j) (omega arith));
 })
 
 module _ (sheet : List ℕ) (of : Size) (list : List ℕ) (k : ℕ) (v : Ready sheet of) (N : Numbers list k (of .bids)) where
   own-ok : (p i : ℕ) → getD (ownsOf sheet of list p k) i 0 ≤ dearest
   unfolding noOwn ownAt
-  own-ok p i = fill-le noOwn (ownAt sheet of list p) dearest (k * 8) i (omega (arith, N .few))
-      (λ j g. case (ltb (j % 8) (of .years))
-      (λ t. rw t (worth-le sheet of (getD list (j / 8) 0) p (j % 8) v (N .small (j / 8) (omega arith)) (ltb-true (j % 8) (of .years) t)))
+  own-ok p i = fill-le noOwn (ownAt sheet of list p) dearest (k * columns) i (omega (arith, N .few))
+      (λ j g. case (ltb (j % columns) (of .columns))
+      (λ t. rw t (worth-le sheet of (getD list (j / columns) 0) p (j % columns) v (N .small (j / columns) (omega arith))))
       (λ f. rw f (omega arith)))
-      (λ j. rw (zeros 80 j) (omega arith))
+      (λ j. rw (zeros (widestTie * columns) j) (omega arith))
 
   ten : length noList ≡ 10
   unfolding noList

@@ -20,8 +20,10 @@ use Rattle.arrays.specs.Sets.{fill}
 use Rattle.arrays.proofs.Arrays.{zeros, fill-at, fill-le, fill-stays}
 use Rattle.totals.proofs.Laws.{fits-same}
 use Rattle.sheet.specs.declared.Size.{Size}
-use Rattle.sheet.specs.Sheet.{Ready}
-use Rattle.ties.specs.Ties.{yearSets, combinations, Bounded, mostBase, noList, noOwn, touchOf, touchedOf, combinedOf, oneAt, onesOf, costAt, noCosts}
+use Rattle.sheet.specs.Sheet.{columns, Ready}
+use Rattle.sheet.proofs.Columns.{columns-few}
+use Rattle.ties.specs.Ties.{yearSets, combinations, parts, partRows, Bounded, mostBase, noList, noOwn, touchOf, touchedOf, combinedOf, oneAt}
+use Rattle.ties.specs.Ties.{onesOf, costAt, noCosts}
 use Rattle.ties.specs.Ties.{costsOf, oneYearAt, oneYearsOf, yearAt, noYears, yearsOf, maskTotal, figure, okMask, lastMask, bestMask, jointOf, unionOf}
 use Rattle.ties.specs.Ties.{okBy, lastBy, bestBy, Tabled, Dated}
 
@@ -60,17 +62,17 @@ module _ (u : ℕ) where
   has-apart (suc n) v (suc i) h t = half-has n i ∙ has-apart n (v / 2) i (omega (arith, pow-suc 2 n)) (sym (has-suc v i) ∙ t)
 
 -- ---- what the bids cost
-combined-none : (own ranks : List ℕ) (y k : ℕ) → combinedOf own ranks 0 y k ≡ 0
+combined-none : (own ranks : List ℕ) (c k : ℕ) → combinedOf own ranks 0 c k ≡ 0
 unfolding combinedOf
-combined-none own ranks y zero = refl
-combined-none own ranks y (suc k) = rw (has-none (getD ranks k 0)) (omega (arith, combined-none own ranks y k))
+combined-none own ranks c zero = refl
+combined-none own ranks c (suc k) = rw (has-none (getD ranks k 0)) (omega (arith, combined-none own ranks c k))
 
-combined-join : (own ranks : List ℕ) (y n v u k : ℕ) → v < 2 ^ n
-    → combinedOf own ranks (v + 2 ^ n * u) y k ≡ combinedOf own ranks v y k + combinedOf own ranks (2 ^ n * u) y k
+combined-join : (own ranks : List ℕ) (c n v u k : ℕ) → v < 2 ^ n
+    → combinedOf own ranks (v + 2 ^ n * u) c k ≡ combinedOf own ranks v c k + combinedOf own ranks (2 ^ n * u) c k
 unfolding combinedOf
-combined-join own ranks y n v u zero h = refl
-combined-join own ranks y n v u (suc k) h =
-    let r = combined-join own ranks y n v u k h in
+combined-join own ranks c n v u zero h = refl
+combined-join own ranks c n v u (suc k) h =
+    let r = combined-join own ranks c n v u k h in
     let i = getD ranks k 0 in
     let j = has-join u n v i h in
     case (has v i) (λ t. rw (j, t, has-apart u n v i h t, r) (omega arith)) (λ f. rw (j, f, r) (omega arith))
@@ -143,12 +145,12 @@ touched-low ranks starts mask (suc k) h =
     let r = touched-low ranks starts mask k (λ j g. h j (omega arith)) in
     case (has mask (getD ranks k 0)) (λ t. rw t (touch-low (touchedOf ranks starts mask k) (getD starts k 0) r (h k (omega arith)))) (λ f. rw f r)
 
-combined-le : (own ranks : List ℕ) (mask y k : ℕ) → ((i : ℕ) → getD own i 0 ≤ dearest) → combinedOf own ranks mask y k ≤ dearest * k
+combined-le : (own ranks : List ℕ) (mask c k : ℕ) → ((i : ℕ) → getD own i 0 ≤ dearest) → combinedOf own ranks mask c k ≤ dearest * k
 unfolding combinedOf
-combined-le own ranks mask y zero h = omega arith
-combined-le own ranks mask y (suc k) h =
-    let r = combined-le own ranks mask y k h in
-    case (has mask (getD ranks k 0)) (λ t. rw t (omega (arith, h (k * 8 + y)))) (λ f. rw f (omega arith))
+combined-le own ranks mask c zero h = omega arith
+combined-le own ranks mask c (suc k) h =
+    let r = combined-le own ranks mask c k h in
+    case (has mask (getD ranks k 0)) (λ t. rw t (omega (arith, h (k * columns + c)))) (λ f. rw f (omega arith))
 
 -- ---- a table of the combinations of five places from s on: that without its highest place r, and that place
 module _ (s r q : ℕ) (h : 2 ^ r ≤ q) (g : q < 2 * 2 ^ r) where
@@ -167,11 +169,11 @@ module _ (s r q : ℕ) (h : 2 ^ r ≤ q) (g : q < 2 * 2 ^ r) where
   alone : 2 ^ (s + r) * 1 ≡ 2 ^ (s + r)
   alone = omega arith
 
-  combined-part : (own ranks : List ℕ) (y k : ℕ)
-      → combinedOf own ranks ((q - 2 ^ r) * 2 ^ s) y k + combinedOf own ranks (2 ^ (s + r)) y k ≡ combinedOf own ranks (q * 2 ^ s) y k
-  combined-part own ranks y k =
-      sym (ap (λ (x : ℕ). combinedOf own ranks x y k) parted ∙ combined-join own ranks y (s + r) ((q - 2 ^ r) * 2 ^ s) 1 k without
-      ∙ ap (λ (x : ℕ). combinedOf own ranks ((q - 2 ^ r) * 2 ^ s) y k + combinedOf own ranks x y k) alone)
+  combined-part : (own ranks : List ℕ) (c k : ℕ)
+      → combinedOf own ranks ((q - 2 ^ r) * 2 ^ s) c k + combinedOf own ranks (2 ^ (s + r)) c k ≡ combinedOf own ranks (q * 2 ^ s) c k
+  combined-part own ranks c k =
+      sym (ap (λ (x : ℕ). combinedOf own ranks x c k) parted ∙ combined-join own ranks c (s + r) ((q - 2 ^ r) * 2 ^ s) 1 k without
+      ∙ ap (λ (x : ℕ). combinedOf own ranks ((q - 2 ^ r) * 2 ^ s) c k + combinedOf own ranks x c k) alone)
 
   touched-part : (ranks starts : List ℕ) (k : ℕ) {a b : ℕ} → a ≡ touchedOf ranks starts ((q - 2 ^ r) * 2 ^ s) k → b ≡ touchedOf ranks starts (2 ^ (s + r)) k
       → bitOr a b ≡ touchedOf ranks starts (q * 2 ^ s) k
@@ -181,10 +183,10 @@ module _ (s r q : ℕ) (h : 2 ^ r ≤ q) (g : q < 2 * 2 ^ r) where
       ∙ ap (λ (x : ℕ). bitOr (touchedOf ranks starts ((q - 2 ^ r) * 2 ^ s) k) (touchedOf ranks starts x k)) alone)
 
 -- a number with less in one part
-less-row : (i p : ℕ) → p ≤ i / 8 → (i - p * 8) / 8 ≡ i / 8 - p
+less-row : (i p : ℕ) → p ≤ i / columns → (i - p * columns) / columns ≡ i / columns - p
 less-row i p h = omega arith
 
-less-place : (i p : ℕ) → p ≤ i / 8 → (i - p * 8) % 8 ≡ i % 8
+less-place : (i p : ℕ) → p ≤ i / columns → (i - p * columns) % columns ≡ i % columns
 less-place i p h = omega arith
 
 less-part : (x p : ℕ) → p ≤ x % 32 → (x - p) % 32 ≡ x % 32 - p
@@ -193,24 +195,25 @@ less-part x p h = omega arith
 less-above : (x p : ℕ) → p ≤ x % 32 → (x - p) / 32 ≡ x / 32
 less-above x p h = omega arith
 
-by-parts : (i : ℕ) → i / 256 ≡ i / 8 / 32
+by-parts : (i : ℕ) → i / partRows ≡ i / columns / 32
 by-parts i = omega arith
 
-cost-step : (own ranks : List ℕ) (k i r : ℕ) {a b : ℕ} → 2 ^ r ≤ i / 8 % 32 → i / 8 % 32 < 2 * 2 ^ r
-    → a ≡ costAt own ranks k (i - 2 ^ r * 8) → b ≡ oneAt own ranks k ((i / 256 * 5 + r) * 8 + i % 8) → a + b ≡ costAt own ranks k i
+cost-step : (own ranks : List ℕ) (k i r : ℕ) {a b : ℕ} → 2 ^ r ≤ i / columns % 32 → i / columns % 32 < 2 * 2 ^ r
+    → a ≡ costAt own ranks k (i - 2 ^ r * columns) → b ≡ oneAt own ranks k ((i / partRows * 5 + r) * columns + i % columns) → a + b ≡ costAt own ranks k i
 unfolding costAt oneAt
 cost-step own ranks k i r h g ea eb =
-    let l : 2 ^ r ≤ i / 8 = omega arith in
+    let l : 2 ^ r ≤ i / columns = omega arith in
     let d = less-row i (2 ^ r) l in
-    let q : (i - 2 ^ r * 8) / 8 % 32 ≡ i / 8 % 32 - 2 ^ r = ap (λ (x : ℕ). x % 32) d ∙ less-part (i / 8) (2 ^ r) h in
-    let s : (i - 2 ^ r * 8) / 256 ≡ i / 256 = by-parts (i - 2 ^ r * 8) ∙ ap (λ (x : ℕ). x / 32) d ∙ less-above (i / 8) (2 ^ r) h ∙ sym (by-parts i) in
+    let q : (i - 2 ^ r * columns) / columns % 32 ≡ i / columns % 32 - 2 ^ r = ap (λ (x : ℕ). x % 32) d ∙ less-part (i / columns) (2 ^ r) h in
+    let s : (i - 2 ^ r * columns) / partRows ≡ i / partRows
+    = by-parts (i - 2 ^ r * columns) ∙ ap (λ (x : ℕ). x / 32) d ∙ less-above (i / columns) (2 ^ r) h ∙ sym (by-parts i) in
     let f = less-place i (2 ^ r) l in
-    let p : ((i / 256 * 5 + r) * 8 + i % 8) / 8 ≡ i / 256 * 5 + r = omega arith in
-    let w : ((i / 256 * 5 + r) * 8 + i % 8) % 8 ≡ i % 8 = omega arith in
-    ap₂ _+_ (ea ∙ ap₂ (λ (x m : ℕ). combinedOf own ranks (x * 2 ^ ((i - 2 ^ r * 8) / 256 * 5)) m k) q f
-    ∙ ap (λ (x : ℕ). combinedOf own ranks ((i / 8 % 32 - 2 ^ r) * 2 ^ (x * 5)) (i % 8) k) s)
+    let p : ((i / partRows * 5 + r) * columns + i % columns) / columns ≡ i / partRows * 5 + r = omega arith in
+    let w : ((i / partRows * 5 + r) * columns + i % columns) % columns ≡ i % columns = omega arith in
+    ap₂ _+_ (ea ∙ ap₂ (λ (x m : ℕ). combinedOf own ranks (x * 2 ^ ((i - 2 ^ r * columns) / partRows * 5)) m k) q f
+    ∙ ap (λ (x : ℕ). combinedOf own ranks ((i / columns % 32 - 2 ^ r) * 2 ^ (x * 5)) (i % columns) k) s)
     (eb ∙ ap₂ (λ (x m : ℕ). combinedOf own ranks (2 ^ x) m k) p w)
-    ∙ combined-part (i / 256 * 5) r (i / 8 % 32) h g own ranks (i % 8) k
+    ∙ combined-part (i / partRows * 5) r (i / columns % 32) h g own ranks (i % columns) k
 
 year-step : (ranks starts : List ℕ) (k i r : ℕ) {a b : ℕ} → 2 ^ r ≤ i % 32 → i % 32 < 2 * 2 ^ r
     → a ≡ yearAt ranks starts k (i - 2 ^ r) → b ≡ oneYearAt ranks starts k (i / 32 * 5 + r) → bitOr a b ≡ yearAt ranks starts k i
@@ -223,42 +226,42 @@ year-step ranks starts k i r h g ea eb =
 
 -- ---- the tables, place by place: the number 0 of a part has nothing, any other is without its highest place an earlier one
 module _ (own ranks : List ℕ) (k : ℕ) where
-  cost-none : (i : ℕ) → i / 8 % 32 ≡ 0 → costAt own ranks k i ≡ 0
+  cost-none : (i : ℕ) → i / columns % 32 ≡ 0 → costAt own ranks k i ≡ 0
   unfolding costAt
   cost-none i e =
-      ap (λ (x : ℕ). combinedOf own ranks x (i % 8) k) (ap (λ (x : ℕ). x * 2 ^ (i / 256 * 5)) e ∙ none) ∙ combined-none own ranks (i % 8) k
+      ap (λ (x : ℕ). combinedOf own ranks x (i % columns) k) (ap (λ (x : ℕ). x * 2 ^ (i / partRows * 5)) e ∙ none) ∙ combined-none own ranks (i % columns) k
     where
-      none : 0 * 2 ^ (i / 256 * 5) ≡ 0
+      none : 0 * 2 ^ (i / partRows * 5) ≡ 0
       none = omega arith
 
-  pub cost-stays : (i : ℕ) {out : List ℕ} → out ≡ fill noCosts (costAt own ranks k) i → i < 512 → i / 8 % 32 ≤ 0
+  pub cost-stays : (i : ℕ) {out : List ℕ} → out ≡ fill noCosts (costAt own ranks k) i → i < parts * partRows → i / columns % 32 ≤ 0
       → out ≡ fill noCosts (costAt own ranks k) (i + 1)
   cost-stays i e h g = fill-stays noCosts (costAt own ranks k) i 0 e (size i h) (cost-none i (omega arith) ∙ sym (blank i))
     where
-      size : (i : ℕ) → i < 512 → i < length noCosts
+      size : (i : ℕ) → i < parts * partRows → i < length noCosts
       size i h = unfold noCosts in omega arith
 
       blank : (i : ℕ) → getD noCosts i 0 ≡ 0
-      blank i = unfold noCosts in zeros 512 i
+      blank i = unfold noCosts in zeros (parts * partRows) i
 
   pub cost-next : (i r : ℕ) {out one : List ℕ} {p : ℕ} → out ≡ fill noCosts (costAt own ranks k) i → one ≡ onesOf own ranks k
-      → i < 512 → r < 5 → 2 ^ r ≤ i / 8 % 32 → i / 8 % 32 < 2 * 2 ^ r → p ≡ 2 ^ r
-      → getD out (i - p * 8) 0 + getD one ((i / 256 * 5 + r) * 8 + i % 8) 0 ≡ costAt own ranks k i
+      → i < parts * partRows → r < 5 → 2 ^ r ≤ i / columns % 32 → i / columns % 32 < 2 * 2 ^ r → p ≡ 2 ^ r
+      → getD out (i - p * columns) 0 + getD one ((i / partRows * 5 + r) * columns + i % columns) 0 ≡ costAt own ranks k i
   cost-next i r eo e1 hi hr h g ep = rw ep (cost-step own ranks k i r h g
-      (ap (λ (l : List ℕ). getD l (i - 2 ^ r * 8) 0) eo
-      ∙ fill-at noCosts (costAt own ranks k) i (i - 2 ^ r * 8) 0 (room i hi) (omega (arith, pow-pos r)))
-      (ap (λ (l : List ℕ). getD l ((i / 256 * 5 + r) * 8 + i % 8) 0) e1
-      ∙ fill-at noOwn (oneAt own ranks k) 80 ((i / 256 * 5 + r) * 8 + i % 8) 0 ones-room (omega arith)))
+      (ap (λ (l : List ℕ). getD l (i - 2 ^ r * columns) 0) eo
+      ∙ fill-at noCosts (costAt own ranks k) i (i - 2 ^ r * columns) 0 (room i hi) (omega (arith, pow-pos r)))
+      (ap (λ (l : List ℕ). getD l ((i / partRows * 5 + r) * columns + i % columns) 0) e1
+      ∙ fill-at noOwn (oneAt own ranks k) (widestTie * columns) ((i / partRows * 5 + r) * columns + i % columns) 0 ones-room (omega arith)))
     where
-      room : (i : ℕ) → i < 512 → i ≤ length noCosts
+      room : (i : ℕ) → i < parts * partRows → i ≤ length noCosts
       room i h = unfold noCosts in omega arith
 
-      ones-room : 80 ≤ length noOwn
+      ones-room : widestTie * columns ≤ length noOwn
       ones-room = unfold noOwn in omega arith
 
   pub cost-le : (i : ℕ) → k ≤ widestTie → Bounded own dearest → costAt own ranks k i ≤ dearest * widestTie
   unfolding costAt
-  cost-le i h B = omega (arith, h, combined-le own ranks (i / 8 % 32 * 2 ^ (i / 256 * 5)) (i % 8) k (B .small))
+  cost-le i h B = omega (arith, h, combined-le own ranks (i / columns % 32 * 2 ^ (i / partRows * 5)) (i % columns) k (B .small))
 
 module _ (ranks starts : List ℕ) (k : ℕ) where
   year-none : (i : ℕ) → i % 32 ≡ 0 → yearAt ranks starts k i ≡ 0
@@ -317,45 +320,46 @@ both-parts mask = omega arith
 
 -- the tables of the k bids
 module _ (own ranks : List ℕ) (k : ℕ) where
-  cost-at : (s v y i : ℕ) {costs : List ℕ} → costs ≡ costsOf own ranks k → i ≡ s * 256 + v * 8 + y → s < 2 → v < 32 → y < 8
-      → getD costs i 0 ≡ combinedOf own ranks (v * 2 ^ (s * 5)) y k
+  cost-at : (s v c i : ℕ) {costs : List ℕ} → costs ≡ costsOf own ranks k → i ≡ s * partRows + v * columns + c → s < 2 → v < 32 → c < columns
+      → getD costs i 0 ≡ combinedOf own ranks (v * 2 ^ (s * 5)) c k
   unfolding noCosts costAt
-  cost-at s v y i e ei l h g =
-      let q : (s * 256 + v * 8 + y) / 8 % 32 ≡ v = omega arith in
-      let p : (s * 256 + v * 8 + y) / 256 ≡ s = omega arith in
-      let m : (s * 256 + v * 8 + y) % 8 ≡ y = omega arith in
+  cost-at s v c i e ei l h g =
+      let q : (s * partRows + v * columns + c) / columns % 32 ≡ v = omega arith in
+      let p : (s * partRows + v * columns + c) / partRows ≡ s = omega arith in
+      let m : (s * partRows + v * columns + c) % columns ≡ c = omega arith in
       ap₂ (λ (x : List ℕ) (j : ℕ). getD x j 0) e ei
-      ∙ fill-at noCosts (costAt own ranks k) 512 (s * 256 + v * 8 + y) 0 (omega arith) (omega arith)
-      ∙ ap₂ (λ (x w : ℕ). combinedOf own ranks (x * 2 ^ ((s * 256 + v * 8 + y) / 256 * 5)) w k) q m
-      ∙ ap (λ (x : ℕ). combinedOf own ranks (v * 2 ^ (x * 5)) y k) p
+      ∙ fill-at noCosts (costAt own ranks k) (parts * partRows) (s * partRows + v * columns + c) 0 (omega arith) (omega arith)
+      ∙ ap₂ (λ (x w : ℕ). combinedOf own ranks (x * 2 ^ ((s * partRows + v * columns + c) / partRows * 5)) w k) q m
+      ∙ ap (λ (x : ℕ). combinedOf own ranks (v * 2 ^ (x * 5)) c k) p
 
-  whole : (mask y : ℕ) → combinedOf own ranks (mask % 32 * 1) y k + combinedOf own ranks (mask / 32 * 32) y k ≡ combinedOf own ranks mask y k
-  whole mask y =
-      ap₂ (λ (x w : ℕ). combinedOf own ranks x y k + combinedOf own ranks w y k) (low-part mask) (high-part mask)
-      ∙ sym (combined-join own ranks y 5 (mask % 32) (mask / 32) k (omega arith)) ∙ ap (λ (x : ℕ). combinedOf own ranks x y k) (both-parts mask)
+  whole : (mask c : ℕ) → combinedOf own ranks (mask % 32 * 1) c k + combinedOf own ranks (mask / 32 * 32) c k ≡ combinedOf own ranks mask c k
+  whole mask c =
+      ap₂ (λ (x w : ℕ). combinedOf own ranks x c k + combinedOf own ranks w c k) (low-part mask) (high-part mask)
+      ∙ sym (combined-join own ranks c 5 (mask % 32) (mask / 32) k (omega arith)) ∙ ap (λ (x : ℕ). combinedOf own ranks x c k) (both-parts mask)
 
-  figure-is : (base : List ℕ) (mask t y n : ℕ) → maskTotal base own ranks mask t y n ≡ getD base (t * 8 + y) 0 + combinedOf own ranks mask y n
+  figure-is : (base : List ℕ) (mask t c n : ℕ) → maskTotal base own ranks mask t c n ≡ getD base (t * columns + c) 0 + combinedOf own ranks mask c n
   unfolding maskTotal combinedOf
-  figure-is base mask t y zero = omega arith
-  figure-is base mask t y (suc n) = omega (arith, figure-is base mask t y n)
+  figure-is base mask t c zero = omega arith
+  figure-is base mask t c (suc n) = omega (arith, figure-is base mask t c n)
 
-  joint-figure : (base : List ℕ) (mask t y : ℕ) {costs : List ℕ} → costs ≡ costsOf own ranks k → mask < 1024 → y < 8
-      → jointOf base costs mask t y ≡ figure base own ranks k mask t y
+  joint-figure : (base : List ℕ) (mask t c : ℕ) {costs : List ℕ} → costs ≡ costsOf own ranks k → mask < 1024 → c < columns
+      → jointOf base costs mask t c ≡ figure base own ranks k mask t c
   unfolding jointOf figure
-  joint-figure base mask t y {costs} e h g =
-      let l : getD costs (mask % 32 * 8 + y) 0 ≡ combinedOf own ranks (mask % 32 * 1) y k =
-      cost-at 0 (mask % 32) y (mask % 32 * 8 + y) e (omega arith) (omega arith) (omega arith) g in
-      let u : getD costs (256 + mask / 32 * 8 + y) 0 ≡ combinedOf own ranks (mask / 32 * 32) y k =
-      cost-at 1 (mask / 32) y (256 + mask / 32 * 8 + y) e (omega arith) (omega arith) (omega arith) g in
-      omega (arith, l, u, whole mask y, figure-is base mask t y k)
+  joint-figure base mask t c {costs} e h g =
+      let l : getD costs (mask % 32 * columns + c) 0 ≡ combinedOf own ranks (mask % 32 * 1) c k =
+      cost-at 0 (mask % 32) c (mask % 32 * columns + c) e (omega arith) (omega arith) (omega arith) g in
+      let u : getD costs (partRows + mask / 32 * columns + c) 0 ≡ combinedOf own ranks (mask / 32 * 32) c k =
+      cost-at 1 (mask / 32) c (partRows + mask / 32 * columns + c) e (omega arith) (omega arith) (omega arith) g in
+      omega (arith, l, u, whole mask c, figure-is base mask t c k)
 
   pub tabled : {base costs : List ℕ} → k ≤ widestTie → Bounded base mostBase → Bounded own dearest → costs ≡ costsOf own ranks k → Tabled base costs
   tabled h B O e = rw e (record { winners = B; bids = record { small = small } })
     where
-      small : (i : ℕ) → getD (costsOf own ranks k) i 0 ≤ dearest * 10
+      small : (i : ℕ) → getD (costsOf own ranks k) i 0 ≤ dearest * widestTie
       small i =
           unfold noCosts in
-          fill-le noCosts (costAt own ranks k) (dearest * 10) 512 i (omega arith) (λ j g. cost-le own ranks k j h O) (λ j. rw (zeros 512 j) (omega arith))
+          fill-le noCosts (costAt own ranks k) (dearest * widestTie) (parts * partRows) i (omega arith) (λ j g. cost-le own ranks k j h O)
+          (λ j. rw (zeros (parts * partRows) j) (omega arith))
 
 module _ (ranks starts : List ℕ) (k : ℕ) where
   year-at : (s v i : ℕ) {dates : List ℕ} → dates ≡ yearsOf ranks starts k → i ≡ s * 32 + v → s < 2 → v < 32
@@ -409,9 +413,9 @@ best-is sheet of base own ranks starts k {costs} {dates} hk ok ec ed er =
     er
     ∙ best-alike (okBy sheet of base costs dates) (okMask sheet of base own ranks starts k) (lastBy of base costs dates)
     (lastMask of base own ranks starts k) 1024 (2 ^ k) (pow-mono {j = 10} hk)
-    (λ x h. fits-same _ _ sheet (of .years) (λ y g. total x y h (omega (arith, ok .years))))
+    (λ x h. fits-same _ _ sheet (of .columns) (λ c g. total x c h (omega (arith, columns-few ok))))
     (λ x h. total x (of .years - 1) h (omega (arith, ok .some, ok .years)))
   where
-    total : (x y : ℕ) → x < 1024 → y < 8 → jointOf base costs x (unionOf dates x) y ≡ figure base own ranks k x (touchedOf ranks starts x k) y
-    total x y h g =
-        ap (λ (t : ℕ). jointOf base costs x t y) (union-touched ranks starts k x ed h) ∙ joint-figure own ranks k base x (touchedOf ranks starts x k) y ec h g
+    total : (x c : ℕ) → x < 1024 → c < columns → jointOf base costs x (unionOf dates x) c ≡ figure base own ranks k x (touchedOf ranks starts x k) c
+    total x c h g =
+        ap (λ (t : ℕ). jointOf base costs x t c) (union-touched ranks starts k x ed h) ∙ joint-figure own ranks k base x (touchedOf ranks starts x k) c ec h g

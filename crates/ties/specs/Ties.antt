@@ -20,7 +20,7 @@ use Rattle.ties.specs.declared.search.Best.{Best}
 -- ---- numbers as sets, by their binary places
 
 -- the sets of delivery years; the combinations of as many bids as a tie may have; the places of one part of a combination's number, the numbers of a
--- part, and these with a row of years for each
+-- part, and these with a row of columns for each
 abbrev pub yearSets : ℕ
 yearSets = 16
 
@@ -50,10 +50,10 @@ unfoldable pub repricedTo : (prices : List ℕ) (price t : ℕ) → ℕ → List
 repricedTo prices price t zero = prices
 repricedTo prices price t (suc d) = pick (has t d) (set (repricedTo prices price t d) d price) (repricedTo prices price t d)
 
--- what the winners cost: a row of years to a set
+-- what the winners count: a row of columns to a set
 unfoldable pub baseAt : (sheet : List ℕ) (of : Size) (marks prices : List ℕ) (price i : ℕ) → ℕ
 baseAt sheet of marks prices price i =
-    pick (ltb (i % columns) (of .years)) (totalOf sheet marks (repricedTo prices price (i / columns) mostDeliveries) (i % columns) (of .bids)) 0
+    pick (ltb (i % columns) (of .columns)) (totalOf sheet of marks (repricedTo prices price (i / columns) mostDeliveries) (i % columns) (of .bids)) 0
 
 unfoldable pub noBase : List ℕ
 noBase = replicate (yearSets * columns) 0
@@ -67,11 +67,11 @@ mostBase = dearest * mostBids
 
 -- ---- a bid alone
 
-unfoldable pub aloneTotal : (sheet base : List ℕ) (price k y : ℕ) → ℕ
-aloneTotal sheet base price k y = getD base (2 ^ rowYear sheet k * columns + y) 0 + worthOf sheet k price y
+unfoldable pub aloneTotal : (sheet : List ℕ) (of : Size) (base : List ℕ) (price k c : ℕ) → ℕ
+aloneTotal sheet of base price k c = getD base (2 ^ rowYear sheet k * columns + c) 0 + worthOf sheet of k price c
 
 abbrev pub aloneFits : (sheet : List ℕ) (of : Size) (base : List ℕ) (price k : ℕ) → Bool
-aloneFits sheet of base price k = fitsTo (aloneTotal sheet base price k) sheet (of .years)
+aloneFits sheet of base price k = fitsTo (aloneTotal sheet of base price k) sheet (of .columns)
 
 -- of the set, and fits alone
 unfoldable pub keepsOf : (sheet : List ℕ) (of : Size) (base : List ℕ) (price : ℕ) → List Bool → ℕ → Bool
@@ -140,9 +140,9 @@ pub record Placed (tied : Tied) : Type 0 where
   pub ranks : (j : ℕ) → j < tied .count → getD (tied .ranks) j 0 < 32
   pub starts : (j : ℕ) → j < tied .count → getD (tied .starts) j 0 < mostDeliveries
 
--- what the bids cost at a price: a row of years to a bid
+-- what the bids count at a price: a row of columns to a bid
 unfoldable pub ownAt : (sheet : List ℕ) (of : Size) (list : List ℕ) (price i : ℕ) → ℕ
-ownAt sheet of list price i = pick (ltb (i % columns) (of .years)) (worthOf sheet (getD list (i / columns) 0) price (i % columns)) 0
+ownAt sheet of list price i = pick (ltb (i % columns) (of .columns)) (worthOf sheet of (getD list (i / columns) 0) price (i % columns)) 0
 
 unfoldable pub noOwn : List ℕ
 noOwn = replicate (widestTie * columns) 0
@@ -161,17 +161,17 @@ touchedOf ranks starts mask zero = 0
 touchedOf ranks starts mask (suc j) =
     pick (has mask (getD ranks j 0)) (touchOf (touchedOf ranks starts mask j) (getD starts j 0)) (touchedOf ranks starts mask j)
 
--- the total in year y with the combination added to the winners, whose years are t
-unfoldable pub maskTotal : (base own ranks : List ℕ) (mask t y count : ℕ) → ℕ
-maskTotal base own ranks mask t y zero = getD base (t * columns + y) 0
-maskTotal base own ranks mask t y (suc j) =
-    maskTotal base own ranks mask t y j + pick (has mask (getD ranks j 0)) (getD own (j * columns + y) 0) 0
+-- the total in column c with the combination added to the winners, whose years are t
+unfoldable pub maskTotal : (base own ranks : List ℕ) (mask t c count : ℕ) → ℕ
+maskTotal base own ranks mask t c zero = getD base (t * columns + c) 0
+maskTotal base own ranks mask t c (suc j) =
+    maskTotal base own ranks mask t c j + pick (has mask (getD ranks j 0)) (getD own (j * columns + c) 0) 0
 
-unfoldable pub figure : (base own ranks : List ℕ) (count mask t y : ℕ) → ℕ
-figure base own ranks count mask t y = maskTotal base own ranks mask t y count
+unfoldable pub figure : (base own ranks : List ℕ) (count mask t c : ℕ) → ℕ
+figure base own ranks count mask t c = maskTotal base own ranks mask t c count
 
 unfoldable pub okMask : (sheet : List ℕ) (of : Size) (base own ranks starts : List ℕ) (count mask : ℕ) → Bool
-okMask sheet of base own ranks starts count mask = fitsTo (figure base own ranks count mask (touchedOf ranks starts mask count)) sheet (of .years)
+okMask sheet of base own ranks starts count mask = fitsTo (figure base own ranks count mask (touchedOf ranks starts mask count)) sheet (of .columns)
 
 unfoldable pub lastMask : (of : Size) (base own ranks starts : List ℕ) (count mask : ℕ) → ℕ
 lastMask of base own ranks starts count mask = figure base own ranks count mask (touchedOf ranks starts mask count) (of .years - 1)
@@ -189,19 +189,19 @@ combinationOf list ranks mask zero = none
 combinationOf list ranks mask (suc j) =
     pick (has mask (getD ranks j 0)) (set (combinationOf list ranks mask j) (getD list j 0) true) (combinationOf list ranks mask j)
 
--- what the bids of a tie cost, and where these stand
+-- what the bids of a tie count, and where these stand
 pub record Owned (own : List ℕ) (tied : Tied) : Type 0 where
   pub bids : Bounded own dearest
   pub placed : Placed tied
 
 -- ---- the same by the two parts of its number: v + 32 * u is that of its five low places and that of its five high ones
 
--- what the bids of a combination cost in year y
-unfoldable pub combinedOf : (own ranks : List ℕ) (mask y count : ℕ) → ℕ
-combinedOf own ranks mask y zero = 0
-combinedOf own ranks mask y (suc j) = combinedOf own ranks mask y j + pick (has mask (getD ranks j 0)) (getD own (j * columns + y) 0) 0
+-- what the bids of a combination count in column c
+unfoldable pub combinedOf : (own ranks : List ℕ) (mask c count : ℕ) → ℕ
+combinedOf own ranks mask c zero = 0
+combinedOf own ranks mask c (suc j) = combinedOf own ranks mask c j + pick (has mask (getD ranks j 0)) (getD own (j * columns + c) 0) 0
 
--- of the combination of one place alone, and of each combination of the places of one part: a row of years to each
+-- of the combination of one place alone, and of each combination of the places of one part: a row of columns to each
 unfoldable pub oneAt : (own ranks : List ℕ) (count i : ℕ) → ℕ
 oneAt own ranks count i = combinedOf own ranks (2 ^ (i / columns)) (i % columns) count
 
@@ -234,15 +234,15 @@ abbrev pub yearsOf : (ranks starts : List ℕ) (count : ℕ) → List ℕ
 yearsOf ranks starts count = fill noYears (yearAt ranks starts count) (parts * partSize)
 
 -- by the tables: the total of a combination, the years that it touches, whether it fits, and its total in the last year
-unfoldable pub jointOf : (base costs : List ℕ) (mask t y : ℕ) → ℕ
-jointOf base costs mask t y =
-    getD base (t * columns + y) 0 + getD costs (mask % partSize * columns + y) 0 + getD costs (partRows + mask / partSize * columns + y) 0
+unfoldable pub jointOf : (base costs : List ℕ) (mask t c : ℕ) → ℕ
+jointOf base costs mask t c =
+    getD base (t * columns + c) 0 + getD costs (mask % partSize * columns + c) 0 + getD costs (partRows + mask / partSize * columns + c) 0
 
 unfoldable pub unionOf : (dates : List ℕ) (mask : ℕ) → ℕ
 unionOf dates mask = bitOr (getD dates (mask % partSize) 0) (getD dates (partSize + mask / partSize) 0)
 
 unfoldable pub okBy : (sheet : List ℕ) (of : Size) (base costs dates : List ℕ) (mask : ℕ) → Bool
-okBy sheet of base costs dates mask = fitsTo (jointOf base costs mask (unionOf dates mask)) sheet (of .years)
+okBy sheet of base costs dates mask = fitsTo (jointOf base costs mask (unionOf dates mask)) sheet (of .columns)
 
 unfoldable pub lastBy : (of : Size) (base costs dates : List ℕ) (mask : ℕ) → ℕ
 lastBy of base costs dates mask = jointOf base costs mask (unionOf dates mask) (of .years - 1)

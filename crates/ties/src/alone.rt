@@ -11,13 +11,13 @@ use sheet::COLUMNS;
 use sheet::Sheet;
 use sheet::Size;
 
-// The total in year y where bid k alone is added to the winners.
-fn alone_total(sheet: &Sheet, of: Size, base: &Base, price: u64, k: usize, y: usize) -> u64
-    requires { ⌜ Asked (now sheet) of k y × Bounded (now base) mostBase ⌝ }
-    ensures { λ r. ⌜ r ≡ aloneTotal (now (sheet .entry)) (now (base .entry)) price k y ⌝ }
+// The total in column c where bid k alone is added to the winners.
+fn alone_total(sheet: &Sheet, of: Size, base: &Base, price: u64, k: usize, c: usize) -> u64
+    requires { ⌜ Asked (now sheet) of k c × Bounded (now base) mostBase ⌝ }
+    ensures { λ r. ⌜ r ≡ aloneTotal (now (sheet .entry)) of (now (base .entry)) price k c ⌝ }
 {
     let t = power(sheet::year(sheet, k) as u32) as usize;
-    base[t * COLUMNS + y] + totals::worth(sheet, of, k, price, y)
+    base[t * COLUMNS + c] + totals::worth(sheet, of, k, price, c)
 }
 
 // Does bid k fit alone?
@@ -26,13 +26,13 @@ fn fits_alone(sheet: &Sheet, of: Size, base: &Base, price: u64, k: usize) -> boo
     ensures { λ r. ⌜ r ≡ aloneFits (now (sheet .entry)) of (now (base .entry)) price k ⌝ }
 {
     let mut ok = true;
-    let years = of.years;
-    let mut y: usize = 0;
-    while y < years {
-        if alone_total(sheet, of, base, price, k, y) > sheet::limit(sheet, y) {
+    let columns = of.columns;
+    let mut c: usize = 0;
+    while c < columns {
+        if alone_total(sheet, of, base, price, k, c) > sheet::limit(sheet, c) {
             ok = false;
         }
-        y += 1;
+        c += 1;
     }
     ok
 }

@@ -31,29 +31,29 @@ fn union(dates: &Dates, mask: u32) -> u32
     dates[n % PART] | dates[PART + n / PART]
 }
 
-// The total in year y where a combination, which touches the years t, is added to the winners.
-fn joint(base: &Base, costs: &Costs, mask: u32, t: u32, y: usize) -> u64
-    requires { ⌜ Joining (now base) (now costs) mask t × (y < columns) ⌝ }
-    ensures { λ r. ⌜ r ≡ jointOf (now (base .entry)) (now (costs .entry)) mask t y ⌝ }
+// The total in column c where a combination, which touches the years t, is added to the winners.
+fn joint(base: &Base, costs: &Costs, mask: u32, t: u32, c: usize) -> u64
+    requires { ⌜ Joining (now base) (now costs) mask t × (c < columns) ⌝ }
+    ensures { λ r. ⌜ r ≡ jointOf (now (base .entry)) (now (costs .entry)) mask t c ⌝ }
 {
     let n = mask as usize;
-    let low = costs[n % PART * COLUMNS + y];
-    let high = costs[ROWS + n / PART * COLUMNS + y];
-    base[t as usize * COLUMNS + y] + low + high
+    let low = costs[n % PART * COLUMNS + c];
+    let high = costs[ROWS + n / PART * COLUMNS + c];
+    base[t as usize * COLUMNS + c] + low + high
 }
 
 // Does the combination fit?
 fn joint_fits(sheet: &Sheet, of: Size, base: &Base, costs: &Costs, mask: u32, t: u32) -> bool
-    requires { ⌜ Joining (now base) (now costs) mask t × (of .years ≤ columns) ⌝ }
-    ensures { λ r. ⌜ r ≡ fitsTo (jointOf (now (base .entry)) (now (costs .entry)) mask t) (now (sheet .entry)) (of .years) ⌝ }
+    requires { ⌜ Joining (now base) (now costs) mask t × (of .columns ≤ columns) ⌝ }
+    ensures { λ r. ⌜ r ≡ fitsTo (jointOf (now (base .entry)) (now (costs .entry)) mask t) (now (sheet .entry)) (of .columns) ⌝ }
 {
-    let years = of.years;
-    let mut y: usize = 0;
-    while y < years {
-        if joint(base, costs, mask, t, y) > sheet::limit(sheet, y) {
+    let columns = of.columns;
+    let mut c: usize = 0;
+    while c < columns {
+        if joint(base, costs, mask, t, c) > sheet::limit(sheet, c) {
             return false;
         }
-        y += 1;
+        c += 1;
     }
     true
 }
@@ -90,7 +90,7 @@ fn search(sheet: &Sheet, of: Size, base: &Base, costs: &Costs, dates: &Dates, co
     b.mask
 }
 
-// The same, of what the bids themselves cost.
+// The same, of what the bids themselves count.
 pub fn best_mask(sheet: &Sheet, of: Size, base: &Base, own: &Owns, tied: Tied) -> u32
     requires { ⌜ Based (now sheet) of (now base) × Owned (now own) tied ⌝ }
     ensures { λ r. ⌜ r ≡ bestMask (now (sheet .entry)) of (now (base .entry)) (now (own .entry)) (tied .ranks) (tied .starts) (tied .count) ⌝ }

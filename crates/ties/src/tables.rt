@@ -1,4 +1,5 @@
-// What the bids of a tie cost, and in which delivery years they start: of each bid, and of each combination of the places of one part of its number.
+// What the bids of a tie count in each column, and in which delivery years they start: of each bid, and of each combination of the places of one part of its
+// number.
 ghost use mathlib.Core.Path.{_≡_};
 ghost use Prim.Native.Nat.{_*_, _/_, _<_};
 ghost use Rattle.sheet.specs.Sheet.{columns, Ready};
@@ -16,13 +17,13 @@ use sheet::COLUMNS;
 use sheet::Sheet;
 use sheet::Size;
 
-// A row of years for each bid, or for each binary place.
+// A row of columns for each bid, or for each binary place.
 pub type Owns = [u64; WIDEST_TIE * COLUMNS];
 
-// The numbers of one part, with a row of years for each.
+// The numbers of one part, with a row of columns for each.
 pub const ROWS: usize = PART * COLUMNS;
 
-// A row of years, and the delivery years, of each number of each part.
+// A row of columns, and the delivery years, of each number of each part.
 pub type Costs = [u64; PARTS * ROWS];
 
 pub type Dates = [u32; PARTS * PART];
@@ -32,14 +33,14 @@ fn own_at(sheet: &Sheet, of: Size, tied: Tied, price: u64, i: usize) -> u64
     requires { ⌜ Ready (now sheet) of × Numbers (tied .bids) (tied .count) (of .bids) × (i / columns < tied .count) ⌝ }
     ensures { λ r. ⌜ r ≡ ownAt (now (sheet .entry)) of (tied .bids) price i ⌝ }
 {
-    let y = i % COLUMNS;
-    if y < of.years {
-        return totals::worth(sheet, of, tied.bids[i / COLUMNS], price, y);
+    let c = i % COLUMNS;
+    if c < of.columns {
+        return totals::worth(sheet, of, tied.bids[i / COLUMNS], price, c);
     }
     0
 }
 
-// What each bid costs at a price.
+// What each bid counts at a price.
 pub fn owns(sheet: &Sheet, of: Size, tied: Tied, price: u64) -> Owns
     requires { ⌜ Ready (now sheet) of × Numbers (tied .bids) (tied .count) (of .bids) ⌝ }
     ensures { λ r. ⌜ r ≡ ownsOf (now (sheet .entry)) of (tied .bids) price (tied .count) ⌝ }
@@ -71,17 +72,17 @@ fn touched(tied: Tied, mask: u32) -> u32
     t
 }
 
-// What the bids of a combination cost in year y.
-fn combined(own: &Owns, tied: Tied, mask: u32, y: usize) -> u64
-    requires { ⌜ Owned (now own) tied × (y < columns) ⌝ }
-    ensures { λ r. ⌜ r ≡ combinedOf (now (own .entry)) (tied .ranks) mask y (tied .count) ⌝ }
+// What the bids of a combination count in column c.
+fn combined(own: &Owns, tied: Tied, mask: u32, c: usize) -> u64
+    requires { ⌜ Owned (now own) tied × (c < columns) ⌝ }
+    ensures { λ r. ⌜ r ≡ combinedOf (now (own .entry)) (tied .ranks) mask c (tied .count) ⌝ }
 {
     let mut sum: u64 = 0;
     let count = tied.count;
     let mut j: usize = 0;
     while j < count {
         if member(mask, tied.ranks[j]) {
-            sum += own[j * COLUMNS + y];
+            sum += own[j * COLUMNS + c];
         }
         j += 1;
     }

@@ -1,4 +1,4 @@
-// What the present winners cost where some delivery years have the price of the tie: a row of years for each set of these.
+// What the present winners count where some delivery years have the price of the tie: a row of columns for each set of these.
 ghost use mathlib.Core.Path.{_≡_};
 ghost use Prim.Native.Nat.{_*_, _<_};
 ghost use lib.ListN.{getD};
@@ -34,18 +34,18 @@ fn repriced(prices: [u64; MOST_DELIVERIES], price: u64, t: u32) -> [u64; MOST_DE
 // A row of totals, laid as that of the set t.
 fn laid(base: Base, row: [u64; COLUMNS], t: usize) -> Base
     requires { ⌜ t < yearSets ⌝ }
-    ensures { λ r. ⌜ r ≡ placed (λ y. getD row y 0) base (t * columns) columns ⌝ }
+    ensures { λ r. ⌜ r ≡ placed (λ c. getD row c 0) base (t * columns) columns ⌝ }
 {
     let mut out = base;
-    let mut y: usize = 0;
-    while y < COLUMNS {
-        out[t * COLUMNS + y] = row[y];
-        y += 1;
+    let mut c: usize = 0;
+    while c < COLUMNS {
+        out[t * COLUMNS + c] = row[c];
+        c += 1;
     }
     out
 }
 
-// What the present winners cost, a row of years for each set of delivery years that has the price.
+// What the present winners count, a row of columns for each set of delivery years that has the price.
 pub fn bases(
     sheet: &Sheet,
     of: Size,

@@ -1,10 +1,10 @@
-// What bids and applications cost on the sheet of a pot: the value of one of them in a year, the year totals of the bids that have won, whether these fit,
-// and the totals of the first test. specs/Totals.antt says what each function computes.
+// What bids and applications count in the columns of a pot: in each year their value, and their capacity in a column after the years, where the pot has a cap;
+// the totals of the bids that have won, whether these fit, and the totals of the first test. specs/Totals.antt says what each function computes.
 ghost use mathlib.Core.Path.{_≡_};
 ghost use Prim.Native.Nat.{_≤_, _<_};
-ghost use Rattle.rules.specs.Value.{ceilDiv, penny, dearest};
-ghost use Rattle.sheet.specs.Sheet.{columns, partsAt, Ready};
-ghost use Rattle.totals.specs.Totals.{Struck, Asked, Worth, Adding, worthOf, totalOf, partOf, filled, addedTo, rowFits, adminTotalOf};
+ghost use Rattle.rules.specs.Value.{dearest};
+ghost use Rattle.sheet.specs.Sheet.{columns, Ready};
+ghost use Rattle.totals.specs.Totals.{counts, Struck, Asked, Worth, Adding, worthOf, totalOf, partOf, filled, addedTo, rowFits, adminTotalOf};
 
 pub mod marks;
 
@@ -14,41 +14,44 @@ use sheet::COLUMNS;
 use sheet::Sheet;
 use sheet::Size;
 
-// The value in year y, at a strike price, of what has its figures at place k: a bid, or an application.
-fn valued(sheet: &Sheet, of: Size, k: usize, strike: u64, y: usize) -> u64
-    requires { ⌜ Struck (now sheet) of k strike y ⌝ }
-    ensures { λ r. ⌜ (r ≡ ceilDiv (partsAt (now (sheet .entry)) k strike y) penny) × (r ≤ dearest) ⌝ }
+// What column c counts, at a strike price, of what has its figures at place k, a bid or an application: its value in a year, after the years its capacity.
+fn valued(sheet: &Sheet, of: Size, k: usize, strike: u64, c: usize) -> u64
+    requires { ⌜ Struck (now sheet) of k strike c ⌝ }
+    ensures { λ r. ⌜ (r ≡ counts (now (sheet .entry)) of k strike c) × (r ≤ dearest) ⌝ }
 {
-    let reference = sheet::reference(sheet, k, y);
-    let energy = sheet::energy(sheet, k, y);
-    value::value(strike, reference, energy, sheet::share(sheet, k, y))
+    if c >= of.years {
+        return sheet::capacity(sheet, k);
+    }
+    let reference = sheet::reference(sheet, k, c);
+    let energy = sheet::energy(sheet, k, c);
+    value::value(strike, reference, energy, sheet::share(sheet, k, c))
 }
 
-// The value of bid k in year y at a clearing price.
-pub fn worth(sheet: &Sheet, of: Size, k: usize, price: u64, y: usize) -> u64
-    requires { ⌜ Asked (now sheet) of k y ⌝ }
-    ensures { λ r. ⌜ Worth (now (sheet .entry)) k price y r ⌝ }
+// What column c counts of bid k at a clearing price.
+pub fn worth(sheet: &Sheet, of: Size, k: usize, price: u64, c: usize) -> u64
+    requires { ⌜ Asked (now sheet) of k c ⌝ }
+    ensures { λ r. ⌜ Worth (now (sheet .entry)) of k price c r ⌝ }
 {
     let strike = value::capped(price, sheet::admin(sheet, k));
-    valued(sheet, of, k, strike, y)
+    valued(sheet, of, k, strike, c)
 }
 
-// A row of totals, with the value of bid k at a price added in each year.
+// A row of totals, with what bid k counts at a price added in each column.
 fn added(sheet: &Sheet, of: Size, k: usize, price: u64, before: [u64; COLUMNS]) -> [u64; COLUMNS]
     requires { ⌜ Adding (now sheet) of before k ⌝ }
-    ensures { λ r. ⌜ r ≡ addedTo (λ y. worthOf (now (sheet .entry)) k price y) before (of .years) ⌝ }
+    ensures { λ r. ⌜ r ≡ addedTo (λ c. worthOf (now (sheet .entry)) of k price c) before (of .columns) ⌝ }
 {
     let mut row = before;
-    let years = of.years;
-    let mut y: usize = 0;
-    while y < years {
-        row[y] += worth(sheet, of, k, price, y);
-        y += 1;
+    let columns = of.columns;
+    let mut c: usize = 0;
+    while c < columns {
+        row[c] += worth(sheet, of, k, price, c);
+        c += 1;
     }
     row
 }
 
-// Every winner revalued: the row of year totals.
+// Every winner revalued: the row of totals.
 pub fn revalued(
     sheet: &Sheet,
     of: Size,
@@ -56,7 +59,7 @@ pub fn revalued(
     prices: [u64; names::MOST_DELIVERIES],
 ) -> [u64; COLUMNS]
     requires { ⌜ Ready (now sheet) of ⌝ }
-    ensures { λ r. ⌜ r ≡ filled (λ y. totalOf (now (sheet .entry)) marks prices y (of .bids)) (of .years) ⌝ }
+    ensures { λ r. ⌜ r ≡ filled (λ c. totalOf (now (sheet .entry)) of marks prices c (of .bids)) (of .columns) ⌝ }
 {
     let mut row = [0u64; COLUMNS];
     let bids = of.bids;
@@ -72,10 +75,10 @@ pub fn revalued(
     row
 }
 
-// Of the pot's bids the winners that start in year d, all at one price: their row of year totals.
+// Of the pot's bids the winners that start in year d, all at one price: their row of totals.
 pub fn part(sheet: &Sheet, of: Size, marks: [u16; BIDS], price: u64, d: usize) -> [u64; COLUMNS]
     requires { ⌜ Ready (now sheet) of ⌝ }
-    ensures { λ r. ⌜ r ≡ filled (λ y. partOf (now (sheet .entry)) marks price d y (of .bids)) (of .years) ⌝ }
+    ensures { λ r. ⌜ r ≡ filled (λ c. partOf (now (sheet .entry)) of marks price d c (of .bids)) (of .columns) ⌝ }
 {
     let mut row = [0u64; COLUMNS];
     let entered = of.entered;
@@ -96,32 +99,32 @@ pub fn part(sheet: &Sheet, of: Size, marks: [u16; BIDS], price: u64, d: usize) -
 
 // Is no column's total above its limit? Equal fits.
 pub fn within(sheet: &Sheet, of: Size, row: [u64; COLUMNS]) -> bool
-    requires { ⌜ of .years ≤ columns ⌝ }
-    ensures { λ r. ⌜ r ≡ rowFits (now (sheet .entry)) row (of .years) ⌝ }
+    requires { ⌜ of .columns ≤ columns ⌝ }
+    ensures { λ r. ⌜ r ≡ rowFits (now (sheet .entry)) row (of .columns) ⌝ }
 {
     let mut ok = true;
-    let years = of.years;
-    let mut y: usize = 0;
-    while y < years {
-        if row[y] > sheet::limit(sheet, y) {
+    let limits = of.columns;
+    let mut c: usize = 0;
+    while c < limits {
+        if row[c] > sheet::limit(sheet, c) {
             ok = false;
         }
-        y += 1;
+        c += 1;
     }
     ok
 }
 
-// The total in year y of all the pot's applications, with or without a sealed bid, at their administrative prices.
-fn admin_total(sheet: &Sheet, of: Size, y: usize) -> u64
-    requires { ⌜ Ready (now sheet) of × (y < of .years) ⌝ }
-    ensures { λ r. ⌜ r ≡ adminTotalOf (now (sheet .entry)) y (of .applications) ⌝ }
+// The total in column c of all the pot's applications, with or without a sealed bid, at their administrative prices.
+fn admin_total(sheet: &Sheet, of: Size, c: usize) -> u64
+    requires { ⌜ Ready (now sheet) of × (c < of .columns) ⌝ }
+    ensures { λ r. ⌜ r ≡ adminTotalOf (now (sheet .entry)) of c (of .applications) ⌝ }
 {
     let mut sum: u64 = 0;
     let applications = of.applications;
     let mut a: usize = 0;
     while a < applications {
         if sheet::in_test(sheet, a) {
-            sum += valued(sheet, of, BIDS + a, sheet::admin_price(sheet, a), y);
+            sum += valued(sheet, of, BIDS + a, sheet::admin_price(sheet, a), c);
         }
         a += 1;
     }
@@ -131,14 +134,14 @@ fn admin_total(sheet: &Sheet, of: Size, y: usize) -> u64
 // The row of totals of the first test.
 pub fn admin_totals(sheet: &Sheet, of: Size) -> [u64; COLUMNS]
     requires { ⌜ Ready (now sheet) of ⌝ }
-    ensures { λ r. ⌜ r ≡ filled (λ y. adminTotalOf (now (sheet .entry)) y (of .applications)) (of .years) ⌝ }
+    ensures { λ r. ⌜ r ≡ filled (λ c. adminTotalOf (now (sheet .entry)) of c (of .applications)) (of .columns) ⌝ }
 {
     let mut row = [0u64; COLUMNS];
-    let years = of.years;
-    let mut y: usize = 0;
-    while y < years {
-        row[y] = admin_total(sheet, of, y);
-        y += 1;
+    let columns = of.columns;
+    let mut c: usize = 0;
+    while c < columns {
+        row[c] = admin_total(sheet, of, c);
+        c += 1;
     }
     row
 }

@@ -1,11 +1,12 @@
 -- `auction::ended` meets its contract: one law for each return.
 use borrow.Author.Needs.{needs}
+use Rattle.sheet.proofs.Columns.{columns-few}
 use Rattle.auction.proofs.Outcomes.{ended-admin, ended-wide, ended-sold}
 use Rattle.auction.proofs.ended.Statement.{statement}
 use Rattle.auction.proofs.ended.Tie as tie
 
 within-requires : tie.Need-within-requires
-within-requires c κs = c .before .pre .years
+within-requires c κs = columns-few (c .before .pre)
 
 returns : tie.Need-returns
 returns c =

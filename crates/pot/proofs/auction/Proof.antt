@@ -1,6 +1,7 @@
 -- `pot::auction` meets its contract.
 use borrow.Author.Needs.{needs}
 use Rattle.totals.proofs.Link as link
+use Rattle.sheet.proofs.Columns.{columns-few}
 use Rattle.pot.proofs.Sums.{summed-started}
 use Rattle.pot.proofs.Runs.{started-stands}
 use Rattle.pot.proofs.auction.Statement.{statement}
@@ -9,7 +10,7 @@ use Rattle.pot.proofs.auction.Tie as tie
 run-requires : tie.Need-run-requires
 run-requires c κs = (
   c .before .pre,
-  summed-started _ _ (c .before .pre .few) (c .before .pre .years) (c .started .ensures),
+  summed-started _ _ (c .before .pre .few) (columns-few (c .before .pre)) (c .started .ensures),
   started-stands _ _ (c .before .pre) (c .started .ensures),
 )
 

@@ -1,32 +1,33 @@
--- The invariant: the value is added in the years passed.
+-- The invariant: what the bid counts is added in the columns passed.
 use native.Mathlib.Omega.{arith}
 use Prim.Native.Nat.{_≤_, _-_}
 use mathlib.Core.Path.{_≡_, refl}
 use Rattle.arrays.specs.Sets.{fill}
 use Rattle.arrays.proofs.Laws.{done}
+use Rattle.sheet.proofs.Columns.{columns-few}
 use Rattle.totals.specs.Totals.{worthOf, addedTo}
 use Rattle.totals.proofs.Laws.{added-next, added-low}
 use Rattle.totals.proofs.added.Statement.{statement}
 use Rattle.totals.proofs.added.Tie as tie
 
 abbrev Inv-loop : tie.InvT-loop
-Inv-loop sheet of k price row₀ years y₀ row y = (y ≤ years) × (row ≡ addedTo (λ x. worthOf sheet k price x) row₀ y)
+Inv-loop sheet of k price row₀ columns c₀ row c = (c ≤ columns) × (row ≡ addedTo (λ x. worthOf sheet of k price x) row₀ c)
 
 abbrev μ-loop : tie.MeasureT-loop
-μ-loop sheet of k price row₀ years y₀ row y = years - y
+μ-loop sheet of k price row₀ columns c₀ row c = columns - c
 
 loop-holds : tie.Need-loop-holds Inv-loop μ-loop
 unfolding fill
 loop-holds c = (omega arith, refl)
 
 worth-requires : tie.Need-worth-requires Inv-loop μ-loop
-worth-requires c κs = let pre = c .before .before .pre in record { ready = pre .ready; bid = pre .known; year = c .loop-test .taken }
+worth-requires c κs = let pre = c .before .before .pre in record { ready = pre .ready; bid = pre .known; column = c .loop-test .taken }
 
 mul-row : tie.Need-mul-row Inv-loop μ-loop
-mul-row c = omega (arith, c .before .loop-test .taken, c .before .before .before .pre .ready .years)
+mul-row c = omega (arith, c .before .loop-test .taken, columns-few (c .before .before .before .pre .ready))
 
 array-read-row : tie.Need-array-read-row Inv-loop μ-loop
-array-read-row c = omega (arith, c .before .loop-test .taken, c .before .before .before .pre .ready .years)
+array-read-row c = omega (arith, c .before .loop-test .taken, columns-few (c .before .before .before .pre .ready))
 
 add-row : tie.Need-add-row Inv-loop μ-loop
 add-row c =
@@ -37,7 +38,7 @@ add-row c =
     )
 
 array-write-row : tie.Need-array-write-row Inv-loop μ-loop
-array-write-row c = omega (arith, c .before .loop-test .taken, c .before .before .before .pre .ready .years)
+array-write-row c = omega (arith, c .before .loop-test .taken, columns-few (c .before .before .before .pre .ready))
 
 loop-again : tie.Need-loop-again Inv-loop μ-loop
 loop-again c = (omega arith, added-next _ _ _ (c .before .before .loop .inv .1) (c .worth .ensures .value))

@@ -12,10 +12,10 @@ use Rattle.totals.proofs.admin_total.Statement.{statement}
 use Rattle.totals.proofs.admin_total.Tie as tie
 
 abbrev Inv-loop : tie.InvT-loop
-Inv-loop sheet of y sum₀ applications a₀ sum a = (a ≤ applications) × (sum ≡ adminTotalOf sheet y a) × (sum ≤ dearest * a)
+Inv-loop sheet of c sum₀ applications a₀ sum a = (a ≤ applications) × (sum ≡ adminTotalOf sheet of c a) × (sum ≤ dearest * a)
 
 abbrev μ-loop : tie.MeasureT-loop
-μ-loop sheet of y sum₀ applications a₀ sum a = applications - a
+μ-loop sheet of c sum₀ applications a₀ sum a = applications - a
 
 loop-holds : tie.Need-loop-holds Inv-loop μ-loop
 unfolding adminTotalOf sum
@@ -38,7 +38,7 @@ valued-requires c κs =
       ready = pre .0;
       place = omega (arith, known, pre .0 .apps);
       price = omega (arith, c .admin-price .ensures, pre .0 .admins _ known);
-      year = pre .1;
+      column = pre .1;
     }
 
 add-sum : tie.Need-add-sum Inv-loop μ-loop
@@ -55,14 +55,14 @@ loop-again c =
     let inv = c .before .before .before .loop .inv in
     let tested = c .before .in-test .ensures in (
       omega arith,
-      ⊎-elim (λ w. w .3 ∙ admin-hit _ _ _ tested (inv .1) (w .0 .taken) (w .1 .ensures) (w .2 .ensures .0))
-          (λ w. w .1 ∙ admin-miss _ _ _ tested (inv .1) (w .0 .left))
+      ⊎-elim (λ w. w .3 ∙ admin-hit _ _ _ _ tested (inv .1) (w .0 .taken) (w .1 .ensures) (w .2 .ensures .0))
+          (λ w. w .1 ∙ admin-miss _ _ _ _ tested (inv .1) (w .0 .left))
           (c .if1 .came),
       ⊎-elim (λ w. omega (arith, w .2 .ensures .1)) (λ w. omega arith) (c .if1 .came),
     )
 
 returns : tie.Need-returns Inv-loop μ-loop
-returns c = done (adminTotalOf _ _) (c .before .loop .inv .1) (c .before .loop .inv .0) (c .loop-test .left)
+returns c = done (adminTotalOf _ _ _) (c .before .loop .inv .1) (c .before .loop .inv .0) (c .loop-test .left)
 
 pub admin-total-spec : {M : Type 1} → statement M
 admin-total-spec =

@@ -1,4 +1,4 @@
--- The invariant: the places of the years passed hold their totals.
+-- The invariant: the places of the columns passed hold their totals.
 use borrow.Author.Needs.{needs}
 use native.Mathlib.Omega.{arith}
 use Prim.Native.Nat.{_≤_, _-_}
@@ -10,10 +10,10 @@ use Rattle.totals.proofs.admin_totals.Statement.{statement}
 use Rattle.totals.proofs.admin_totals.Tie as tie
 
 abbrev Inv-loop : tie.InvT-loop
-Inv-loop sheet of row₀ years y₀ row y = (y ≤ years) × (row ≡ filled (λ x. adminTotalOf sheet x (of .applications)) y)
+Inv-loop sheet of row₀ columns c₀ row c = (c ≤ columns) × (row ≡ filled (λ x. adminTotalOf sheet of x (of .applications)) c)
 
 abbrev μ-loop : tie.MeasureT-loop
-μ-loop sheet of row₀ years y₀ row y = years - y
+μ-loop sheet of row₀ columns c₀ row c = columns - c
 
 loop-holds : tie.Need-loop-holds Inv-loop μ-loop
 unfolding fill noRow

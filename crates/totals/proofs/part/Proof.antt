@@ -4,6 +4,7 @@ use Prim.Native.Nat.{_≤_, _-_}
 use mathlib.Core.Path.{_≡_, _∙_}
 use mathlib.Core.Logic.{⊎-elim}
 use Rattle.sheet.specs.Sheet.{entrants}
+use Rattle.sheet.proofs.Columns.{columns-few}
 use Rattle.sheet.proofs.Entrants.{entrant-small, entrants-few}
 use Rattle.totals.specs.Totals.{partOn, noRow, filled}
 use Rattle.totals.proofs.Laws.{row-none, adding}
@@ -12,14 +13,14 @@ use Rattle.totals.proofs.part.Statement.{statement}
 use Rattle.totals.proofs.part.Tie as tie
 
 abbrev Inv-loop : tie.InvT-loop
-Inv-loop sheet of price d marks row₀ entered j₀ row j = (j ≤ entered) × (row ≡ filled (λ y. partOn sheet marks price d y (entrants sheet j)) (of .years))
+Inv-loop sheet of price d marks row₀ entered j₀ row j = (j ≤ entered) × (row ≡ filled (λ c. partOn sheet of marks price d c (entrants sheet j)) (of .columns))
 
 abbrev μ-loop : tie.MeasureT-loop
 μ-loop sheet of price d marks row₀ entered j₀ row j = entered - j
 
 loop-holds : tie.Need-loop-holds Inv-loop μ-loop
 unfolding entrants partOn noRow
-loop-holds c = (omega arith, row-none _ (c .pre .years))
+loop-holds c = (omega arith, row-none _ (columns-few (c .pre)))
 
 entrant-requires : tie.Need-entrant-requires Inv-loop μ-loop
 entrant-requires c κs = omega (arith, c .loop-test .taken, entrants-few (c .before .before .pre), c .before .before .pre .few)
@@ -44,21 +45,22 @@ added-requires c κs =
       c .before .before .before .entrant .ensures,
       entrant-small pre _ (c .before .before .before .before .loop-test .taken),
     )) (omega (arith, inv .0, entrants-few pre)) (inv .1)
-    (λ y h. part-passed _ _ _ _ _ y pre (inv .0) h)
+    (λ y. part-passed _ _ _ _ _ _ y pre (inv .0))
 
 loop-again : tie.Need-loop-again Inv-loop μ-loop
 loop-again c =
     let pre = c .before .before .before .before .pre in
     let inv = c .before .before .before .loop .inv in (
       omega (arith, c .before .before .loop-test .taken),
-      ⊎-elim (λ w. w .4 ∙ part-hit _ _ _ _ _ _ (c .before .entrant .ensures) (inv .1) (pre .years) (w .0 .taken) (w .1 .ensures) (w .2 .taken) (w .3 .ensures))
-          (⊎-elim (λ w. w .3 ∙ part-apart _ _ _ _ _ _ (c .before .entrant .ensures) (inv .1) (w .1 .ensures) (w .2 .left))
-          (λ w. w .1 ∙ part-lost _ _ _ _ _ _ (c .before .entrant .ensures) (inv .1) (w .0 .left)))
+      ⊎-elim (λ w. w .4 ∙ part-hit _ _ _ _ _ _ _ (c .before .entrant .ensures) (inv .1) (columns-few pre) (w .0 .taken) (w .1 .ensures) (w .2 .taken)
+          (w .3 .ensures))
+          (⊎-elim (λ w. w .3 ∙ part-apart _ _ _ _ _ _ _ (c .before .entrant .ensures) (inv .1) (w .1 .ensures) (w .2 .left))
+          (λ w. w .1 ∙ part-lost _ _ _ _ _ _ _ (c .before .entrant .ensures) (inv .1) (w .0 .left)))
           (c .if1 .came),
     )
 
 returns : tie.Need-returns Inv-loop μ-loop
-returns c = part-done _ _ _ _ _ _ (c .before .loop .inv .1) (c .before .before .pre) (c .before .loop .inv .0) (c .loop-test .left)
+returns c = part-done _ _ _ _ _ _ _ (c .before .loop .inv .1) (c .before .before .pre) (c .before .loop .inv .0) (c .loop-test .left)
 
 pub part-spec : {M : Type 1} → statement M
 part-spec =

@@ -1,4 +1,4 @@
--- The invariant: `ok` says whether every year passed fits.
+-- The invariant: `ok` says whether every column passed fits.
 use borrow.Author.Needs.{needs}
 use native.Mathlib.Omega.{arith}
 use Prim.Native.Nat.{_≤_, _-_}
@@ -11,10 +11,10 @@ use Rattle.totals.proofs.within.Statement.{statement}
 use Rattle.totals.proofs.within.Tie as tie
 
 abbrev Inv-loop : tie.InvT-loop
-Inv-loop sheet row ok₀ years y₀ ok y = (y ≤ years) × (ok ≡ rowFits sheet row y)
+Inv-loop sheet row ok₀ limits c₀ ok c = (c ≤ limits) × (ok ≡ rowFits sheet row c)
 
 abbrev μ-loop : tie.MeasureT-loop
-μ-loop sheet row ok₀ years y₀ ok y = years - y
+μ-loop sheet row ok₀ limits c₀ ok c = limits - c
 
 loop-holds : tie.Need-loop-holds Inv-loop μ-loop
 unfolding fitsTo

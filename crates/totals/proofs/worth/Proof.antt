@@ -12,12 +12,12 @@ valued-requires c κs =
       ready = pre .ready;
       place = omega (arith, pre .bid, pre .ready .few);
       price = omega (arith, c .capped .ensures, c .before .admin .ensures, pre .ready .admin _ (pre .bid));
-      year = pre .year;
+      column = pre .column;
     }
 
 returns : tie.Need-returns
 returns c = record {
-  value = worth-is _ _ _ _ (c .before .before .admin .ensures) (c .before .capped .ensures) (c .valued .ensures .0);
+  value = worth-is _ _ _ _ _ (c .before .before .admin .ensures) (c .before .capped .ensures) (c .valued .ensures .0);
   small = c .valued .ensures .1;
 }
 

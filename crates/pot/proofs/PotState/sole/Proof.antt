@@ -1,6 +1,7 @@
 -- `pot::PotState::sole` meets its contract.
 use borrow.Author.Needs.{needs}
 use Rattle.totals.proofs.Link as link
+use Rattle.sheet.proofs.Columns.{columns-few}
 use Rattle.pot.proofs.Seen.{sole-small, sole-fresh}
 use Rattle.pot.proofs.Sums.{summed-settled, summed-one, summed-alone}
 use Rattle.pot.proofs.Steps.{one-taken, one-tried, step-fits, step-alone}
@@ -12,13 +13,13 @@ tried-requires c κs = let pre = c .pre in
     (record { ready = pre .0 .ready; summed = pre .0 .summed }, sole-small (pre .0 .ready) (pre .0 .looked) (pre .1))
 
 within-requires : tie.Need-within-requires
-within-requires c κs = c .before .before .pre .0 .ready .years
+within-requires c κs = columns-few (c .before .before .pre .0 .ready)
 
 returns : tie.Need-returns
 returns c =
     let pre = c .before .before .before .before .before .pre in
     let ok = pre .0 .ready in
-    let right = summed-one _ _ _ _ (ok .years) (ok .year _ (sole-small ok (pre .0 .looked) (pre .1))) (c .before .before .before .before .tried .ensures)
+    let right = summed-one _ _ _ _ (columns-few ok) (ok .year _ (sole-small ok (pre .0 .looked) (pre .1))) (c .before .before .before .before .tried .ensures)
     (pre .0 .summed) in record {
       stepped =
           step-fits _ _ ok _ _ _ (pre .0 .looked .price) (one-tried (pre .0 .looked) (pre .1) (c .before .before .before .before .tried .ensures)) right
@@ -34,7 +35,7 @@ returns-2 : tie.Need-returns-2
 returns-2 c =
     let pre = c .before .before .before .before .before .pre in
     let ok = pre .0 .ready in
-    let right = summed-one _ _ _ _ (ok .years) (ok .year _ (sole-small ok (pre .0 .looked) (pre .1))) (c .before .before .before .before .tried .ensures)
+    let right = summed-one _ _ _ _ (columns-few ok) (ok .year _ (sole-small ok (pre .0 .looked) (pre .1))) (c .before .before .before .before .tried .ensures)
     (pre .0 .summed) in record {
       stepped =
           step-alone _ _ ok _ _ _ (pre .0 .looked .price) (one-tried (pre .0 .looked) (pre .1) (c .before .before .before .before .tried .ensures)) right

@@ -1,6 +1,7 @@
 -- `pot::PotState::tie` meets its contract.
 use borrow.Author.Needs.{needs}
 use Rattle.ties.proofs.Lists.{base-ok}
+use Rattle.sheet.proofs.Columns.{columns-few}
 use Rattle.pot.proofs.Laws.{tie-wide, tie-shared}
 use Rattle.pot.proofs.Sums.{shared-size}
 use Rattle.pot.proofs.PotState.tie.Statement.{statement}
@@ -24,7 +25,7 @@ choose-requires c κs = let pre = c .before .before .before .before .before .bef
 revalued-requires : tie.Need-revalued-requires
 revalued-requires c κs =
     let pre = c .before .before .before .before .before .before .before .before .before .before .pre in
-    (pre .ready, shared-size _ _ (pre .ready .years) (pre .summed) _ _ _ (c .shared .ensures))
+    (pre .ready, shared-size _ _ (columns-few (pre .ready)) (pre .summed) _ _ _ (c .shared .ensures))
 
 returns-2 : tie.Need-returns-2
 returns-2 c =

@@ -1,6 +1,7 @@
 -- `pot::PotState::tried` meets its contract.
 use borrow.Author.Needs.{needs}
 use native.Mathlib.Omega.{arith}
+use Rattle.sheet.proofs.Columns.{columns-few}
 use Rattle.pot.proofs.Laws.{year-ok}
 use Rattle.pot.proofs.Sums.{parted-win, sum-most, tried-is}
 use Rattle.pot.proofs.PotState.tried.Statement.{statement}
@@ -16,9 +17,9 @@ totalled-requires : tie.Need-totalled-requires
 totalled-requires c κs =
     let pre = c .before .before .before .pre in
     record {
-      years = pre .0 .ready .years;
+      columns = columns-few (pre .0 .ready);
       small = λ y h. sum-most
-          (parted-win _ _ _ _ _ (pre .0 .ready .years) (pre .0 .ready .year _ (pre .1)) (c .before .before .year .ensures) (c .before .win .ensures)
+          (parted-win _ _ _ _ _ (columns-few (pre .0 .ready)) (pre .0 .ready .year _ (pre .1)) (c .before .before .year .ensures) (c .before .win .ensures)
           (c .renewed .ensures) (pre .0 .summed .parts)) y h (pre .0 .ready);
     }
 

@@ -1,4 +1,4 @@
--- The invariant: the places of the years passed are written.
+-- The invariant: the places of the columns passed are written.
 use borrow.Author.Needs.{needs}
 use native.Mathlib.Omega.{arith}
 use Prim.Native.Nat.{_*_, _≤_, _-_}
@@ -11,10 +11,10 @@ use Rattle.pot.proofs.trial.laid.Statement.{statement}
 use Rattle.pot.proofs.trial.laid.Tie as tie
 
 abbrev Inv-loop : tie.InvT-loop
-Inv-loop d row out₀ years y₀ out y = (y ≤ years) × (out ≡ placed (λ x. getD row x 0) out₀ (d * columns) y)
+Inv-loop d row out₀ n c₀ out c = (c ≤ n) × (out ≡ placed (λ x. getD row x 0) out₀ (d * columns) c)
 
 abbrev μ-loop : tie.MeasureT-loop
-μ-loop d row out₀ years y₀ out y = years - y
+μ-loop d row out₀ n c₀ out c = n - c
 
 loop-holds : tie.Need-loop-holds Inv-loop μ-loop
 unfolding placed

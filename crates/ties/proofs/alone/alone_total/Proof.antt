@@ -2,6 +2,8 @@
 use borrow.Author.Needs.{needs}
 use native.Mathlib.Omega.{arith}
 use Prim.Native.Nat.{_+_, _*_}
+use Rattle.sheet.specs.Sheet.{columns}
+use Rattle.sheet.proofs.Columns.{columns-few}
 use Rattle.ties.proofs.Laws.{pow-at, alone-is}
 use Rattle.ties.proofs.alone.alone_total.Statement.{statement}
 use Rattle.ties.proofs.alone.alone_total.Tie as tie
@@ -14,18 +16,18 @@ power-requires c κs = omega (arith, c .year .ensures, c .before .pre .0 .ready 
 
 element-copy-out-result : tie.Need-element-copy-out-result
 element-copy-out-result c = let g = c .before .before .pre .0 in
-    omega (arith, g .year, g .ready .years, pow-at _ (c .before .year .ensures) (g .ready .year _ (g .bid)) (c .power .ensures))
+    omega (arith, g .column, columns-few (g .ready), pow-at _ (c .before .year .ensures) (g .ready .year _ (g .bid)) (c .power .ensures))
 
 add-result-2 : tie.Need-add-result-2
 add-result-2 c =
     omega (
       arith,
-      c .before .before .before .before .pre .1 .small (c .before .before .power .result * 8 + c .before .before .before .before .args .y),
+      c .before .before .before .before .pre .1 .small (c .before .before .power .result * columns + c .before .before .before .before .args .c),
       c .worth .ensures .small,
     )
 
 returns : tie.Need-returns
-returns c = alone-is _ _ _ _ _ (c .before .before .before .year .ensures) (c .before .before .power .ensures) (c .worth .ensures .value)
+returns c = alone-is _ _ _ _ _ _ (c .before .before .before .year .ensures) (c .before .before .power .ensures) (c .worth .ensures .value)
 
 pub alone-total-spec : {M : Type 1} → statement M
 alone-total-spec =

@@ -1,10 +1,11 @@
--- The invariant: `ok` says whether every year passed fits.
+-- The invariant: `ok` says whether every column passed fits.
 use borrow.Author.Needs.{needs}
 use native.Mathlib.Omega.{arith}
 use Prim.Native.Nat.{_≤_, _-_}
 use mathlib.Core.Path.{_≡_, _∙_}
 use mathlib.Core.Logic.{⊎-elim}
 use Rattle.arrays.proofs.Laws.{done}
+use Rattle.sheet.proofs.Columns.{columns-few}
 use Rattle.totals.specs.Totals.{fitsTo}
 use Rattle.totals.proofs.Laws.{fits-not, fits-more}
 use Rattle.ties.specs.Ties.{aloneTotal}
@@ -12,20 +13,20 @@ use Rattle.ties.proofs.alone.fits_alone.Statement.{statement}
 use Rattle.ties.proofs.alone.fits_alone.Tie as tie
 
 abbrev Inv-loop : tie.InvT-loop
-Inv-loop sheet of base price k ok₀ years y₀ ok y = (y ≤ years) × (ok ≡ fitsTo (aloneTotal sheet base price k) sheet y)
+Inv-loop sheet of base price k ok₀ columns c₀ ok c = (c ≤ columns) × (ok ≡ fitsTo (aloneTotal sheet of base price k) sheet c)
 
 abbrev μ-loop : tie.MeasureT-loop
-μ-loop sheet of base price k ok₀ years y₀ ok y = years - y
+μ-loop sheet of base price k ok₀ columns c₀ ok c = columns - c
 
 loop-holds : tie.Need-loop-holds Inv-loop μ-loop
 unfolding fitsTo
 loop-holds c = search needs
 
 alone-total-requires : tie.Need-alone-total-requires Inv-loop μ-loop
-alone-total-requires c κs = let g = c .before .before .pre in (record { ready = g .ready; bid = g .bid; year = c .loop-test .taken }, g .winners)
+alone-total-requires c κs = let g = c .before .before .pre in (record { ready = g .ready; bid = g .bid; column = c .loop-test .taken }, g .winners)
 
 limit-requires : tie.Need-limit-requires Inv-loop μ-loop
-limit-requires c κs = omega (arith, c .before .loop-test .taken, c .before .before .before .pre .ready .years)
+limit-requires c κs = omega (arith, c .before .loop-test .taken, columns-few (c .before .before .before .pre .ready))
 
 loop-again : tie.Need-loop-again Inv-loop μ-loop
 loop-again c = let a = c .before .before .alone-total .ensures in

@@ -3,6 +3,8 @@ use borrow.Author.Needs.{needs}
 use native.Mathlib.Omega.{arith}
 use Prim.Native.Nat.{_+_, _*_, _/_, _%_}
 use mathlib.Core.Path.{refl}
+use Rattle.sheet.specs.Sheet.{columns}
+use Rattle.ties.specs.Ties.{partSize, partRows}
 use Rattle.ties.proofs.Laws.{joint-is}
 use Rattle.ties.proofs.search.joint.Statement.{statement}
 use Rattle.ties.proofs.search.joint.Tie as tie
@@ -11,13 +13,18 @@ add-result-2 : tie.Need-add-result-2
 add-result-2 c =
     let T = c .before .before .before .pre .0 .tables in
     let a = c .before .before .before .args in
-    omega (arith, T .winners .small (a .t * 8 + a .y), T .bids .small (a .mask % 32 * 8 + a .y))
+    omega (arith, T .winners .small (a .t * columns + a .c), T .bids .small (a .mask % partSize * columns + a .c))
 
 add-result-3 : tie.Need-add-result-3
 add-result-3 c =
     let T = c .before .before .before .pre .0 .tables in
     let a = c .before .before .before .args in
-    omega (arith, T .winners .small (a .t * 8 + a .y), T .bids .small (a .mask % 32 * 8 + a .y), T .bids .small (256 + a .mask / 32 * 8 + a .y))
+    omega (
+      arith,
+      T .winners .small (a .t * columns + a .c),
+      T .bids .small (a .mask % partSize * columns + a .c),
+      T .bids .small (partRows + a .mask / partSize * columns + a .c),
+    )
 
 returns : tie.Need-returns
 returns c = joint-is _ _ _ _ _ refl

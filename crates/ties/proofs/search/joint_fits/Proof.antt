@@ -1,4 +1,4 @@
--- The invariant: every year passed fits.
+-- The invariant: every column passed fits.
 use borrow.Author.Needs.{needs}
 use native.Mathlib.Omega.{arith}
 use Prim.Native.Nat.{_≤_, _-_}
@@ -13,10 +13,10 @@ use Rattle.ties.proofs.search.joint_fits.Statement.{statement}
 use Rattle.ties.proofs.search.joint_fits.Tie as tie
 
 abbrev Inv-loop : tie.InvT-loop
-Inv-loop sheet base costs mask t years y₀ y = (y ≤ years) × (true ≡ fitsTo (jointOf base costs mask t) sheet y)
+Inv-loop sheet base costs mask t columns c₀ c = (c ≤ columns) × (true ≡ fitsTo (jointOf base costs mask t) sheet c)
 
 abbrev μ-loop : tie.MeasureT-loop
-μ-loop sheet base costs mask t years y₀ y = years - y
+μ-loop sheet base costs mask t columns c₀ c = columns - c
 
 loop-holds : tie.Need-loop-holds Inv-loop μ-loop
 unfolding fitsTo

@@ -4,6 +4,7 @@ use native.Mathlib.Omega.{arith}
 use Prim.Native.Nat.{_≤_, _-_}
 use mathlib.Core.Path.{_≡_, refl, _∙_}
 use mathlib.Core.Logic.{⊎-elim}
+use Rattle.sheet.proofs.Columns.{columns-few}
 use Rattle.ties.specs.Ties.{okBy, lastBy, bestOf}
 use Rattle.ties.proofs.Laws.{last-is, ok-is, best-none, best-more, best-same, best-ends}
 use Rattle.ties.proofs.Parts.{mask-low}
@@ -46,7 +47,7 @@ joint-fits-requires : tie.Need-joint-fits-requires Inv-loop μ-loop
 joint-fits-requires c κs =
     let g = c .before .before .before .before .before .before .before .pre in
     let number = mask-low (g .few) (c .before .before .before .before .before .before .power .ensures) (c .before .loop-test .taken) in
-    (record { tables = g .tables; number = number; years = c .union2 .ensures .1 }, g .ready .years)
+    (record { tables = g .tables; number = number; years = c .union2 .ensures .1 }, columns-few (g .ready))
 
 joint-requires-2 : tie.Need-joint-requires-2 Inv-loop μ-loop
 joint-requires-2 c κs =

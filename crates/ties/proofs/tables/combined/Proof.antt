@@ -1,20 +1,21 @@
--- The invariant: `sum` is what the bids passed cost, each at most the dearest.
+-- The invariant: `sum` is what the bids passed count, each at most the dearest.
 use native.Mathlib.Omega.{arith}
 use Prim.Native.Nat.{_≤_, _-_, _+_, _*_}
 use mathlib.Core.Path.{_≡_, refl, _∙_}
 use mathlib.Core.Logic.{⊎-elim}
 use Rattle.rules.specs.Value.{dearest}
 use Rattle.arrays.proofs.Laws.{done}
+use Rattle.sheet.specs.Sheet.{columns}
 use Rattle.ties.specs.Ties.{combinedOf}
 use Rattle.ties.proofs.Laws.{combined-hit, combined-miss}
 use Rattle.ties.proofs.tables.combined.Statement.{statement}
 use Rattle.ties.proofs.tables.combined.Tie as tie
 
 abbrev Inv-loop : tie.InvT-loop
-Inv-loop own mask y tied sum₀ count j₀ sum j = (j ≤ count) × (sum ≡ combinedOf own (tied .ranks) mask y j) × (sum ≤ dearest * j)
+Inv-loop own mask c tied sum₀ count j₀ sum j = (j ≤ count) × (sum ≡ combinedOf own (tied .ranks) mask c j) × (sum ≤ dearest * j)
 
 abbrev μ-loop : tie.MeasureT-loop
-μ-loop own mask y tied sum₀ count j₀ sum j = count - j
+μ-loop own mask c tied sum₀ count j₀ sum j = count - j
 
 loop-holds : tie.Need-loop-holds Inv-loop μ-loop
 unfolding combinedOf
@@ -53,7 +54,7 @@ add-sum-2 c =
     omega (
       arith,
       g .0 .placed .few,
-      g .0 .bids .small (l .j * 8 + c .before .before .before .before .before .before .args .y),
+      g .0 .bids .small (l .j * columns + c .before .before .before .before .before .before .args .c),
       l .inv .2,
       c .before .before .before .before .loop-test .taken,
     )
@@ -66,7 +67,7 @@ loop-again c = let l = c .before .before .before .before .loop in
       ⊎-elim (λ w. omega (
         arith,
         w .2,
-        c .before .before .before .before .before .pre .0 .bids .small (l .j * 8 + c .before .before .before .before .before .args .y),
+        c .before .before .before .before .before .pre .0 .bids .small (l .j * columns + c .before .before .before .before .before .args .c),
       ))
           (λ w. omega (arith, w .1)) (c .if1 .came),
     )

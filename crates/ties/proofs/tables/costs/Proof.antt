@@ -1,22 +1,22 @@
 -- The invariant: each place passed holds its sum, of whatever bids the places alone are.
 use borrow.Author.Needs.{needs}
 use native.Mathlib.Omega.{arith}
-use Prim.Native.Nat.{ℕ, _≤_, _-_}
+use Prim.Native.Nat.{ℕ, _≤_, _-_, _*_}
 use mathlib.Core.Path.{_≡_, refl, _∙_}
 use mathlib.Core.Logic.{⊎-elim}
 use mathlib.Core.List.{List}
 use Rattle.arrays.proofs.Laws.{done, fill-next}
 use Rattle.arrays.specs.Sets.{fill}
-use Rattle.ties.specs.Ties.{onesOf, costAt, noCosts}
+use Rattle.ties.specs.Ties.{parts, partRows, onesOf, costAt, noCosts}
 use Rattle.ties.proofs.Parts.{cost-stays, cost-next, cost-le}
 use Rattle.ties.proofs.tables.costs.Statement.{statement}
 use Rattle.ties.proofs.tables.costs.Tie as tie
 
 abbrev Inv-loop : tie.InvT-loop
-Inv-loop own one out₀ i₀ out i = (i ≤ 512) × ((ranks : List ℕ) (k : ℕ) → one ≡ onesOf own ranks k → out ≡ fill noCosts (costAt own ranks k) i)
+Inv-loop own one out₀ i₀ out i = (i ≤ parts * partRows) × ((ranks : List ℕ) (k : ℕ) → one ≡ onesOf own ranks k → out ≡ fill noCosts (costAt own ranks k) i)
 
 abbrev μ-loop : tie.MeasureT-loop
-μ-loop own one out₀ i₀ out i = 512 - i
+μ-loop own one out₀ i₀ out i = parts * partRows - i
 
 loop-holds : tie.Need-loop-holds Inv-loop μ-loop
 unfolding fill noCosts

@@ -1,20 +1,22 @@
 -- The invariant: each place passed holds its sum.
 use borrow.Author.Needs.{needs}
 use native.Mathlib.Omega.{arith}
-use Prim.Native.Nat.{_≤_, _-_}
+use Prim.Native.Nat.{_≤_, _-_, _*_}
 use mathlib.Core.Path.{_≡_}
+use Rattle.rules.specs.Names.{widestTie}
 use Rattle.arrays.proofs.Laws.{done, fill-next}
 use Rattle.arrays.specs.Sets.{fill}
+use Rattle.sheet.specs.Sheet.{columns}
 use Rattle.ties.specs.Ties.{noOwn, oneAt}
 use Rattle.ties.proofs.Laws.{one-is}
 use Rattle.ties.proofs.tables.ones.Statement.{statement}
 use Rattle.ties.proofs.tables.ones.Tie as tie
 
 abbrev Inv-loop : tie.InvT-loop
-Inv-loop own tied out₀ i₀ out i = (i ≤ 80) × (out ≡ fill noOwn (oneAt own (tied .ranks) (tied .count)) i)
+Inv-loop own tied out₀ i₀ out i = (i ≤ widestTie * columns) × (out ≡ fill noOwn (oneAt own (tied .ranks) (tied .count)) i)
 
 abbrev μ-loop : tie.MeasureT-loop
-μ-loop own tied out₀ i₀ out i = 80 - i
+μ-loop own tied out₀ i₀ out i = widestTie * columns - i
 
 loop-holds : tie.Need-loop-holds Inv-loop μ-loop
 unfolding fill noOwn

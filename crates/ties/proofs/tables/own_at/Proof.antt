@@ -5,7 +5,7 @@ use Rattle.ties.proofs.tables.own_at.Statement.{statement}
 use Rattle.ties.proofs.tables.own_at.Tie as tie
 
 worth-requires : tie.Need-worth-requires
-worth-requires c κs = let g = c .before .before .before .pre in record { ready = g .0; bid = g .1 .small _ (g .2); year = c .before .if1 .taken }
+worth-requires c κs = let g = c .before .before .before .pre in record { ready = g .0; bid = g .1 .small _ (g .2); column = c .before .if1 .taken }
 
 returns : tie.Need-returns
 returns c = own-in _ _ _ _ _ (c .before .before .if1 .taken) (c .worth .ensures .value)

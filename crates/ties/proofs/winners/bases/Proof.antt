@@ -6,6 +6,7 @@ use mathlib.Core.Path.{_≡_}
 use Rattle.arrays.proofs.Laws.{done-by}
 use Rattle.arrays.specs.Sets.{fill}
 use Rattle.sheet.specs.Sheet.{columns}
+use Rattle.sheet.proofs.Columns.{columns-few}
 use Rattle.ties.specs.Ties.{yearSets, baseAt, noBase}
 use Rattle.ties.proofs.Laws.{bases-next}
 use Rattle.ties.proofs.winners.bases.Statement.{statement}
@@ -24,7 +25,7 @@ loop-holds c = search needs
 loop-again : tie.Need-loop-again Inv-loop μ-loop
 loop-again c = let inv = c .before .before .before .before .loop .inv in (
   omega arith,
-  bases-next _ _ _ _ _ _ (c .before .before .before .before .before .pre .years) (c .before .before .repriced .ensures)
+  bases-next _ _ _ _ _ _ (columns-few (c .before .before .before .before .before .pre)) (c .before .before .repriced .ensures)
       (c .before .revalued .ensures) (inv .1) (c .laid .ensures),
 )
 

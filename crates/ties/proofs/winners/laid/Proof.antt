@@ -11,10 +11,10 @@ use Rattle.ties.proofs.winners.laid.Statement.{statement}
 use Rattle.ties.proofs.winners.laid.Tie as tie
 
 abbrev Inv-loop : tie.InvT-loop
-Inv-loop t row out₀ y₀ out y = (y ≤ columns) × (out ≡ placed (λ x. getD row x 0) out₀ (t * columns) y)
+Inv-loop t row out₀ c₀ out c = (c ≤ columns) × (out ≡ placed (λ x. getD row x 0) out₀ (t * columns) c)
 
 abbrev μ-loop : tie.MeasureT-loop
-μ-loop t row out₀ y₀ out y = columns - y
+μ-loop t row out₀ c₀ out c = columns - c
 
 loop-holds : tie.Need-loop-holds Inv-loop μ-loop
 unfolding placed

@@ -1,4 +1,4 @@
--- The invariant: the places of the years passed hold their totals.
+-- The invariant: the places of the columns passed hold their totals.
 use borrow.Author.Needs.{needs}
 use native.Mathlib.Omega.{arith}
 use Prim.Native.Nat.{_≤_, _-_}
@@ -6,16 +6,16 @@ use mathlib.Core.Path.{_≡_}
 use Rattle.arrays.proofs.Laws.{done, fill-next}
 use Rattle.arrays.specs.Sets.{fill}
 use Rattle.totals.specs.Totals.{noRow, filled}
-use Rattle.pot.specs.Marks.{yearSum}
+use Rattle.pot.specs.Marks.{columnSum}
 use Rattle.pot.proofs.Sums.{added-is, added-low}
-use Rattle.pot.proofs.trial.year_totals.Statement.{statement}
-use Rattle.pot.proofs.trial.year_totals.Tie as tie
+use Rattle.pot.proofs.trial.column_totals.Statement.{statement}
+use Rattle.pot.proofs.trial.column_totals.Tie as tie
 
 abbrev Inv-loop : tie.InvT-loop
-Inv-loop sums row₀ years y₀ row y = (y ≤ years) × (row ≡ filled (yearSum sums) y)
+Inv-loop sums row₀ columns c₀ row c = (c ≤ columns) × (row ≡ filled (columnSum sums) c)
 
 abbrev μ-loop : tie.MeasureT-loop
-μ-loop sums row₀ years y₀ row y = years - y
+μ-loop sums row₀ columns c₀ row c = columns - c
 
 loop-holds : tie.Need-loop-holds Inv-loop μ-loop
 unfolding fill noRow
@@ -36,8 +36,8 @@ loop-again c = (omega arith, fill-next _ _ _ (c .before .loop .inv .1) (added-is
 returns : tie.Need-returns Inv-loop μ-loop
 returns c = done (filled _) (c .before .loop .inv .1) (c .before .loop .inv .0) (c .loop-test .left)
 
-pub year-totals-spec : {M : Type 1} → statement M
-year-totals-spec =
+pub column-totals-spec : {M : Type 1} → statement M
+column-totals-spec =
     tie.close (tie.spec Inv-loop μ-loop loop-holds (λ c. search needs) (λ c. search needs) (λ c. search needs) (λ c. search needs) (λ c. search needs) add-row-2
     (λ c. search needs) (λ c. search needs) (λ c. search needs) (λ c. search needs) add-row-4 (λ c. search needs) (λ c. search needs) (λ c. search needs)
     (λ c. search needs)
