@@ -1,4 +1,5 @@
 // Says in one line which record of the round file on standard input broke which rule; prints nothing where the file is accepted.
+mod broken;
 mod rule;
 mod whose;
 
@@ -15,7 +16,7 @@ fn refused(file: &[u8], number: u64, at: usize) {
         whose::record(file, at);
     }
     field(b" breaks rule ", number);
-    rule::words(number);
+    rule::words(file, number, at);
     word(b"\n");
 }
 

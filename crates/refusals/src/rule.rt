@@ -1,23 +1,21 @@
 // The rules of "When the file is turned away", in words.
+use super::broken;
 use text::word;
 
-// Rules 1 to 6.
+// Rules 1 to 6, but for 4.
 fn of_sections(number: u64) {
     if number == names::ENDS_EARLY {
         return word(b": the file ends before the end of this count or record");
     }
     if number == names::COUNT_OUTSIDE {
         return word(
-            b": count outside its range (years 1 to 8, pots 1 to 4, technologies 1 to 32, applications 0 to 64, bids 0 to 256)",
+            b": count outside its range (years 1 to 8, pots 1 to 4 or, with caps, 32,769 to 32,772, technologies 1 to 32, applications 0 to 64, bids 0 to 256)",
         );
     }
     if number == names::YEAR_BROKEN {
         return word(
             b": days not 365 or 366, kind above 1, TLM above 1.0000, year 0 not a delivery year, a delivery year after a valuation-only one, or a fifth delivery year",
         );
-    }
-    if number == names::POT_BROKEN {
-        return word(b": a budget above \xC2\xA31,000,000,000,000");
     }
     if number == names::TECH_BROKEN {
         return word(
@@ -48,7 +46,11 @@ fn of_bids(number: u64) {
     word(b": the lowest bid of its application in its year is not in whole pence");
 }
 
-pub fn words(number: u64) {
+// The rule of this number, which the record at `at` broke.
+pub fn words(file: &[u8], number: u64, at: usize) {
+    if number == names::POT_BROKEN {
+        return broken::of_pot(file, at);
+    }
     if number < names::BID_BROKEN {
         of_sections(number);
     } else {

@@ -11,8 +11,8 @@ use places::on;
 use text::number;
 use text::word;
 
-// The place after a section whose count, at `at`, is n.
-fn after(at: usize, n: usize, width: usize) -> usize
+// The place after a section of n records, whose count is at `at`.
+pub fn after(at: usize, n: usize, width: usize) -> usize
     requires { ⌜ (n < 65536) × (width < 1000000) ⌝ }
     ensures { λ r. ⌜ r ≡ min (min (at + countWidth) beyond + n * width) beyond ⌝ }
 {
@@ -58,8 +58,10 @@ fn of_offers(file: &[u8], applications_at: usize, at: usize) {
 fn of_pots(file: &[u8], years: usize, pots_at: usize, at: usize)
     requires { ⌜ years < 65536 ⌝ }
 {
-    let pot_width = pot::width(years);
-    let technologies_at = after(pots_at, count(file, pots_at), pot_width);
+    let counted = count(file, pots_at) as u64;
+    let pot_width = pot::width(years, pot::cap_told(counted));
+    let pots = pot::pots_told(counted) as usize;
+    let technologies_at = after(pots_at, pots, pot_width);
     if at < technologies_at {
         return told(pots_at, at, pot_width, b"pot", b"pots");
     }

@@ -15,7 +15,7 @@ use Rattle.rules.specs.declared.Reading.the-variants as r
 use Rattle.rules.specs.declared.Answer.the-variants.{Cleared, Refused}
 use Rattle.laws_reading.specs.Reading.{Sound}
 use Rattle.laws_reading.specs.Fault.{handed-on}
-use Rattle.laws_reading.specs.Small.{reading-small}
+use Rattle.laws_reading.specs.Small.{largest, reading-small}
 use Rattle.rows.specs.Rows.{roundIn, Held}
 use Rattle.rows.proofs.Accepted.{accepted}
 use Rattle.result.specs.declared.Tellings.{Tellings}
@@ -82,7 +82,7 @@ unfolding clearOf answerOf answerTo after refusedAs refusedAt refusal place
 turned-away s lent {m} {at} e =
     let z = reading-small s in
     let n : m ≤ 11 = omega (arith, z .number, ap refusal e) in
-    let p : at ≤ 7866 = omega (arith, z .at, ap place e) in
+    let p : at ≤ largest = omega (arith, z .at, ap place e) in
     (record { answer = rw e; bytes = rw e }, record { number = omega arith; at = p })
 
 pub length-needed : (s : List ℕ) {z : Sections} {n : ℕ} → reading s ≡ r.Accepted z → n ≡ needed (roundOf s) → n ≡ lengthOf s

@@ -22,14 +22,14 @@ use Rattle.laws_round.specs.Silent.{Unheard, SilentTold}
 use Rattle.laws_round.specs.Theorems as laws
 use Rattle.round.specs.Round.{Clears, Lists}
 
--- Demand 3, of each pot that an auction cleared, as the bytes that were written tell it: the five sentences are the fields of `Third`
+-- Demand 3, of each pot that an auction cleared, as the bytes that were written tell it: its sentences are the fields of `Third`
 pub third-demand : (file lent : List ℕ) {r : Answer} {exit : List ℕ} → Clears file lent r exit → refusedAs r ≡ 0
     → let R = roundOf file in
     (p : ℕ) → p < R .p → outcomeAt R exit p ≡ auctioned → Third R p (toldAt R exit) (totalAt R exit p) (reasonAt R exit)
 third-demand file lent C e = rw (C .bytes) (laws.third-demand file lent (rw (C .answer) at e))
 
 -- "If all a pot's applications, at their administrative prices, fit its budget in every year, all win at those prices (outcome 0)", and only then; "The first
--- test counts it as before" (02, CR 8): an application without a sealed bid is one of them
+-- test counts it as before" (02, CR 8): an application without a sealed bid is one of them; it "also check[s] the cap" (02, CR 5)
 pub first-test : (file lent : List ℕ) {r : Answer} {exit : List ℕ} → Clears file lent r exit → refusedAs r ≡ 0
     → let R = roundOf file in
     (p : ℕ) → p < R .p → (outcomeAt R exit p ≡ administrative) ↔ FitsFirst R p
@@ -49,7 +49,7 @@ pub heard-told : (file lent : List ℕ) {r : Answer} {exit : List ℕ} → Clear
 heard-told file lent C e = rw (C .bytes) (laws.heard-told file lent (rw (C .answer) at e))
 
 -- "Two accepted files with equal counts that differ only in declared costs, and in budgets, technologies, applications and bids of other pots, each pot's
--- records at the same places, give one pot the same outcome, prices, totals and reasons"
+-- records at the same places, give one pot the same outcome, prices, totals and reasons"; and so where they differ in other pots' caps (02, CR 5)
 pub pots-apart : (file other lent lent′ : List ℕ) {r q : Answer} {exit exit′ : List ℕ} → Clears file lent r exit → Clears other lent′ q exit′
     → refusedAs r ≡ 0 → refusedAs q ≡ 0 → (p : ℕ) → p < roundOf file .p → DifferElsewhere p (roundOf file) (roundOf other)
     → SameRecords p (roundOf file) (roundOf other) exit exit′

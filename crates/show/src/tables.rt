@@ -1,7 +1,8 @@
 // The five tables of an accepted file, each over the part of the file that its section occupies.
 ghost use Prim.Native.Nat.{_*_, _≤_, _<_};
 ghost use lib.ListN.{length};
-ghost use Rattle.rules.specs.Names.{yearWidth, potWidth, techWidth, appWidth, bidWidth};
+ghost use Rattle.rules.specs.Names.{yearWidth, capWidth, potWidth, techWidth, appWidth, bidWidth};
+ghost use Rattle.laws_reading.specs.Reading.{CapTold};
 ghost use Rattle.layout.specs.Layout.{Room};
 ghost use Rattle.rows.specs.Rows.{Held};
 use layout::application;
@@ -44,41 +45,56 @@ fn years(recs: &[u8], n: usize)
 }
 
 // The budget of pot p in year y, after a comma but for the first.
-fn budget(recs: &[u8], years: usize, p: usize, y: usize)
-    requires { ⌜ Room (now recs) (potWidth years) p × (y < years) ⌝ }
+fn budget(recs: &[u8], years: usize, cap_width: usize, p: usize, y: usize)
+    requires { ⌜ Room (now recs) (potWidth years «cap_width») p × (y < years) ⌝ }
 {
     if y > 0 {
         word(b",");
     }
-    money(b" ", pot::budget(recs, years, p, y), 0);
+    money(b" ", pot::budget(recs, years, cap_width, p, y), 0);
 }
 
-fn budgets(recs: &[u8], years: usize, p: usize)
-    requires { ⌜ Room (now recs) (potWidth years) p ⌝ }
+fn budgets(recs: &[u8], years: usize, cap_width: usize, p: usize)
+    requires { ⌜ Room (now recs) (potWidth years «cap_width») p ⌝ }
 {
     let mut y: usize = 0;
     while y < years {
-        budget(recs, years, p, y);
+        budget(recs, years, cap_width, p, y);
         y += 1;
     }
 }
 
-fn pot_line(recs: &[u8], years: usize, p: usize)
-    requires { ⌜ Room (now recs) (potWidth years) p ⌝ }
+// The cap of pot p, in a file with caps.
+fn cap(recs: &[u8], years: usize, cap_width: usize, p: usize)
+    requires { ⌜ Room (now recs) (potWidth years «cap_width») p × (capWidth ≤ «cap_width») ⌝ }
+{
+    let cap = pot::cap(recs, years, cap_width, p);
+    if cap == names::NO_CAP {
+        return word(b"; cap none");
+    }
+    hundredths(b"; cap ", cap);
+    word(b" MW");
+}
+
+fn pot_line(recs: &[u8], years: usize, cap_width: usize, p: usize)
+    requires { ⌜ Room (now recs) (potWidth years «cap_width») p × CapTold «cap_width» ⌝ }
 {
     field(b"  pot ", p as u64);
     word(b": budgets");
-    budgets(recs, years, p);
+    budgets(recs, years, cap_width, p);
+    if cap_width != 0 {
+        cap(recs, years, cap_width, p);
+    }
     word(b"\n");
 }
 
-fn pots(recs: &[u8], years: usize, n: usize)
-    requires { ⌜ n * potWidth years ≤ length (now recs) ⌝ }
+fn pots(recs: &[u8], years: usize, cap_width: usize, n: usize)
+    requires { ⌜ (n * potWidth years «cap_width» ≤ length (now recs)) × CapTold «cap_width» ⌝ }
 {
     word(b"pots\n");
     let mut p: usize = 0;
     while p < n {
-        pot_line(recs, years, p);
+        pot_line(recs, years, cap_width, p);
         p += 1;
     }
 }
@@ -182,7 +198,8 @@ pub fn print(file: &[u8], sections: Sections)
     requires { ⌜ Held (now file) sections ⌝ }
 {
     years(parts::years(file, sections), sections.years);
-    pots(parts::pots(file, sections), sections.years, sections.pots);
+    let recs = parts::pots(file, sections);
+    pots(recs, sections.years, sections.cap_width, sections.pots);
     let techs = parts::technologies(file, sections);
     technologies(techs, sections.years, sections.technologies);
     applications(parts::applications(file, sections), sections.applications);

@@ -44,20 +44,20 @@ module _ (R : Round) (p : ℕ) where
       meant : potOf R p .apps ≡ sift (appMine R p) (below (R .n))
       meant = unfold potOf assemble in refl
 
-  module _ (sheet : List ℕ) (n : ℕ) (E : potIn sheet (sizeOf R n) ≡ potOf R p) where
+  module _ (sheet : List ℕ) (m n : ℕ) (E : potIn sheet (sizeOf R m n) ≡ potOf R p) where
     shown-bid : (k : ℕ) → k < R .b → inAuction sheet k ≡ eqb (bidPot R k) p
     shown-bid k h = sym (memb-sift (inAuction sheet) k (R .b) h) ∙ ap (memb k) (shown ∙ ap (λ (Q : Pot). Q .bids) E) ∙ own-bid k h
       where
-        shown : sift (inAuction sheet) (below (R .b)) ≡ potIn sheet (sizeOf R n) .bids
+        shown : sift (inAuction sheet) (below (R .b)) ≡ potIn sheet (sizeOf R m n) .bids
         shown = unfold potIn in refl
 
     shown-app : (a : ℕ) → a < R .n → inTest sheet a ≡ eqb (appPot R a) p
     shown-app a h = sym (memb-sift (inTest sheet) a (R .n) h) ∙ ap (memb a) (shown ∙ ap (λ (Q : Pot). Q .apps) E) ∙ own-app a h
       where
-        shown : sift (inTest sheet) (below (R .n)) ≡ potIn sheet (sizeOf R n) .apps
+        shown : sift (inTest sheet) (below (R .n)) ≡ potIn sheet (sizeOf R m n) .apps
         shown = unfold potIn in refl
 
-    module _ (S : Sound R) (h : p < R .p) (c : Cleared) (C : ClearedAs (sizeOf R n) (potOf R p) c) where
+    module _ (S : Sound R) (h : p < R .p) (c : Cleared) (C : ClearedAs (sizeOf R m n) (potOf R p) c) where
       -- what is told now of an application, and of a bid, of the pot
       app-now : (a : ℕ) → a < R .n → appPot R a ≡ p → getD (c .apps) a untold ≡ appTold R a
       app-now a l e = C .app a ∙ rw (lt-ltb a (R .n) l) (unfold appTold in rw e)
@@ -70,7 +70,7 @@ module _ (R : Round) (p : ℕ) where
       abbrev pot-now : PotTold
       pot-now = record { outcome = c .outcome; prices = c .prices; totals = c .totals }
 
-      pub tell-pot : (t : Tellings) → ToldTo R p t → ToldTo R (p + 1) (toldWith sheet (sizeOf R n) p c t)
+      pub tell-pot : (t : Tellings) → ToldTo R p t → ToldTo R (p + 1) (toldWith sheet (sizeOf R m n) p c t)
       unfolding toldWith
       tell-pot t T = record {
         sizes = record {
@@ -121,13 +121,13 @@ told-none R = record {
     none x d false q = refl
 
 -- the pot told is the next of the round
-pub told-next : (R : Round) (p : ℕ) (sheet : List ℕ) (of : Size) {n : ℕ} → of ≡ sizeOf R n → potIn sheet of ≡ potOf R p → Sound R → p < R .p
+pub told-next : (R : Round) (p : ℕ) (sheet : List ℕ) (of : Size) {m n : ℕ} → of ≡ sizeOf R m n → potIn sheet of ≡ potOf R p → Sound R → p < R .p
     → (c : Cleared) → ClearedAs of (potIn sheet of) c → (t : Tellings) {r : Tellings} → r ≡ toldWith sheet of p c t
     → ToldTo R p t → ToldTo R (p + 1) r
-told-next R p sheet of {n} eo E S h c C t e T =
-    let F : potIn sheet (sizeOf R n) ≡ potOf R p = rw eo at E in
-    let D : ClearedAs (sizeOf R n) (potOf R p) c = rw eo at (rw E at C) in
-    rw (e, eo) (tell-pot R p sheet n F S h c D t T)
+told-next R p sheet of {m} {n} eo E S h c C t e T =
+    let F : potIn sheet (sizeOf R m n) ≡ potOf R p = rw eo at E in
+    let D : ClearedAs (sizeOf R m n) (potOf R p) c = rw eo at (rw E at C) in
+    rw (e, eo) (tell-pot R p sheet m n F S h c D t T)
 
 -- all pots are told
 pub told-all : (R : Round) → Sound R → (t : Tellings) (p : ℕ) → p ≡ R .p → ToldTo R p t → Tells R t
