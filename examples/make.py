@@ -7,7 +7,8 @@ make.py --check    names those that are not what it would write; the exit status
 A file of tables holds the five sections of a round file, each with its records numbered as the listing numbers them, and the yearly
 figures of the technologies. A table is its name and columns in one line, then its rows, then a blank line; cells stand two spaces or
 more apart; a line that begins with # is a note. Prices are pounds per MWh, capacities MW, money pounds; the totals of a listing are pence.
-A start is the name of a year, for its first day, or a date. Where pots have a column cap, in MW or - for none, the file has caps.
+A start is the name of a year, for its first day, or a date. Where pots have a column cap, in MW or - for none, the file has caps; where they have
+a column drawn number behind it, it has those too.
 """
 import re
 import sys
@@ -87,10 +88,13 @@ def figures(technology, t):
 
 
 def caps(pots):
-    """The cap of each pot, or None for a file without."""
+    """The cap of each pot, with its drawn number in a file that has them, or None for a file without caps."""
     if 'cap' not in pots[0]:
         return None
-    return [NO_CAP if r['cap'] == '-' else whole(r['cap'], CAPACITY) for r in pots]
+    limits = [NO_CAP if r['cap'] == '-' else whole(r['cap'], CAPACITY) for r in pots]
+    if 'drawn number' not in pots[0]:
+        return limits
+    return [(cap, whole(r['drawn number'], 1)) for cap, r in zip(limits, pots)]
 
 
 def round_of(t):

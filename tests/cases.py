@@ -1,10 +1,12 @@
-"""cases.py: writes what the test programs are run on, and what they must print, as tests/reading.py reads document 01 with CR 5, 8 and 11 of 02.
+"""cases.py: writes what the test programs are run on, and what they must print, as tests/reading.py reads document 01 with CR 5, 6, 8 and 11 of
+02.
 
 crates/readings: files of every fault at every kind of place, each with its reading: the counts, or the refusal's number and offset.
 crates/listings: the worked cases, pots that reach what chance seldom does, made rounds and damaged ones, each with its listing.
-In both, files with caps come after those without, but for the worked and the directed ones."""
+In both, files with caps come after those without, but for the worked and the directed ones, and those of drawn numbers come last."""
 import collections
 import itertools
+import math
 import os
 import random
 import re
@@ -29,6 +31,9 @@ WIDTHS = [[2, 2, 2], [8, 8, 8], [2, 2] + [4, 4, 2] * 3, [2, 2, 2, 2, 4, 8], [2, 
 # the same with caps: one that binds, and none
 CAPS = [250, making.NO_CAP]
 CAPPED_WIDTHS = WIDTHS[:1] + [[8, 8, 8, 4]] + WIDTHS[2:]
+# and with drawn numbers: one that counts, and the greatest
+DRAWN = [(250, 7), (making.NO_CAP, making.MOST_DRAWN)]
+DRAWN_WIDTHS = WIDTHS[:1] + [[8, 8, 8, 4, 4]] + WIDTHS[2:]
 CAP_EDGES = [0, 1, 249, 251, making.MOST_CAP - 1, making.MOST_CAP, making.MOST_CAP + 1, 2 ** 31, making.NO_CAP - 1, making.NO_CAP]
 
 
@@ -36,11 +41,12 @@ def flat(record):
     return [x for f in record for x in (flat(f) if isinstance(f, (list, tuple)) else [f])]
 
 
-def written(tables, capped=False):
-    """The bytes of tables whose records are flat."""
+def written(tables, added=0):
+    """The bytes of tables whose records are flat, with so much added to the count of pots."""
     out = b''
-    for s, (records, widths) in enumerate(zip(tables, CAPPED_WIDTHS if capped else WIDTHS)):
-        count = len(records) + (making.WITH_CAPS if capped and s == 1 else 0)
+    forms = {0: WIDTHS, making.WITH_CAPS: CAPPED_WIDTHS, making.WITH_CAPS + making.WITH_DRAWN: DRAWN_WIDTHS}
+    for s, (records, widths) in enumerate(zip(tables, forms[added])):
+        count = len(records) + (added if s == 1 else 0)
         out += struct.pack('<H', count) + b''.join(x.to_bytes(w, 'little') for r in records for x, w in zip(r, widths))
     return out
 
@@ -96,12 +102,12 @@ def capped():
     tables = [[flat(r) for r in records] for records in TABLES]
     plain = written(tables)
     pots = tables[1] = [p + [cap] for p, cap in zip(tables[1], CAPS)]
-    whole = written(tables, True)
+    whole = written(tables, making.WITH_CAPS)
     assert whole == making.round_file(*TABLES, CAPS)
     yield whole
 
     def with_pots(changed):
-        return written(tables[:1] + [changed] + tables[2:], True)
+        return written(tables[:1] + [changed] + tables[2:], making.WITH_CAPS)
     for i, pot in enumerate(pots):
         for cap in CAP_EDGES:
             yield with_pots(pots[:i] + [pot[:3] + [cap]] + pots[i + 1:])
@@ -116,7 +122,7 @@ def capped():
     for n in range(6):
         yield with_pots([pots[0]] * n)
     at = len(written(tables[:1]))
-    end = len(written(tables[:2], True))
+    end = len(written(tables[:2], making.WITH_CAPS))
     for n in range(at, end + 3):
         yield whole[:n]
     for added in (0, 16384, 32768, 49152):
@@ -128,14 +134,49 @@ def capped():
             yield file[:at] + struct.pack('<H', n) + file[at + 2:]
     for s in (2, 3, 4):
         for i, record in enumerate(tables[s]):
-            yield written(tables[:s] + [tables[s][:i] + [[65535] + record[1:]] + tables[s][i + 1:]] + tables[s + 1:], True)
-    yield written(tables[:4] + [[b[:4] + [b[4] + 1] for b in tables[4]]], True)
+            yield written(tables[:s] + [tables[s][:i] + [[65535] + record[1:]] + tables[s][i + 1:]] + tables[s + 1:], making.WITH_CAPS)
+    yield written(tables[:4] + [[b[:4] + [b[4] + 1] for b in tables[4]]], making.WITH_CAPS)
     for tail in (b'\0', bytes(20)):
         yield whole + tail
 
 
+def drawn():
+    """The round with drawn numbers: any number, a cap or a budget at an edge beside it, a pot twice or left out, every cut in the pots, faults behind
+    them; and a count of pots with each thing added."""
+    both = making.WITH_CAPS + making.WITH_DRAWN
+    tables = [[flat(r) for r in records] for records in TABLES]
+    pots = tables[1] = [p + list(limits) for p, limits in zip(tables[1], DRAWN)]
+    whole = written(tables, both)
+    assert whole == making.round_file(*TABLES, DRAWN)
+    yield whole
+
+    def with_pots(changed):
+        return written(tables[:1] + [changed] + tables[2:], both)
+    for i, pot in enumerate(pots):
+        for number in (0, 1, 65535, making.MOST_CAP, making.MOST_CAP + 1, 2 ** 31, making.MOST_DRAWN - 1, making.MOST_DRAWN):
+            yield with_pots(pots[:i] + [pot[:4] + [number]] + pots[i + 1:])
+        for cap in CAP_EDGES:
+            yield with_pots(pots[:i] + [pot[:3] + [cap] + pot[4:]] + pots[i + 1:])
+        for f in range(3):
+            yield with_pots(pots[:i] + [pot[:f] + [10 ** 12 + 1] + pot[f + 1:]] + pots[i + 1:])
+        yield with_pots(pots[:i] + [pot] + pots[i:])
+        yield with_pots(pots[:i] + pots[i + 1:])
+    for n in range(6):
+        yield with_pots([pots[0]] * n)
+    at, end = len(written(tables[:1])), len(written(tables[:2], both))
+    for n in range(at, end + 3):
+        yield whole[:n]
+    for added in (0, 16384, 32768, 49152):
+        for n in range(6):
+            yield whole[:at] + struct.pack('<H', n + added) + whole[at + 2:]
+    for s in (2, 3, 4):
+        yield written(tables[:s] + [tables[s][:-1] + [[65535] + tables[s][-1][1:]]] + tables[s + 1:], both)
+    yield written(tables[:4] + [[b[:4] + [b[4] + 1] for b in tables[4]]], both)
+    yield whole + b'\0'
+
+
 def largest(caps=None):
-    """A file of 7,866 bytes, or of 7,882 with caps: every count at its greatest."""
+    """A file of 7,866 bytes, of 7,882 with caps, or of 7,898 with drawn numbers: every count at its greatest."""
     figures = [(20000 if k < 4 else 0, 0, 10000) for k in range(8)]
     applications = [(a % 32, 0, 365, a, 100, 0) for a in range(64)]
     bids = [(a, k, 365, 100, 4000 + 10 * k) for a in range(64) for k in range(4)]
@@ -144,6 +185,7 @@ def largest(caps=None):
 
 
 LARGEST_CAPS = [0, 1600, making.MOST_CAP, making.NO_CAP]
+LARGEST_DRAWN = list(zip(LARGEST_CAPS, (0, 1, 123456789, making.MOST_DRAWN)))
 
 
 def files():
@@ -168,6 +210,15 @@ def files():
     for k in range(300):
         file = making.with_caps(rnd) if k % 3 else making.without_caps(rnd)
         file = making.harm_pots(rnd, file)
+        yield making.harm_anywhere(rnd, file) if k % 4 == 0 else file
+    yield from (bytes(7898), largest(LARGEST_DRAWN), largest(LARGEST_DRAWN) + b'\0', largest(LARGEST_DRAWN)[:-1])
+    a = making.round_a(cap=(200, 1))
+    for n in range(len(a) + 1):
+        yield a[:n]
+    yield from drawn()
+    rnd = random.Random(5)
+    for k in range(120):
+        file = making.harm_pots(rnd, making.with_drawn(rnd))
         yield making.harm_anywhere(rnd, file) if k % 4 == 0 else file
 
 
@@ -266,9 +317,37 @@ def pots_with_caps():
                                     [(a, 0, 366, 300000, 10 * a) for a in range(bidding)], [cap])
 
 
+def pots_drawn():
+    """Pots whose drawn number reaches what chance seldom does, beyond making.drawn: every place of ties all alike and of one with some that cost
+    nothing in the last year, the widest ties, ties in all four delivery years, and ties over years."""
+    for n, fit in ((4, 2), (5, 3), (6, 1)):
+        yield from (making.alike(n, fit, (making.NO_CAP, number)) for number in range(math.comb(n, fit) + 1))
+    for number in (0, 1, 44, 45, 125, 251, 252, 10 ** 9, making.MOST_DRAWN):
+        for fit in (2, 5, 9):
+            yield making.alike(10, fit, (making.NO_CAP, number))
+        yield making.alike(10, 10, (700, number))
+        yield making.free_at_last(35040 * 5, (600, number), (100,) * 10)
+    # too wide for any number
+    yield from (making.alike(n, 3, (making.NO_CAP, 1)) for n in (11, 12, 13))
+    for number in range(7):
+        yield making.some_free_at_last((making.NO_CAP, number))
+        yield making.raised_at_last(number)
+    for widths in ((2, 2, 2, 2), (4, 3, 2, 1), (1, 2, 3, 4), (7, 7, 7, 7)):
+        whole = math.prod(widths)
+        yield from (making.ties_in_years(widths, (making.NO_CAP, number)) for number in sorted({0, 1, whole - 1, whole, whole // 2, making.MOST_DRAWN}))
+    # tied over so many years, each of which pays for one more; a bid of another year may be added where none of its own can
+    for d in (2, 3, 4):
+        for n in (4, 6, 7):
+            applications = [(a % d, n - a, 100 + 100 * (a % 4 == 3)) for a in range(n)]
+            bids = [(a, year, capacity, 4000) for a, (year, _, capacity) in enumerate(applications)]
+            for number in (0, 1, 5, making.MOST_DRAWN):
+                yield making.delivered([35040 * (y + 1) for y in range(d)], (making.NO_CAP, number), applications, bids)
+                yield making.delivered([10 ** 7] * d, (100 * (n // 2), number), applications, bids)
+
+
 def rounds():
-    yield from making.worked().values()
-    yield from making.directed()
+    draws = list(making.worked_draws().values()) + making.drawn()
+    yield from (file for file in list(making.worked().values()) + making.directed() if file not in draws)
     yield from pots()
     rnd = random.Random(2)
     for k in range(400):
@@ -278,6 +357,12 @@ def rounds():
     rnd = random.Random(4)
     for k in range(300):
         file = making.with_caps(rnd)
+        yield making.damage(rnd, file) if k % 5 == 0 else file
+    yield from draws
+    yield from pots_drawn()
+    rnd = random.Random(6)
+    for k in range(150):
+        file = making.with_drawn(rnd)
         yield making.damage(rnd, file) if k % 5 == 0 else file
 
 
@@ -333,6 +418,41 @@ def under_caps(file):
             yield 'without it outcome %d' % other[0].outcome
 
 
+class Watched(reading.Auction):
+    """An auction that keeps, of each draw, how many were best, how many of these were kept, the place taken, and the number drawn with."""
+
+    def draw(self, best, fitting, width):
+        before = self.drawn
+        self.draws = getattr(self, 'draws', [])
+        number = super().draw(best, fitting, width)
+        kept = [k for k in best if not any(k & other == k != other for other in fitting)]
+        self.draws.append((len(best), len(kept), kept.index(number), before))
+        return number
+
+
+def by_drawn_numbers(file):
+    """What becomes of each pot with a drawn number: its outcome, each draw, and whether all would be the same without the number."""
+    try:
+        r = reading.read(file)
+    except reading.Refused:
+        return
+    for p, limits in enumerate(r.pots):
+        if limits.drawn is None:
+            continue
+        auction = Watched(r, p)
+        told = auction.cleared()
+        yield 'outcome %d' % told[0].outcome
+        for best, kept, place, number in getattr(auction, 'draws', []):
+            yield '%s kept' % (kept if kept < 3 else '3 or more')
+            if kept > 1:
+                yield 'first place' if place == 0 else 'last place' if place == kept - 1 else 'a place between'
+                yield 'a number divided' if number != limits.drawn else 'the number given'
+            if best > kept:
+                yield 'some could be extended'
+        without = r._replace(pots=r.pots[:p] + [limits._replace(drawn=None)] + r.pots[p + 1:])
+        yield 'the same without it' if reading.Auction(without, p).cleared() == told else 'another choice without it'
+
+
 def write(name, cases):
     """cases: (file, what is printed)"""
     folder = os.path.join(ROOT, 'crates', name)
@@ -347,6 +467,7 @@ if __name__ == '__main__':
     write('readings', cases)
     kinds = collections.Counter(' '.join(text.split()[:2]) if text.startswith('refused') else 'accepted' for _, text in cases)
     assert all(kinds['refused %d' % k] >= 5 for k in range(1, 12)) and len(largest()) == 7866 and len(largest(LARGEST_CAPS)) == 7882
+    assert len(largest(LARGEST_DRAWN)) == 7898
     for name, file in making.worked().items():
         assert [int(x) for x in re.findall('total ([0-9]+)', reading.listing(file))] == making.TOTALS[name]
     listings = [(f, reading.listing(f)) for f in rounds()]
@@ -358,7 +479,10 @@ if __name__ == '__main__':
     assert len(beside) == 6 and min(beside.values()) >= 10
     caps = collections.Counter(x for f, _ in listings for x in under_caps(f))
     assert len(caps) == 8 and min(caps.values()) >= 5
+    draws = collections.Counter(x for f, _ in listings for x in by_drawn_numbers(f))
+    assert len(draws) == 14 and min(draws.values()) >= 3
     print('%d rounds:' % len(listings), ', '.join('%s: %d' % x for x in sorted(words.items())))
     print('silent applications:', ', '.join('%s: %d' % x for x in sorted(beside.items())))
     print('pots with caps:', ', '.join('%s: %d' % x for x in sorted(caps.items())))
+    print('pots with drawn numbers:', ', '.join('%s: %d' % x for x in sorted(draws.items())))
     print('%d files:' % len(cases), ', '.join('%s: %d' % x for x in sorted(kinds.items())))

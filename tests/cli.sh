@@ -169,11 +169,13 @@ check 'clear, called from another folder' $?
     refuses 'refused 1 at 16' 'pot 0'
     round $years 5
     refuses 'refused 2 at 14' 'the count of pots'
-    for pots_added in 16385 32768 32773 49153; do
+    for pots_added in 16384 16385 16388 32768 32773 49152 49157; do
         round $years $pots_added 8:100000 8:100000 4:100 $technologies $applications 0
         refuses 'refused 2 at 14' 'the count of pots'
     done
     round $years 32769 8:100000 8:100000 100
+    refuses 'refused 1 at 16' 'pot 0'
+    round $years 49153 8:100000 8:100000 4:100 100
     refuses 'refused 1 at 16' 'pot 0'
     round $years $pots 0
     refuses 'refused 2 at 32' 'the count of technologies'
@@ -186,6 +188,8 @@ check 'clear, called from another folder' $?
     round $years 1 8:0 8:1000000000001 $technologies $applications 0
     refuses 'refused 4 at 16' 'pot 0'
     round $years 32769 8:0 8:0 4:20000001 $technologies $applications 0
+    refuses 'refused 4 at 16' 'pot 0'
+    round $years 49153 8:0 8:0 4:20000001 4:0 $technologies $applications 0
     refuses 'refused 4 at 16' 'pot 0'
     round $years $pots 2 0 10000 4:20000 4:0 10000 4:0 4:0 10000 1 10000 4:20000 4:0 10000 4:0 4:0 10000
     refuses 'refused 5 at 58' 'technology 1'
@@ -202,6 +206,36 @@ check 'clear, called from another folder' $?
     round $years $pots $technologies $applications 1 $bid 4:4001
     refuses 'refused 11 at 82' 'bid 0'
 }
+
+# ---- the end of a pot's line: its cap, and then its drawn number
+
+# show_as NAME POTS...: what show prints of the round with these pots
+show_as() {
+    name=$1
+    shift
+    # shellcheck disable=SC2086
+    round $years "$@" $technologies $applications 0
+    run show "$room/round"
+    [ "$ended" -eq 0 ] && cp "$room/out" "$room/$name"
+}
+
+# tail_of NAME OTHER: what the other has more, at the end of the one line in which the two differ
+tail_of() {
+    awk 'NR == FNR { line[FNR] = $0; lines = FNR; next }
+        $0 != line[FNR] { differ++; longer = index($0, line[FNR]) == 1; print substr($0, length(line[FNR]) + 1) }
+        END { exit !(FNR == lines && differ == 1 && longer) }' "$room/$1" "$room/$2"
+}
+
+show_as plain 1 8:100000 8:100000 && show_as capped 32769 8:100000 8:100000 4:250 && show_as drawn 49153 8:100000 8:100000 4:250 4:4294967295 &&
+    more=$(tail_of capped drawn) && [ "$more" = '; drawn number 4294967295' ]
+check 'show of a drawn number after a cap' $?
+
+show_as drawn 49153 8:100000 8:100000 4:4294967295 4:0 && more=$(tail_of plain drawn) && [ "$more" = '; cap none; drawn number 0' ]
+check 'show of a drawn number without a cap' $?
+
+run show examples/drawn.round
+[ "$ended" -eq 0 ] && [ "$(grep -c 'drawn number [0-9]*$' "$room/out")" -eq 2 ] && grep -q 'drawn number 7$' "$room/out"
+check 'show examples/drawn.round has both drawn numbers' $?
 
 # ---- wrong uses
 

@@ -1,4 +1,4 @@
-"""Document 01, with CR 5, 8 and 11 of 02, read a second time, in Python: tables, loops and a state that changes, and nothing shared with the
+"""Document 01, with CR 5, 6, 8 and 11 of 02, read a second time, in Python: tables, loops and a state that changes, and nothing shared with the
 definitions or the code.
 
 read(file)            the tables of an accepted file, or Refused(number, offset)
@@ -9,8 +9,8 @@ import struct
 from collections import namedtuple
 
 Year = namedtuple('Year', 'days kind tlm')
-# what the winners of a pot must stay within; the cap is None where there is none
-Limits = namedtuple('Limits', 'budgets cap')
+# what the winners of a pot must stay within, the cap None where there is none, and its drawn number, None in a file without
+Limits = namedtuple('Limits', 'budgets cap drawn')
 Technology = namedtuple('Technology', 'pot rqm admin reference load')
 Application = namedtuple('Application', 'technology year days draw capacity')
 Bid = namedtuple('Bid', 'application year days capacity price')
@@ -22,8 +22,8 @@ Told = namedtuple('Told', 'won bid reason paid')
 Sums = namedtuple('Sums', 'totals capacity')
 
 NO_PRICE, NO_BID = 4294967295, 65535
-# a count of pots with this added: each pot has a cap
-WITH_CAPS = 32768
+# added to a count of pots: each pot has a cap; each pot has a drawn number as well, which it never has without a cap
+WITH_CAPS, WITH_DRAWN = 32768, 16384
 MOST_CAP, NO_CAP = 20000000, 4294967295
 # the exact cost is a whole number of parts; values and totals are pence, and budgets stay in pounds
 PARTS_TO_THE_PENNY, PENCE_TO_THE_POUND = 10 ** 15, 100
@@ -73,13 +73,14 @@ def read_years(place):
 
 def read_pots(place, y):
     pots = []
-    with_caps, n = divmod(place.count(1, 4, (0, WITH_CAPS)), WITH_CAPS)
-    for _ in range(n):
-        fields, at = place.record('Q' * y + 'I' * with_caps)
-        budgets, cap = fields[:y], fields[y] if with_caps else NO_CAP
+    count = place.count(1, 4, (0, WITH_CAPS, WITH_CAPS + WITH_DRAWN))
+    with_caps, with_drawn = count >= WITH_CAPS, count >= WITH_CAPS + WITH_DRAWN
+    for _ in range(count % WITH_DRAWN):
+        fields, at = place.record('Q' * y + 'I' * (with_caps + with_drawn))
+        budgets, cap, drawn = fields[:y], fields[y] if with_caps else NO_CAP, fields[y + 1] if with_drawn else None
         if any(b > 10 ** 12 for b in budgets) or MOST_CAP < cap != NO_CAP:
             raise Refused(4, at)
-        pots.append(Limits(budgets, None if cap == NO_CAP else cap))
+        pots.append(Limits(budgets, None if cap == NO_CAP else cap, drawn))
     return pots
 
 
@@ -158,6 +159,8 @@ class Auction:
         self.sealed = [(k, b) for k, b in enumerate(r.bids) if b.application in self.own]
         self.silent = [a for a in self.own if all(b.application != a for _, b in self.sealed)]
         self.marks, self.winners, self.closed, self.price = {}, [], set(), {}
+        # what is left of the pot's drawn number
+        self.drawn = self.limits.drawn
 
     def technology(self, b):
         return self.r.technologies[self.r.applications[b.application].technology]
@@ -214,20 +217,33 @@ class Auction:
             self.marks[further[0][0]] = 2
         self.closed.add(b.year)
 
+    def chosen(self, remaining):
+        """The combination that wins of those that remain, the lowest draw first."""
+        def combination(number):
+            return [x for i, x in enumerate(remaining) if number >> (len(remaining) - 1 - i) & 1]
+        fitting = {}
+        for number in range(2 ** len(remaining)):
+            sums = self.trial(combination(number))
+            if self.fits(sums):
+                fitting[number] = sums.totals[self.last]
+        # closest to the budget means money: the cap only decides whether a combination fits
+        closest = max(fitting.values())
+        best = [number for number, total in fitting.items() if total == closest]
+        return combination(best[-1] if self.drawn is None else self.draw(best, fitting, len(remaining)))
+
+    def draw(self, best, fitting, width):
+        """The number of the combination that is drawn. A bid that was dropped fits with none, so that only those that remain could be added."""
+        kept = [number for number in best if all(number >> i & 1 or number + 2 ** i not in fitting for i in range(width))]
+        self.drawn, place = divmod(self.drawn, len(kept))
+        return kept[place]
+
     def tie(self, taken):
         """3: False where the tie is too wide."""
         remaining = [x for x in taken if self.fits(self.trial([x]))]
         remaining.sort(key=lambda x: self.r.applications[x[1].application].draw)
         if len(remaining) > 10:
             return False
-        best = None
-        for number in range(2 ** len(remaining)):
-            some = [x for i, x in enumerate(remaining) if number >> (len(remaining) - 1 - i) & 1]
-            sums = self.trial(some)
-            # closest to the budget means money: the cap only decides whether a combination fits
-            if self.fits(sums) and (best is None or sums.totals[self.last] >= best[0]):
-                best = (sums.totals[self.last], some)
-        self.win(best[1])
+        self.win(self.chosen(remaining))
         for k, b in taken:
             if k not in self.marks:
                 self.marks[k] = 3

@@ -1,5 +1,6 @@
-/* bench: the time that a round takes in the library beside the judge, which is plain C compiled with optimisation for the same processor. Five
- * files: a full round, a full single pot, ties of 10 in every step, a full round refused for its last bid, and the full round with caps. */
+/* bench: the time that a round takes in the library beside the judge, which is plain C compiled with optimisation for the same processor. Six
+ * files: a full round, a full single pot, ties of 10 in every step, a full round refused for its last bid, the full round with caps, and ties of
+ * 10 all alike that are drawn. */
 #include "gustmirror.h"
 #include "judge.h"
 #include "make.h"
@@ -9,6 +10,8 @@
 #include <time.h>
 
 enum { YEARS = 8, DELIVERY_YEARS = 4, TECHNOLOGIES = 32, APPLICATIONS = 64, MOST_POTS = 4, BATCHES = 100 };
+/* the longest file but for drawn numbers, of four bytes a pot */
+enum { LONGEST_WITH_CAPS = JUDGE_MAX_FILE - 4 * MOST_POTS };
 #define BUDGET_LIMIT 1000000000000u
 #define NANOSECONDS_OF_A_BATCH 2000000u
 
@@ -153,6 +156,55 @@ static void make_ties(struct round_file *f)
     set_budgets_of_ties(f);
 }
 
+/* Two pots of 25 applications, all alike. In each delivery year ten bids are tied of which any five fit and no six do: 252 combinations to draw
+ * from. Five win, the year closes, and the other five are tied in the next year with five more. Winners are applications, so that 64 have room for
+ * no sixteen such ties; 252 four times over is below 2^32, so that a number lasts for all ties of its pot. */
+enum { DRAWN_POTS = 2, WINNERS_OF_A_DRAW = TIED / 2, DRAWN_APPLICATIONS = DRAWN_POTS * (TIED + (DELIVERY_YEARS - 1) * WINNERS_OF_A_DRAW) };
+#define DRAWN_NUMBER 4000000000u
+
+static unsigned first_draw(unsigned i)
+{
+    unsigned in_pot = i / DRAWN_POTS;
+    return in_pot < TIED ? 0 : (in_pot - TIED) / WINNERS_OF_A_DRAW + 1;
+}
+
+/* Five of each delivery year so far, at the price of the last of them or less, and not six: half a bid more than five. */
+static void add_pots_of_draws(struct round_file *f)
+{
+    uint64_t one = judge_value(100000, 45000, 4000, 24 * 365, 1000, 90, 10000) / JUDGE_PENCE_TO_THE_POUND;
+    add(f, 2, JUDGE_WITH_CAPS + JUDGE_WITH_DRAWN + DRAWN_POTS);
+    for (unsigned p = 0; p < DRAWN_POTS; p++) {
+        for (unsigned y = 0; y < YEARS; y++) {
+            unsigned last = y < DELIVERY_YEARS ? y : DELIVERY_YEARS - 1;
+            add(f, 8, one * (2 * WINNERS_OF_A_DRAW * (last + 1) + 1) / 2);
+        }
+        add(f, 4, JUDGE_NO_CAP);
+        add(f, 4, DRAWN_NUMBER + p);
+    }
+}
+
+static void make_draws(struct round_file *f)
+{
+    static struct round_file plain;
+    unsigned bids = 0;
+    start(&plain, DRAWN_POTS, NULL);
+    memcpy(f->bytes, plain.bytes, plain.budgets - 2);
+    f->len = plain.budgets - 2;
+    add_pots_of_draws(f);
+    size_t rest = plain.budgets + 8 * YEARS * DRAWN_POTS;
+    memcpy(f->bytes + f->len, plain.bytes + rest, plain.len - rest);
+    f->len += plain.len - rest;
+    add(f, 2, DRAWN_APPLICATIONS);
+    for (unsigned i = 0; i < DRAWN_APPLICATIONS; i++) {
+        add_application(f, i % DRAWN_POTS, 100 - i, 1000);
+        bids += DELIVERY_YEARS - first_draw(i);
+    }
+    add(f, 2, bids);
+    for (unsigned i = 0; i < DRAWN_APPLICATIONS; i++)
+        for (unsigned d = first_draw(i); d < DELIVERY_YEARS; d++)
+            add_bid(f, i, d, 1000, 100000 + 10 * d);
+}
+
 /* The last bid is the lowest of its application and year, and no multiple of 10: refusal 11, after all else was judged. */
 static void make_refused(struct round_file *f)
 {
@@ -260,19 +312,23 @@ static void describe(const char *name, const struct round_file *f)
 
 int main(void)
 {
-    static struct round_file full, single, ties, refused, capped;
+    static struct round_file full, single, ties, refused, capped, draws;
     make_full(&full, MOST_POTS);
     make_full(&single, 1);
     make_ties(&ties);
     make_refused(&refused);
     make_capped(&capped);
+    make_draws(&draws);
     describe("full round", &full);
     describe("single pot", &single);
     describe("ties", &ties);
     describe("full round with caps", &capped);
+    describe("draws", &draws);
     if (bids_of_reason(&ties, 1) != MOST_POTS * DELIVERY_YEARS * WINNERS_OF_A_TIE
         || bids_of_reason(&ties, 3) != MOST_POTS * DELIVERY_YEARS * (TIED - WINNERS_OF_A_TIE)
-        || judge_clear(refused.bytes, refused.len, NULL, 0) >> 32 != 11 || capped.len != JUDGE_MAX_FILE
+        || bids_of_reason(&draws, 1) != DRAWN_POTS * DELIVERY_YEARS * WINNERS_OF_A_DRAW
+        || bids_of_reason(&draws, 3) != DRAWN_POTS * DELIVERY_YEARS * (TIED - WINNERS_OF_A_DRAW)
+        || judge_clear(refused.bytes, refused.len, NULL, 0) >> 32 != 11 || capped.len != LONGEST_WITH_CAPS
         || bids_of_reason(&capped, 1) == 0 || bids_of_reason(&capped, 1) >= bids_of_reason(&full, 1)) {
         printf("these are not the files that they should be\n");
         return 1;
@@ -283,5 +339,6 @@ int main(void)
     measure("sixteen ties of 10", &ties);
     measure("refused for its last bid", &refused);
     measure("full round with caps: the first round, with a cap for each pot", &capped);
+    measure("eight ties of 10 all alike, drawn: 252 combinations to draw from in each", &draws);
     return 0;
 }

@@ -38,7 +38,7 @@ def main(seed, rounds, share):
         file = making.make(rnd)
         files.append(making.damage(rnd, file) if rnd.random() < share else file)
     source = open(WORKED, encoding='utf8').read()
-    print(source[:source.index('-- numbers of w bytes each')].replace('Rattle.rules.specs', 'Rattle.rules.specs'))
+    print(source[:source.index('-- the result of a file')].replace('Rattle.rules.specs', 'Rattle.rules.specs'))
     # what the worked cases unfold, but for the makers of their files, which no row has
     theorem = source.index('worked = (')
     unfolding = ' '.join(w for w in source[source.rindex('unfolding', 0, theorem):theorem].split() if w not in MAKERS)

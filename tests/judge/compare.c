@@ -146,11 +146,13 @@ static void compare_cuts(const char *kind, const uint8_t *file, size_t len)
         compare(kind, cut, file, cut);
 }
 
-/* Every cut of round A, with a cap and without, and every length of its result
- * from 0 to what it needs and beyond. */
+/* Every cut of round A, with a drawn number, with a cap and without, and every
+ * length of its result from 0 to what it needs and beyond. */
 static void compare_round_a(uint8_t *file)
 {
-    size_t len = make_round_a_with_cap(200, file);
+    size_t len = make_round_a_drawn(200, 1, file);
+    compare_cuts("cut round A with a drawn number", file, len);
+    len = make_round_a_with_cap(200, file);
     compare_cuts("cut round A with a cap", file, len);
     len = make_round_a(file);
     compare_cuts("cut round A", file, len);
@@ -217,11 +219,12 @@ static void compare_longer(uint64_t seed, uint8_t *file)
 static void compare_declared(uint64_t seed, uint8_t *file)
 {
     static uint8_t other[MAKE_CAPACITY];
-    enum { YEAR = 6, BUDGET = 8, CAP = 4, HEAD = 4, TECHNOLOGY_YEAR = 10, APPLICATION = 20, COST = 12, COST_BYTES = 8 };
+    enum { YEAR = 6, BUDGET = 8, CAP = 4, DRAWN = 4, HEAD = 4, TECHNOLOGY_YEAR = 10, APPLICATION = 20, COST = 12, COST_BYTES = 8 };
+    enum { BOTH = JUDGE_WITH_CAPS + JUDGE_WITH_DRAWN };
     size_t len = make_round(seed, file);
     uint64_t years = two_bytes(file), pots_at = 2 + years * YEAR, pots = two_bytes(file + pots_at);
-    uint64_t pot_bytes = years * BUDGET + (pots >= JUDGE_WITH_CAPS ? CAP : 0);
-    uint64_t technologies_at = pots_at + 2 + pots % JUDGE_WITH_CAPS * pot_bytes, technologies = two_bytes(file + technologies_at);
+    uint64_t pot_bytes = years * BUDGET + (pots >= JUDGE_WITH_CAPS ? CAP : 0) + (pots >= BOTH ? DRAWN : 0);
+    uint64_t technologies_at = pots_at + 2 + pots % JUDGE_WITH_DRAWN * pot_bytes, technologies = two_bytes(file + technologies_at);
     uint64_t applications_at = technologies_at + 2 + technologies * (HEAD + years * TECHNOLOGY_YEAR);
     uint64_t applications = two_bytes(file + applications_at);
     if (seed % 2 == 0)

@@ -1,7 +1,8 @@
-/* The judge: document 01 in plain C, with CR 5, 8 and 11 of 02: pots may have
- * caps, silence is no bid, and values are to the penny.  Sentences of the papers
- * stand quoted in the comments; words like look, trial, winner, live, closed are
- * theirs.  An application is silent where it has no sealed bid. */
+/* The judge: document 01 in plain C, with CR 5, 6, 8 and 11 of 02: pots may have
+ * caps and drawn numbers, silence is no bid, and values are to the penny.
+ * Sentences of the papers stand quoted in the comments; words like look, trial,
+ * winner, live, closed are theirs.  An application is silent where it has no
+ * sealed bid. */
 #include "judge.h"
 
 #include <stdarg.h>
@@ -20,8 +21,10 @@ enum {
     MAX_BIDS_OF_APPLICATION = 10,
     MAX_BIDS_IN_YEAR = 3,
     MAX_REMAINING = 10,
+    MAX_COMBINATIONS = 1 << MAX_REMAINING,
     PENCE_TO_THE_POUND = JUDGE_PENCE_TO_THE_POUND,
     WITH_CAPS = JUDGE_WITH_CAPS,
+    WITH_DRAWN = JUDGE_WITH_DRAWN,
     MAX_CAP = JUDGE_MAX_CAP
 };
 
@@ -54,6 +57,7 @@ struct year {
 struct pot {
     uint64_t budget[MAX_YEARS]; /* in pounds */
     uint32_t cap;               /* on the capacity of its winners, or NO_CAP */
+    uint32_t drawn;             /* number, where the round has them */
 };
 
 struct technology {
@@ -79,7 +83,7 @@ struct bid {
 struct round {
     unsigned year_count, delivery_years;
     unsigned pot_count, technology_count, application_count, bid_count;
-    bool with_caps;
+    bool with_caps, with_drawn;
     struct year years[MAX_YEARS];
     struct pot pots[MAX_POTS];
     struct technology technologies[MAX_TECHNOLOGIES];
@@ -103,6 +107,9 @@ struct clearing {
     struct pot_result pots[MAX_POTS];
     struct application_result applications[MAX_APPLICATIONS];
     uint32_t bid_reasons[MAX_BIDS];
+#ifdef JUDGE_COUNT
+    unsigned draws[MAX_POTS]; /* from two combinations or more */
+#endif
 };
 
 /* ---- counters (with JUDGE_COUNT only) ---- */
@@ -263,17 +270,26 @@ static bool pot_at_fault(const struct round *round, const struct pot *pot)
 #ifdef JUDGE_COUNT
 static void count_pots_count(unsigned count)
 {
-    enum { OTHER = 16384 }; /* added, alone or with 32,768, it is outside the range */
-    unsigned pots = count % OTHER, added = count - pots;
+    enum { BOTH = WITH_CAPS + WITH_DRAWN };
+    unsigned pots = count % WITH_DRAWN, added = count - pots;
     bool in_range = pots >= 1 && pots <= MAX_POTS;
     judge_counts.pots_count_0_with_caps += count == WITH_CAPS;
     judge_counts.pots_count_high_with_caps += added == WITH_CAPS && pots > MAX_POTS;
-    judge_counts.pots_count_with_16384 += added == OTHER && in_range;
-    judge_counts.pots_count_with_49152 += added == OTHER + WITH_CAPS && in_range;
+    judge_counts.pots_count_with_16384 += added == WITH_DRAWN && in_range;
+    judge_counts.pots_count_0_with_drawn_numbers += count == BOTH;
+    judge_counts.pots_count_high_with_drawn_numbers += added == BOTH && pots > MAX_POTS;
+}
+
+/* A record of a pot that is cut after its cap, where its number would stand. */
+static void count_cut_pot(const struct reader *r, const struct round *round)
+{
+    judge_counts.cut_in_a_drawn_number +=
+        round->with_drawn && r->len - r->place >= 8 * round->year_count + 4;
 }
 #endif
 
-/* CR 5: "the pots count of such a file has 32,768 added". */
+/* CR 5: "the pots count of such a file has 32,768 added".  CR 6: "the pots count
+ * has 16,384 added as well"; "16,384 added without 32,768 is refusal 2". */
 static bool read_pot_count(struct reader *r, struct round *round)
 {
     unsigned count;
@@ -281,26 +297,39 @@ static bool read_pot_count(struct reader *r, struct round *round)
         return false;
     COUNT(count_pots_count(count));
     round->with_caps = count >= WITH_CAPS;
-    round->pot_count = round->with_caps ? count - WITH_CAPS : count;
+    round->with_drawn = count >= WITH_CAPS + WITH_DRAWN;
+    round->pot_count = count - (round->with_caps ? WITH_CAPS : 0) - (round->with_drawn ? WITH_DRAWN : 0);
     return judge_count(r, POTS, 1, MAX_POTS, round->pot_count);
 }
 
-/* CR 5: "The pot record gains a 4-byte cap after its budgets". */
+static uint64_t bytes_of_a_pot(const struct round *round)
+{
+    return 8 * round->year_count + (round->with_caps ? 4 : 0) + (round->with_drawn ? 4 : 0);
+}
+
+/* CR 5: "The pot record gains a 4-byte cap after its budgets".  CR 6: "The pot
+ * gains a 4-byte drawn number after the cap". */
 static bool read_pots(struct reader *r, struct round *round)
 {
     if (!read_pot_count(r, round))
         return false;
     for (unsigned i = 0; i < round->pot_count; i++) {
         uint64_t offset = r->place;
-        const uint8_t *p = take_record(r, POTS, 8 * round->year_count + (round->with_caps ? 4 : 0));
-        if (p == NULL)
+        const uint8_t *p = take_record(r, POTS, bytes_of_a_pot(round));
+        if (p == NULL) {
+            COUNT(count_cut_pot(r, round));
             return false;
+        }
         struct pot *pot = &round->pots[i];
         for (unsigned y = 0; y < round->year_count; y++)
             pot->budget[y] = field(&p, 8);
         pot->cap = round->with_caps ? (uint32_t)field(&p, 4) : NO_CAP;
-        if (pot_at_fault(round, pot))
+        pot->drawn = round->with_drawn ? (uint32_t)field(&p, 4) : 0;
+        if (pot_at_fault(round, pot)) {
+            COUNT(judge_counts.cap_above_beside_a_drawn_number +=
+                      round->with_drawn && pot->cap > MAX_CAP && pot->cap != NO_CAP);
             return refuse(r, 4, offset);
+        }
     }
     return true;
 }
@@ -518,7 +547,8 @@ static uint64_t read_round(const uint8_t *file, uint64_t file_len, struct round 
     if (read_years(&r, round) && read_pots(&r, round) && read_technologies(&r, round)
         && read_applications(&r, round) && read_bids(&r, round) && read_end(&r)
         && judge_lowest_bids(&r, round)) {
-        COUNT(judge_counts.accepted++; judge_counts.accepted_with_caps += round->with_caps);
+        COUNT(judge_counts.accepted++; judge_counts.accepted_with_caps += round->with_caps;
+              judge_counts.accepted_with_drawn_numbers += round->with_drawn);
         return 0;
     }
     return r.refusal;
@@ -805,7 +835,10 @@ struct auction {
     unsigned winner_count;
     unsigned winners[MAX_APPLICATIONS]; /* places in bids */
     struct row row;                     /* of the winners */
+    uint32_t drawn;                     /* what is left of the pot's drawn number */
 #ifdef JUDGE_COUNT
+    unsigned draws;                     /* from two combinations or more */
+    bool one_kept, tie_fitted, one_turned_down; /* so far */
     bool exceeds_cap[MAX_BIDS];         /* turned down alone for the cap alone */
     unsigned winners_before[MAX_BIDS];  /* winner_count when it was */
 #endif
@@ -825,6 +858,7 @@ static void open_auction(const struct round *round, unsigned pot, struct auction
     a->round = round;
     a->pot = &round->pots[pot];
     a->row = empty_row();
+    a->drawn = a->pot->drawn;
     for (unsigned d = 0; d < round->delivery_years; d++)
         a->open[d] = true;
     for (unsigned i = 0; i < round->bid_count; i++)
@@ -957,7 +991,7 @@ static void turn_down_and_look_further(struct auction *a, unsigned bid, const st
     unsigned further_looks = 0;
     bool won = false;
     (void)tried;
-    COUNT(count_turned_down(a, bid, tried));
+    COUNT(count_turned_down(a, bid, tried); a->one_turned_down = true);
     a->reasons[bid] = TURNED_DOWN_ALONE;
     while (!won) {
         struct taken next = take_lowest_live(a);
@@ -1064,7 +1098,6 @@ static void count_choice(const struct auction *a, const struct taken *remaining,
     struct taken chosen = combination(remaining, number);
     struct row row = trial(a, &chosen);
     bool another = number != in_pounds->number;
-    judge_counts.tie_none_remain += remaining->count == 0;
     judge_counts.tie_pounds_choose_another += another;
     judge_counts.tie_pounds_prefer_another += another && fits_in_pounds(a->round, a->pot, &row);
     if (a->pot->cap != NO_CAP)
@@ -1076,7 +1109,7 @@ static void count_choice(const struct auction *a, const struct taken *remaining,
  * greatest; if none remain, none is chosen. Among equals, the one holding the
  * lowest-draw bid on which they differ", that is the largest number.  CR 5:
  * "Closest to the budget still means money." */
-static struct taken choose_combination(struct auction *a, const struct taken *remaining)
+static unsigned largest_of_the_best(const struct auction *a, const struct taken *remaining)
 {
     unsigned last = a->round->year_count - 1, best = 0;
     uint64_t best_total = 0;
@@ -1098,7 +1131,154 @@ static struct taken choose_combination(struct auction *a, const struct taken *re
     }
     COUNT(judge_counts.tie_equal_totals += equals;
           count_choice(a, remaining, best, &in_pounds));
-    return combination(remaining, best);
+    return best;
+}
+
+/* Every combination of those that remain, by its number. */
+struct weighed {
+    unsigned count;
+    bool fits[MAX_COMBINATIONS];
+    uint64_t total[MAX_COMBINATIONS]; /* in the last year of the file */
+};
+
+static void weigh_all(const struct auction *a, const struct taken *remaining, struct weighed *all)
+{
+    unsigned last = a->round->year_count - 1;
+    all->count = 1u << remaining->count;
+    for (unsigned number = 0; number < all->count; number++) {
+        struct taken some = combination(remaining, number);
+        struct row row = trial(a, &some);
+        all->fits[number] = trial_fits(a, &row);
+        all->total[number] = row.total[last];
+    }
+}
+
+/* "keep those to which no other tied bid can be added and still fit".  A bid that
+ * was dropped fits beside none, so that only those that remain need be tried. */
+static bool can_be_extended(const struct weighed *all, unsigned number)
+{
+    for (unsigned bid = 1; bid < all->count; bid <<= 1)
+        if (!(number & bid) && all->fits[number | bid])
+            return true;
+    return false;
+}
+
+/* Some combinations "in order of combination number from the smallest". */
+struct listed {
+    unsigned count;
+    unsigned number[MAX_COMBINATIONS];
+};
+
+/* "the best combinations": the fitting ones of the greatest total.  The empty one
+ * fits, for it adds nothing to the winners. */
+static void list_best(const struct weighed *all, struct listed *best)
+{
+    uint64_t greatest = 0;
+    for (unsigned number = 0; number < all->count; number++)
+        if (all->fits[number] && all->total[number] > greatest)
+            greatest = all->total[number];
+    best->count = 0;
+    for (unsigned number = 0; number < all->count; number++)
+        if (all->fits[number] && all->total[number] == greatest)
+            best->number[best->count++] = number;
+}
+
+static void list_kept(const struct weighed *all, const struct listed *best, struct listed *kept)
+{
+    kept->count = 0;
+    for (unsigned i = 0; i < best->count; i++)
+        if (!can_be_extended(all, best->number[i]))
+            kept->number[kept->count++] = best->number[i];
+}
+
+#ifdef JUDGE_COUNT
+/* Why what is drawn cannot be extended by a bid that costs nothing in the last
+ * year. */
+static void count_why_kept(const struct auction *a, const struct taken *remaining,
+                           const struct weighed *all, unsigned number)
+{
+    bool for_the_cap = false, for_money = false;
+    for (unsigned bid = 1; bid < all->count; bid <<= 1) {
+        struct taken more = combination(remaining, number | bid);
+        struct row row = trial(a, &more);
+        if ((number & bid) || all->total[number | bid] != all->total[number])
+            continue;
+        for_the_cap = for_the_cap || fails_for_the_cap_alone(a->round, a->pot, &row);
+        for_money = for_money || fits_the_cap(a->pot, &row);
+    }
+    judge_counts.draw_kept_for_the_cap_alone += for_the_cap;
+    judge_counts.draw_kept_for_money_alone += for_money;
+}
+
+/* Places and numbers of a draw from two or more. */
+static void count_place(struct auction *a, const struct listed *kept)
+{
+    unsigned m = kept->count, place = a->drawn % m;
+    judge_counts.draw_of_place_0 += place == 0;
+    judge_counts.draw_of_the_last_place += place == m - 1;
+    judge_counts.draw_of_a_place_between += place > 0 && place < m - 1;
+    judge_counts.draw_by_number_0 += a->draws == 0 && a->pot->drawn == 0;
+    judge_counts.draw_by_the_greatest_number += a->draws == 0 && a->pot->drawn == JUDGE_MAX_DRAWN;
+    judge_counts.draw_beyond_m += a->drawn >= m;
+    judge_counts.draw_by_a_number_divided += a->drawn != a->pot->drawn;
+    judge_counts.draw_undivided_chooses_another += a->pot->drawn % m != place;
+    judge_counts.draw_by_a_number_used_up += a->drawn == 0 && a->pot->drawn > 0;
+    judge_counts.draw_third_of_a_pot += a->draws == 2;
+    judge_counts.draw_after_one_kept += a->one_kept;
+    judge_counts.tie_fits_before_a_draw += a->tie_fitted && a->draws == 0;
+    judge_counts.one_bid_turned_down_before_a_draw += a->one_turned_down && a->draws == 0;
+    judge_counts.draw_with_earlier_winners += a->winner_count > 0;
+    judge_counts.draw_under_a_cap += a->pot->cap != NO_CAP;
+    a->draws++;
+}
+
+static void count_draw(struct auction *a, const struct taken *remaining, const struct weighed *all,
+                       const struct listed *best, const struct listed *kept)
+{
+    unsigned m = kept->count, number = kept->number[a->drawn % m];
+    judge_counting = false;
+    unsigned of_01 = largest_of_the_best(a, remaining);
+    judge_counting = true;
+    judge_counts.draw_from[m < 3 ? m : 3]++;
+    judge_counts.draw_from_252 += m == 252;
+    judge_counts.draw_where_none_remain += remaining->count == 0;
+    judge_counts.draw_best_not_kept += best->count > m;
+    judge_counts.draw_01_chooses_one_not_last_kept += of_01 != kept->number[m - 1];
+    if (m > 1) {
+        judge_counts.draw_chooses_as_01 += number == of_01;
+        judge_counts.draw_chooses_another_than_01 += number != of_01;
+        judge_counts.draw_best_not_kept_would_move_it += best->number[a->drawn % best->count] != number;
+        judge_counts.draw_at_no_cost_in_the_last_year += all->total[number] == all->total[0];
+        count_why_kept(a, remaining, all, number);
+        count_place(a, kept);
+    }
+    a->one_kept = a->one_kept || (m == 1 && a->draws == 0);
+}
+#endif
+
+/* CR 6: "If there are m, in order of combination number from the smallest, take
+ * the one at place (drawn number mod m), counting from 0, and go on with the
+ * drawn number divided by m, the rest dropped." */
+static unsigned draw_of_the_kept(struct auction *a, const struct taken *remaining)
+{
+    struct weighed all;
+    struct listed best, kept;
+    weigh_all(a, remaining, &all);
+    list_best(&all, &best);
+    list_kept(&all, &best, &kept);
+    COUNT(count_draw(a, remaining, &all, &best, &kept));
+    unsigned place = a->drawn % kept.count;
+    a->drawn /= kept.count;
+    return kept.number[place];
+}
+
+/* "Without drawn numbers the rule of 01 stands". */
+static struct taken choose_combination(struct auction *a, const struct taken *remaining)
+{
+    COUNT(judge_counts.tie_none_remain += remaining->count == 0);
+    if (a->round->with_drawn)
+        return combination(remaining, draw_of_the_kept(a, remaining));
+    return combination(remaining, largest_of_the_best(a, remaining));
 }
 
 #ifdef JUDGE_COUNT
@@ -1132,6 +1312,14 @@ static unsigned remaining_by_money(const struct auction *a, const struct taken *
     return count;
 }
 
+static bool across_years(const struct auction *a, const struct taken *taken)
+{
+    for (unsigned i = 1; i < taken->count; i++)
+        if (a->bids[taken->bids[i]].year != a->bids[taken->bids[0]].year)
+            return true;
+    return false;
+}
+
 static void count_tie(const struct auction *a, const struct taken *taken, unsigned remaining)
 {
     judge_counts.tie[taken->count][remaining]++;
@@ -1139,11 +1327,14 @@ static void count_tie(const struct auction *a, const struct taken *taken, unsign
         remaining <= MAX_REMAINING && remaining_by_money(a, taken) > MAX_REMAINING;
     judge_counts.tie_with_earlier_winners += a->winner_count > 0;
     judge_counts.tie_beside_a_lower_silent_draw += lower_silent_draw(a, taken);
-    for (unsigned i = 1; i < taken->count; i++)
-        if (a->bids[taken->bids[i]].year != a->bids[taken->bids[0]].year) {
-            judge_counts.tie_across_years++;
-            return;
-        }
+    judge_counts.tie_across_years += across_years(a, taken);
+}
+
+/* A tie that was drawn from two or more. */
+static void count_drawn_tie(const struct auction *a, const struct taken *taken, unsigned remaining)
+{
+    judge_counts.draw_beside_dropped_bids += remaining < taken->count;
+    judge_counts.draw_across_years += across_years(a, taken);
 }
 
 static void count_open_after_tie(const struct auction *a, const struct taken *taken)
@@ -1165,7 +1356,11 @@ static bool break_tie(struct auction *a, const struct taken *taken)
     COUNT(count_tie(a, taken, remaining.count));
     if (remaining.count > MAX_REMAINING)
         return false;
+#ifdef JUDGE_COUNT
+    unsigned draws = a->draws;
+#endif
     struct taken chosen = choose_combination(a, &remaining);
+    COUNT(if (a->draws > draws) count_drawn_tie(a, taken, remaining.count));
     if (chosen.count > 0) {
         struct row row = trial(a, &chosen);
         COUNT(count_tested(a->round, a->pot, &row, JUDGE_TIED_BIDS));
@@ -1194,7 +1389,9 @@ static enum outcome hold_auction(struct auction *a)
         COUNT(count_tested(a->round, a->pot, &row,
                            taken.count == 1 ? JUDGE_ONE_BID : JUDGE_TIED_BIDS));
         if (trial_fits(a, &row)) {
-            COUNT(judge_counts.ties_that_fit[taken.count]++);
+            COUNT(judge_counts.ties_that_fit[taken.count]++;
+                  a->tie_fitted = a->tie_fitted || taken.count > 1;
+                  judge_counts.tie_fits_in_a_drawn_file += a->round->with_drawn && taken.count > 1);
             win(a, &taken, &row);
         } else if (taken.count == 1) {
             turn_down_and_look_further(a, taken.bids[0], &row);
@@ -1321,7 +1518,7 @@ static void set_winner(const struct auction *a, const struct bid *bid, struct cl
 static void set_auction_result(const struct auction *a, unsigned pot, struct clearing *clearing)
 {
     set_pot_result(a->round, &clearing->pots[pot], AUCTION, &a->row);
-    COUNT(count_years_closed(a); count_silent_that_would_fit(a);
+    COUNT(count_years_closed(a); count_silent_that_would_fit(a); clearing->draws[pot] = a->draws;
           if (a->pot->cap != NO_CAP) count_winners_under_cap(a));
     for (unsigned i = 0; i < a->bid_count; i++)
         clearing->bid_reasons[a->bids[i].number] = final_reason(a, i);
@@ -1406,8 +1603,22 @@ static void count_cap_of_pot(const struct round *round, unsigned pot, const stru
     judge_counts.cap_reached_auction += reached && outcome == AUCTION;
 }
 
+static void count_draws(const struct round *round, const struct clearing *clearing)
+{
+    bool two = false;
+    for (unsigned p = 0; p < round->pot_count; p++) {
+        judge_counts.drawn_outcome[clearing->pots[p].outcome]++;
+        for (unsigned q = 0; q < p; q++)
+            two = two || (clearing->draws[p] > 0 && clearing->draws[q] > 0
+                          && round->pots[p].drawn != round->pots[q].drawn);
+    }
+    judge_counts.draws_in_two_pots += two;
+}
+
 static void count_clearing(const struct round *round, const struct clearing *clearing)
 {
+    if (round->with_drawn)
+        count_draws(round, clearing);
     for (unsigned p = 0; p < round->pot_count; p++) {
         const struct pot_result *result = &clearing->pots[p];
         bool zero = false, equal = false, empty = true;

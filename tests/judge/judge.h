@@ -1,6 +1,6 @@
 /* A judge of the clearing: document 01 ("What the clearing build is and its
- * rules") with CR 5, 8 and 11 of 02, read a second time, in plain C, apart from
- * the crates. */
+ * rules") with CR 5, 6, 8 and 11 of 02, read a second time, in plain C, apart
+ * from the crates. */
 #ifndef JUDGE_H
 #define JUDGE_H
 
@@ -15,9 +15,10 @@ enum {
     JUDGE_MAX_TECHNOLOGIES = 32,
     JUDGE_MAX_APPLICATIONS = 64,
     JUDGE_MAX_BIDS = 256,
-    JUDGE_MAX_FILE = 7882,
+    JUDGE_MAX_FILE = 7898,
     JUDGE_PENCE_TO_THE_POUND = 100,
-    JUDGE_WITH_CAPS = 32768, /* added to the pots count of a file with caps */
+    JUDGE_WITH_CAPS = 32768,  /* added to the pots count of a file with caps */
+    JUDGE_WITH_DRAWN = 16384, /* added as well where it has drawn numbers too */
     JUDGE_MAX_CAP = 20000000,
     /* 6 + P(2 + 4D + 8Y) + 10N + 2B at the limits */
     JUDGE_MAX_RESULT = 6 + 4 * (2 + 4 * 4 + 8 * 8) + 10 * 64 + 2 * 256,
@@ -26,6 +27,7 @@ enum {
 };
 
 #define JUDGE_NO_CAP 4294967295u
+#define JUDGE_MAX_DRAWN 4294967295u
 
 /* 0 when cleared: exactly the result's bytes are written, those after stay.
  * Otherwise refusal number * 2^32 + offset, and result is untouched. */
@@ -90,7 +92,10 @@ struct judge_counts {
     uint64_t pots_count_0_with_caps;           /* refusal 2 for 32,768 and no more */
     uint64_t pots_count_high_with_caps;
     uint64_t pots_count_with_16384;            /* refusal 2 for 16,384 and a number of pots */
-    uint64_t pots_count_with_49152;            /* and for both */
+    uint64_t pots_count_0_with_drawn_numbers;  /* refusal 2 for 49,152 and no more */
+    uint64_t pots_count_high_with_drawn_numbers;
+    uint64_t cut_in_a_drawn_number;            /* refusal 1 */
+    uint64_t cap_above_beside_a_drawn_number;  /* refusal 4 */
     uint64_t outcome[3];
     uint64_t outcome_of_empty_pot;
     uint64_t sealed_reason[8], automatic_reason[9];
@@ -159,6 +164,41 @@ struct judge_counts {
     uint64_t tie_dearer_exceeds_the_cap;       /* than the one chosen, and money would do */
     uint64_t tie_equal_exceeds_the_cap;        /* of a larger number */
     uint64_t tie_money_before_capacity;        /* one of more capacity fits, for less */
+    uint64_t accepted_with_drawn_numbers;
+    /* Of the pots of such files: */
+    uint64_t drawn_outcome[3];
+    uint64_t tie_fits_in_a_drawn_file;
+    uint64_t tie_fits_before_a_draw;           /* from two or more */
+    uint64_t one_bid_turned_down_before_a_draw;
+    uint64_t draw_where_none_remain;
+    /* Ties that do not fit, by m: one kept, two, three or more; and the most there
+     * can be, half of 10. */
+    uint64_t draw_from[4];
+    uint64_t draw_from_252;
+    /* Of the draws from two or more: */
+    uint64_t draw_of_place_0, draw_of_the_last_place, draw_of_a_place_between;
+    uint64_t draw_chooses_as_01;
+    uint64_t draw_chooses_another_than_01;
+    uint64_t draw_by_number_0, draw_by_the_greatest_number; /* as the file gives it */
+    uint64_t draw_beyond_m;                    /* the number is m or more */
+    uint64_t draw_by_a_number_divided;         /* not the file's any more */
+    uint64_t draw_undivided_chooses_another;
+    uint64_t draw_by_a_number_used_up;         /* it was above 0 and now is 0 */
+    uint64_t draw_third_of_a_pot;
+    uint64_t draw_after_one_kept;              /* which left the number as it was */
+    uint64_t draw_beside_dropped_bids;
+    uint64_t draw_across_years;
+    uint64_t draw_with_earlier_winners;
+    uint64_t draw_at_no_cost_in_the_last_year; /* of all that are best */
+    uint64_t draw_under_a_cap;
+    uint64_t draws_in_two_pots;                /* by different numbers */
+    /* Best combinations that could be extended, so are not kept; were they kept,
+     * another would be chosen; and equal totals, but the extension does not fit. */
+    uint64_t draw_best_not_kept;
+    uint64_t draw_best_not_kept_would_move_it;
+    uint64_t draw_kept_for_the_cap_alone;
+    uint64_t draw_kept_for_money_alone;
+    uint64_t draw_01_chooses_one_not_last_kept;
 };
 
 extern struct judge_counts judge_counts;

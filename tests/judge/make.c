@@ -1,6 +1,7 @@
 /* Makers of round files: a plan is drawn from the seed, legal by construction,
  * its budgets in pounds are set by what some of its bids would cost in pence,
- * its caps, if it has any, by the capacity of some, and it is written out.
+ * its caps, if it has any, by the capacity of some, its drawn numbers are any,
+ * and it is written out.
  * Damage works on the bytes of a well-formed round. */
 #include "make.h"
 
@@ -39,8 +40,9 @@ static unsigned between(struct rng *rng, unsigned least, unsigned most)
 enum { MAX_Y = 8, MAX_D = 4, MAX_P = 4, MAX_T = 32, MAX_N = 64, MAX_B = 256 };
 enum { MAX_ADMINISTRATIVE = 500000, MAX_CAPACITY = 300000, MAX_FACTOR = 10000 };
 enum { PENCE_TO_THE_POUND = JUDGE_PENCE_TO_THE_POUND };
-enum { WITH_CAPS = JUDGE_WITH_CAPS, MAX_CAP = JUDGE_MAX_CAP };
+enum { WITH_CAPS = JUDGE_WITH_CAPS, WITH_DRAWN = JUDGE_WITH_DRAWN, MAX_CAP = JUDGE_MAX_CAP };
 #define NO_CAP JUDGE_NO_CAP
+#define MAX_DRAWN JUDGE_MAX_DRAWN
 #define MAX_BUDGET 1000000000000u
 
 struct plan_year {
@@ -69,15 +71,15 @@ struct plan {
     unsigned years, delivery, pots, technologies, applications, bids;
     struct plan_year year[MAX_Y];
     uint64_t budget[MAX_P][MAX_Y]; /* in pounds */
-    bool with_caps;
-    uint32_t cap[MAX_P];
+    bool with_caps, with_drawn;
+    uint32_t cap[MAX_P], drawn[MAX_P];
     struct plan_technology technology[MAX_T];
     struct plan_application application[MAX_N];
     struct plan_bid bid[MAX_B];
     uint32_t common; /* the price many bid in a round of ties */
 };
 
-enum flavour { ORDINARY, CHAINS, TIES, WIDE_TIES, SILENT, ZERO_COST, MANY_POTS, BIG, PENNIES };
+enum flavour { ORDINARY, CHAINS, TIES, WIDE_TIES, SILENT, ZERO_COST, MANY_POTS, BIG, PENNIES, ALIKE };
 enum capacities { EQUAL, SMALL, ANY, SKEWED, CLOSE };
 
 /* What a flavour asks of the plan; percentages are chances per application. */
@@ -88,6 +90,8 @@ struct style {
     unsigned reference_above; /* chance per technology */
     unsigned same_technology; /* chance that technologies share prices */
     unsigned low_load;        /* chance per technology of values of a few pounds */
+    unsigned alike;           /* bids as many others do, year by year */
+    unsigned drawn;           /* chance of the round */
     enum capacities capacities;
 };
 
@@ -258,6 +262,9 @@ static void plan_applications(struct plan *plan, const struct style *style)
         unsigned shift = between(rng, 0, 63);
         application->declared_cost = rng_next(rng) >> shift;
     }
+    if (rng_chance(rng, style->alike))
+        for (unsigned i = 0; i < plan->applications; i++)
+            plan->application[i].days = plan->year[plan->application[i].year].days;
     plan_draws(plan);
 }
 
@@ -407,6 +414,20 @@ static void add_common_bid(struct plan *plan, unsigned application)
     add_bid(plan, bid);
 }
 
+/* All of it at the common price of its year, which is a penny above that of the
+ * year before, and mostly in the years after it as well: who loses a tie is tied
+ * again. */
+static void add_alike_bids(struct plan *plan, unsigned application)
+{
+    const struct plan_application *own = &plan->application[application];
+    for (unsigned year = own->year; year < plan->delivery; year++) {
+        struct plan_bid bid = { application, year, year == own->year ? own->days : plan->year[year].days,
+                                own->capacity, plan->common + 10 * year };
+        if (year == own->year || rng_chance(&plan->rng, 60))
+            add_bid(plan, bid);
+    }
+}
+
 static void shuffle_bids(struct plan *plan)
 {
     for (unsigned i = plan->bids; i > 1; i--) {
@@ -427,6 +448,10 @@ static void plan_bids(struct plan *plan, const struct style *style)
         }
         if (rng_chance(rng, style->no_bid))
             continue;
+        if (rng_chance(rng, style->alike)) {
+            add_alike_bids(plan, i);
+            continue;
+        }
         if (rng_chance(rng, style->chain))
             add_chain(plan, i);
         else if (rng_chance(rng, style->chain))
@@ -721,6 +746,28 @@ static void plan_budget(struct plan *plan, unsigned pot, uint64_t *budget)
             budget[y] = MAX_BUDGET;
 }
 
+/* Money for a few bids of each delivery year beside those of the years before, so
+ * that every year has its tie. */
+static void plan_budget_of_ties(struct plan *plan, unsigned pot, uint64_t *budget)
+{
+    struct rng *rng = &plan->rng;
+    struct choice choice;
+    uint64_t totals[MAX_Y];
+    memset(&choice, 0, sizeof choice);
+    for (unsigned d = 0; d < plan->delivery; d++) {
+        unsigned most = choice.count + (rng_chance(rng, 30) ? between(rng, 3, 5) : between(rng, 0, 2));
+        for (unsigned i = 0; i < plan->bids && choice.count < most; i++)
+            if (plan->bid[i].year == d && of_pot(plan, plan->bid[i].application, pot))
+                choose(&choice, &plan->bid[i]);
+    }
+    choice_totals(plan, &choice, totals);
+    pounds_for(plan, totals, budget);
+    vary_budget(plan, budget);
+    for (unsigned y = 0; y < plan->years; y++)
+        if (budget[y] > MAX_BUDGET)
+            budget[y] = MAX_BUDGET;
+}
+
 /* ---- caps ---- */
 
 static uint64_t capacity_of(const struct choice *choice)
@@ -843,6 +890,35 @@ static void plan_caps(struct plan *plan)
         plan_cap(plan, pot);
 }
 
+/* ---- drawn numbers ---- */
+
+/* The first few, some that last for several ties, the greatest, and any. */
+static uint32_t some_drawn_number(struct rng *rng)
+{
+    static const uint32_t edges[] = { 0, 0, 1, 2, MAX_DRAWN, MAX_DRAWN, MAX_DRAWN - 1 };
+    switch (rng_below(rng, 5)) {
+    case 0:
+        return edges[rng_below(rng, sizeof edges / sizeof *edges)];
+    case 1:
+        return (uint32_t)rng_below(rng, 40);
+    case 2:
+        return (uint32_t)rng_below(rng, 100000);
+    default:
+        return (uint32_t)rng_next(rng);
+    }
+}
+
+/* A drawn number stands after a cap, which may be none. */
+static void plan_drawn_numbers(struct plan *plan)
+{
+    for (unsigned pot = 0; pot < plan->pots; pot++) {
+        if (!plan->with_caps)
+            plan->cap[pot] = NO_CAP;
+        plan->drawn[pot] = some_drawn_number(&plan->rng);
+    }
+    plan->with_caps = plan->with_drawn = true;
+}
+
 /* ---- writing a plan ---- */
 
 static void put(uint8_t **p, unsigned bytes, uint64_t n)
@@ -859,12 +935,14 @@ static void write_years_and_pots(const struct plan *plan, uint8_t **p)
         put(p, 2, y < plan->delivery);
         put(p, 2, plan->year[y].tlm);
     }
-    put(p, 2, plan->pots + (plan->with_caps ? WITH_CAPS : 0));
+    put(p, 2, plan->pots + (plan->with_caps ? WITH_CAPS : 0) + (plan->with_drawn ? WITH_DRAWN : 0));
     for (unsigned i = 0; i < plan->pots; i++) {
         for (unsigned y = 0; y < plan->years; y++)
             put(p, 8, plan->budget[i][y]);
         if (plan->with_caps)
             put(p, 4, plan->cap[i]);
+        if (plan->with_drawn)
+            put(p, 4, plan->drawn[i]);
     }
 }
 
@@ -929,6 +1007,7 @@ static struct style small_style(struct rng *rng)
     style.further_bids = 3;
     style.reference_above = 4;
     style.same_technology = 30;
+    style.drawn = 20;
     style.capacities = rng_chance(rng, 50) ? ANY : SMALL;
     return style;
 }
@@ -989,6 +1068,29 @@ static void style_of_pennies(struct rng *rng, struct style *style)
     style->capacities = CLOSE;
 }
 
+/* Ties one after another, of bids all alike or of few kinds; the last year may
+ * cost nothing. */
+static void style_of_alike(struct rng *rng, struct style *style)
+{
+    style->delivery = between(rng, 1, 4);
+    style->valuation_only = between(rng, 0, 1);
+    style->pots = rng_chance(rng, 25) ? 2 : 1;
+    style->technologies = style->pots + (unsigned)rng_below(rng, 2);
+    style->applications = between(rng, 2, rng_chance(rng, 20) ? 20 : 11);
+    style->no_bid = 3;
+    style->dear = 1;
+    style->reference_above = rng_chance(rng, 40) ? 50 : 4;
+    style->same_technology = rng_chance(rng, 70) ? 100 : 30;
+    style->alike = 95;
+    style->drawn = 85;
+    style->capacities = rng_chance(rng, 65) ? EQUAL : SMALL;
+    if (rng_chance(rng, 15)) { /* the widest that is drawn, all in one pot */
+        style->delivery = style->pots = style->technologies = 1;
+        style->applications = 10;
+        style->capacities = EQUAL;
+    }
+}
+
 static struct style style_of(enum flavour flavour, struct rng *rng)
 {
     struct style style = small_style(rng);
@@ -1024,13 +1126,16 @@ static struct style style_of(enum flavour flavour, struct rng *rng)
     case PENNIES:
         style_of_pennies(rng, &style);
         break;
+    case ALIKE:
+        style_of_alike(rng, &style);
+        break;
     }
     return style;
 }
 
 static enum flavour some_flavour(struct rng *rng)
 {
-    static const unsigned weight[] = { 15, 20, 17, 11, 11, 6, 10, 4, 6 };
+    static const unsigned weight[] = { 13, 19, 15, 11, 10, 5, 9, 4, 6, 8 };
     unsigned left = (unsigned)rng_below(rng, 100);
     unsigned flavour = 0;
     while (left >= weight[flavour])
@@ -1045,9 +1150,14 @@ static size_t make_from_style(struct plan *plan, const struct style *style, uint
     plan_applications(plan, style);
     plan_bids(plan, style);
     for (unsigned pot = 0; pot < plan->pots; pot++)
-        plan_budget(plan, pot, plan->budget[pot]);
+        if (style->alike > 0 && rng_chance(&plan->rng, 70))
+            plan_budget_of_ties(plan, pot, plan->budget[pot]);
+        else
+            plan_budget(plan, pot, plan->budget[pot]);
     if (rng_chance(&plan->rng, 45))
         plan_caps(plan);
+    if (rng_chance(&plan->rng, style->drawn))
+        plan_drawn_numbers(plan);
     return write_plan(plan, out);
 }
 
@@ -1117,7 +1227,16 @@ size_t make_round_a_with_cap(uint32_t cap, uint8_t *out)
     return write_plan(&plan, out);
 }
 
-/* 8 years of which 4 delivery, 4 pots with caps, 32 technologies, 64
+size_t make_round_a_drawn(uint32_t cap, uint32_t drawn, uint8_t *out)
+{
+    struct plan plan = plan_of_round_a();
+    plan.with_caps = plan.with_drawn = true;
+    plan.cap[0] = cap;
+    plan.drawn[0] = drawn;
+    return write_plan(&plan, out);
+}
+
+/* 8 years of which 4 delivery, 4 pots with drawn numbers, 32 technologies, 64
  * applications, 256 bids: 4 a head, over the years from the application's on, 3 in a year at
  * most. */
 size_t make_largest(uint8_t *out)
@@ -1144,6 +1263,7 @@ size_t make_largest(uint8_t *out)
     for (unsigned pot = 0; pot < plan.pots; pot++)
         plan_budget(&plan, pot, plan.budget[pot]);
     plan_caps(&plan);
+    plan_drawn_numbers(&plan);
     return write_plan(&plan, out);
 }
 
@@ -1155,7 +1275,7 @@ struct layout {
     size_t count_at[5], first[5], size[5];
     size_t end;
     unsigned delivery;
-    bool with_caps;
+    bool with_caps, with_drawn;
 };
 
 enum { YEARS, POTS, TECHNOLOGIES, APPLICATIONS, BIDS };
@@ -1182,11 +1302,12 @@ static struct layout layout_of(const uint8_t *file)
     for (unsigned s = YEARS; s <= BIDS; s++) {
         l.count_at[s] = place;
         l.count[s] = (unsigned)get(file + place, 2);
-        if (s == POTS && l.count[POTS] >= WITH_CAPS) {
-            l.with_caps = true;
-            l.count[POTS] -= WITH_CAPS;
+        if (s == POTS) {
+            l.with_caps = l.count[POTS] >= WITH_CAPS;
+            l.with_drawn = l.count[POTS] >= WITH_CAPS + WITH_DRAWN;
+            l.count[POTS] %= WITH_DRAWN;
         }
-        const size_t sizes[5] = { 6, 8 * l.count[YEARS] + (l.with_caps ? 4 : 0),
+        const size_t sizes[5] = { 6, 8 * l.count[YEARS] + (l.with_caps ? 4 : 0) + (l.with_drawn ? 4 : 0),
                                   4 + 10 * l.count[YEARS], 20, 14 };
         l.first[s] = place + 2;
         l.size[s] = sizes[s];
@@ -1257,8 +1378,8 @@ static bool cut(struct wreck *w)
     if (rng_chance(w->rng, 60) && w->l.count[s] > 0)
         at = record_at(&w->l, s, (unsigned)rng_below(w->rng, w->l.count[s]));
     at += rng_below(w->rng, 3);
-    if (s == POTS && w->l.with_caps && rng_chance(w->rng, 30)) /* in the first cap, or just before it */
-        at = w->l.first[POTS] + 8 * w->l.count[YEARS] + rng_below(w->rng, 4);
+    if (s == POTS && w->l.with_caps && rng_chance(w->rng, 30)) /* in the first cap or number, or just before it */
+        at = w->l.first[POTS] + 8 * w->l.count[YEARS] + rng_below(w->rng, w->l.with_drawn ? 8 : 4);
     if (rng_chance(w->rng, 20) && at > 0)
         at -= 1;
     if (at >= w->l.end)
@@ -1278,29 +1399,33 @@ static bool append(struct wreck *w)
     return true;
 }
 
+static unsigned added_to_pots(const struct layout *l)
+{
+    return (l->with_caps ? WITH_CAPS : 0) + (l->with_drawn ? WITH_DRAWN : 0);
+}
+
 /* 2: what is added to the count of pots, or left out; or the file is read as if
- * it had caps, or none. */
+ * it had caps, or drawn numbers, or none. */
 static bool change_what_is_added(struct wreck *w)
 {
-    enum { OTHER = 16384 };
-    unsigned pots = w->l.count[POTS], added = w->l.with_caps ? WITH_CAPS : 0;
+    static const unsigned forms[] = { 0, WITH_CAPS, WITH_CAPS + WITH_DRAWN };
+    unsigned pots = w->l.count[POTS], added = added_to_pots(&w->l), old = added;
     switch (rng_below(w->rng, 7)) {
     case 0:
     case 1:
-        added = WITH_CAPS - added;
-        break;
     case 2:
-        added = OTHER;
+        while (added == old)
+            added = forms[rng_below(w->rng, 3)];
         break;
     case 3:
-        added = OTHER + WITH_CAPS;
+        added = WITH_DRAWN;
         break;
     case 4:
-        added = WITH_CAPS;
+        added = forms[between(w->rng, 1, 2)];
         pots = 0;
         break;
     case 5:
-        added = WITH_CAPS;
+        added = forms[between(w->rng, 1, 2)];
         pots = MAX_P + 1;
         break;
     default:
@@ -1333,8 +1458,8 @@ static bool change_count(struct wreck *w)
     default:
         count = (unsigned)above(w, most_records[s], 2);
     }
-    if (keep_what_is_added && count < WITH_CAPS)
-        count += WITH_CAPS;
+    if (keep_what_is_added && count < WITH_DRAWN)
+        count += added_to_pots(&w->l);
     set(w->file + w->l.count_at[s], 2, count);
     return true;
 }
@@ -1435,6 +1560,25 @@ static bool change_cap(struct wreck *w)
                                 old > 0 && old != NO_CAP ? old - 1 : old };
     set(cap, 4, others[rng_below(w->rng, 5)]);
     return true;
+}
+
+/* Another drawn number, and any is allowed; one that would be no cap is among
+ * them. */
+static bool change_drawn_number(struct wreck *w)
+{
+    static const uint32_t others[] = { 0, 1, MAX_CAP + 1, MAX_DRAWN - 1, MAX_DRAWN };
+    if (!w->l.with_drawn)
+        return false;
+    uint32_t other = (uint32_t)rng_next(w->rng);
+    if (rng_chance(w->rng, 70))
+        other = others[rng_below(w->rng, sizeof others / sizeof *others)];
+    set(some_cap(w) + 4, 4, other);
+    return true;
+}
+
+static bool change_cap_or_number(struct wreck *w)
+{
+    return rng_chance(w->rng, 65) ? change_cap(w) : change_drawn_number(w);
 }
 
 /* 5: an administrative price of a delivery year, or of another. */
@@ -1817,7 +1961,7 @@ static bool move_to_limit(struct wreck *w)
         return true;
     case 7:
     case 8:
-        return change_cap(w);
+        return change_cap_or_number(w);
     default:
         if (w->l.count[BIDS] == 0)
             return false;

@@ -6,7 +6,7 @@
 #include <stdint.h>
 
 enum {
-    MAKE_MAX_ROUND = 7882,
+    MAKE_MAX_ROUND = 7898,
     MAKE_CAPACITY = 8192 /* every buffer handed to a maker has this many bytes */
 };
 
@@ -24,10 +24,11 @@ size_t make_round(uint64_t seed, uint8_t *out);
 /* A well-formed round of a single pot and 1 to 4 delivery years. */
 size_t make_pot(uint64_t seed, uint8_t *out);
 
-/* Round A of document 01, the same with a cap, and the largest file (with caps,
- * 7,882 bytes, accepted). */
+/* Round A of document 01, the same with a cap, with a drawn number as well, and
+ * the largest file (with drawn numbers, 7,898 bytes, accepted). */
 size_t make_round_a(uint8_t *out);
 size_t make_round_a_with_cap(uint32_t cap, uint8_t *out);
+size_t make_round_a_drawn(uint32_t cap, uint32_t drawn, uint8_t *out);
 size_t make_largest(uint8_t *out);
 
 /* Damages a well-formed round in place and answers its new length, at most

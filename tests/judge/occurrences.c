@@ -70,7 +70,10 @@ static void print_refusals(void)
     OCCURS(pots_count_0_with_caps);
     OCCURS(pots_count_high_with_caps);
     OCCURS(pots_count_with_16384);
-    OCCURS(pots_count_with_49152);
+    OCCURS(pots_count_0_with_drawn_numbers);
+    OCCURS(pots_count_high_with_drawn_numbers);
+    OCCURS(cut_in_a_drawn_number);
+    OCCURS(cap_above_beside_a_drawn_number);
     printf("refusals 3 to 11 by clause\n");
 #define CLAUSE_LINE(number, name) \
     must_occur(#number ": " #name, rounds.clause[JUDGE_CLAUSE_##name], all.clause[JUDGE_CLAUSE_##name]);
@@ -127,6 +130,55 @@ static void print_caps(void)
     OCCURS(tie_dearer_exceeds_the_cap);
     OCCURS(tie_equal_exceeds_the_cap);
     OCCURS(tie_money_before_capacity);
+}
+
+static void print_places(void)
+{
+    printf("draws from two combinations or more\n");
+    OCCURS(draw_of_place_0);
+    OCCURS(draw_of_the_last_place);
+    OCCURS(draw_of_a_place_between);
+    OCCURS(draw_chooses_as_01);
+    OCCURS(draw_chooses_another_than_01);
+    OCCURS(draw_by_number_0);
+    OCCURS(draw_by_the_greatest_number);
+    OCCURS(draw_beyond_m);
+    OCCURS(draw_by_a_number_divided);
+    OCCURS(draw_undivided_chooses_another);
+    OCCURS(draw_by_a_number_used_up);
+    OCCURS(draw_third_of_a_pot);
+    OCCURS(draw_after_one_kept);
+    OCCURS(draw_beside_dropped_bids);
+    OCCURS(draw_across_years);
+    OCCURS(draw_with_earlier_winners);
+    OCCURS(draw_at_no_cost_in_the_last_year);
+    OCCURS(draw_under_a_cap);
+    OCCURS(draws_in_two_pots);
+    OCCURS(draw_best_not_kept_would_move_it);
+    OCCURS(draw_kept_for_the_cap_alone);
+    OCCURS(draw_kept_for_money_alone);
+}
+
+static void print_draws(void)
+{
+    printf("drawn numbers\n");
+    OCCURS(accepted_with_drawn_numbers);
+    for (unsigned n = 0; n < 3; n++)
+        occurs("outcome %u in a drawn file", n, rounds.drawn_outcome[n], all.drawn_outcome[n]);
+    OCCURS(tie_fits_in_a_drawn_file);
+    OCCURS(tie_fits_before_a_draw);
+    OCCURS(one_bid_turned_down_before_a_draw);
+    OCCURS(draw_where_none_remain);
+    /* the largest of the best cannot be extended, so that one at least is kept */
+    must_not_occur("draw from none", rounds.draw_from[0], all.draw_from[0]);
+    occurs("draw from %u", 1, rounds.draw_from[1], all.draw_from[1]);
+    occurs("draw from %u", 2, rounds.draw_from[2], all.draw_from[2]);
+    occurs("draw from %u or more", 3, rounds.draw_from[3], all.draw_from[3]);
+    OCCURS(draw_from_252);
+    OCCURS(draw_best_not_kept);
+    must_not_occur("01 chooses one that is not the last kept", rounds.draw_01_chooses_one_not_last_kept,
+                   all.draw_01_chooses_one_not_last_kept);
+    print_places();
 }
 
 static void print_outcomes(void)
@@ -250,6 +302,7 @@ unsigned print_occurrences(const struct judge_counts *of_rounds, const struct ju
     print_outcomes();
     print_pennies();
     print_caps();
+    print_draws();
     print_reasons();
     print_silent();
     print_chains();

@@ -1,7 +1,7 @@
 /* The judge itself is held to all worked cases of document 01, in pence, to
  * totals within a penny of the budget, to what becomes of silence, to caps that
- * are reached and exceeded, to every cut of round A, with a cap and without, and
- * to the order of the refusals. */
+ * are reached and exceeded, to ties that are drawn, to every cut of round A, with
+ * a drawn number, with a cap and without, and to the order of the refusals. */
 #include "judge.h"
 #include "make.h"
 
@@ -105,6 +105,19 @@ static struct round_file with_cap(const struct round_file *f, uint32_t cap)
     set(&g, count_at, 2, JUDGE_WITH_CAPS + 1);
     g.len = cap_at;
     add(&g, 4, cap);
+    memcpy(g.bytes + g.len, f->bytes + cap_at, f->len - cap_at);
+    g.len += f->len - cap_at;
+    return g;
+}
+
+/* The same round of one pot with a cap and a drawn number. */
+static struct round_file drawn(const struct round_file *f, uint32_t cap, uint32_t number)
+{
+    struct round_file g = with_cap(f, cap);
+    size_t years = (size_t)get(f->bytes, 2), count_at = 2 + 6 * years, cap_at = count_at + 2 + 8 * years;
+    set(&g, count_at, 2, JUDGE_WITH_CAPS + JUDGE_WITH_DRAWN + 1);
+    g.len = cap_at + 4;
+    add(&g, 4, number);
     memcpy(g.bytes + g.len, f->bytes + cap_at, f->len - cap_at);
     g.len += f->len - cap_at;
     return g;
@@ -690,20 +703,31 @@ static void t1_under_a_cap(void)
 }
 
 /* The bids' reasons, a digit for each, at the end of the result. */
-static void reasons_under_cap(const struct round_file *f, uint32_t cap, const char *reasons)
+static void has_reasons(const struct round_file *f, const char *reasons)
 {
     uint8_t result[JUDGE_MAX_RESULT];
-    struct round_file capped = with_cap(f, cap);
     size_t bids = strlen(reasons);
-    uint64_t len = judge_result_len(capped.bytes, capped.len);
-    assert(judge_clear(capped.bytes, capped.len, result, sizeof result) == 0);
+    uint64_t len = judge_result_len(f->bytes, f->len);
+    assert(judge_clear(f->bytes, f->len, result, sizeof result) == 0);
     assert(get(result + len - 2 * bids - 2, 2) == bids);
     for (size_t i = 0; i < bids; i++)
         if (get(result + len - 2 * bids + 2 * i, 2) != (uint64_t)(reasons[i] - '0')) {
-            fprintf(stderr, "cap %u, expected reasons %s, got %u at bid %u\n", cap, reasons,
+            fprintf(stderr, "expected reasons %s, got %u at bid %u\n", reasons,
                     result[len - 2 * bids + 2 * i], (unsigned)i);
             assert(!"reasons");
         }
+}
+
+static void reasons_under_cap(const struct round_file *f, uint32_t cap, const char *reasons)
+{
+    struct round_file capped = with_cap(f, cap);
+    has_reasons(&capped, reasons);
+}
+
+static void reasons_drawn(const struct round_file *f, uint32_t cap, uint32_t number, const char *reasons)
+{
+    struct round_file g = drawn(f, cap, number);
+    has_reasons(&g, reasons);
 }
 
 /* Money and cap with just enough of both, and a pound or a hundredth of a MW
@@ -804,6 +828,183 @@ static void cap_and_wide_tie(void)
     reasons_under_cap(&f, 59, "333333333333");
 }
 
+/* ---- drawn numbers ---- */
+
+/* The result of T1 or T2 where these applications win for such a total. */
+static void t_drawn(uint64_t budget, uint32_t number, const char *reasons, uint32_t total)
+{
+    uint8_t expected[JUDGE_MAX_RESULT] = { 1, 0, 1, 0, 0xA0, 0x0F, 0, 0, (uint8_t)total, (uint8_t)(total >> 8),
+                                           (uint8_t)(total >> 16), (uint8_t)(total >> 24), 0, 0, 0, 0, 3, 0 };
+    size_t len = 18;
+    for (unsigned i = 0; i < 3; i++)
+        len += reasons[i] == '1' ? put_application(expected + len, 1, i, 0, 4000)
+                                 : put_application(expected + len, 0, 65535, 0, 0);
+    expected[len] = 3;
+    len += 2;
+    for (unsigned i = 0; i < 3; i++, len += 2)
+        expected[len] = (uint8_t)(reasons[i] - '0');
+    struct round_file t = tie(budget), f = drawn(&t, JUDGE_NO_CAP, number);
+    gives(&f, expected, len);
+}
+
+static void t1_and_t2_drawn(void)
+{
+    t_drawn(105120, 0, "131", 10512000);
+    t_drawn(105120, 1, "113", 10512000);
+    t_drawn(105120, 2, "131", 10512000);
+    t_drawn(105120, JUDGE_MAX_DRAWN, "113", 10512000);
+    t_drawn(105119, 0, "133", 7008000);
+    t_drawn(105119, 1, "311", 7008000);
+    t_drawn(105119, 4294967294u, "133", 7008000);
+    t_drawn(105119, JUDGE_MAX_DRAWN, "311", 7008000);
+}
+
+/* T1 with money enough, and a cap of 3.00, 2.99, 1.99 and 0.99 MW. */
+static void t1_drawn_under_a_cap(void)
+{
+    struct round_file t = tie(PLENTY);
+    reasons_drawn(&t, 300, 0, "131");
+    reasons_drawn(&t, 300, 1, "113");
+    reasons_drawn(&t, 299, 0, "133");
+    reasons_drawn(&t, 299, 1, "311");
+    reasons_drawn(&t, 199, 0, "331");
+    reasons_drawn(&t, 199, 1, "313");
+    reasons_drawn(&t, 99, 1, "333");
+}
+
+static void add_years_and_pot(struct round_file *f, const uint64_t *budgets)
+{
+    add(f, 2, 2);
+    add_year(f, 365, 1, 0);
+    add_year(f, 365, 1, 0);
+    add(f, 2, 1);
+    add(f, 8, budgets[0]);
+    add(f, 8, budgets[1]);
+    add(f, 2, 1);
+    add(f, 2, 0);
+    add(f, 2, 10000);
+    add_technology_year(f, 20000, 0, 10000);
+    add_technology_year(f, 20000, 0, 10000);
+}
+
+/* So many of 1.00 MW at 1,000 in year 0, then two at 1,100 in year 1; draws 0, 1,
+ * and so on. */
+static struct round_file two_ties(const uint64_t *budgets, unsigned first)
+{
+    struct round_file f = { .len = 0 };
+    add_years_and_pot(&f, budgets);
+    add(&f, 2, first + 2);
+    for (unsigned i = 0; i < first + 2; i++)
+        add_application(&f, i >= first, i, 100);
+    add(&f, 2, first + 2);
+    for (unsigned i = 0; i < first + 2; i++)
+        add_bid(&f, i, i >= first, 100, i < first ? 1000 : 1100);
+    return f;
+}
+
+/* Year 0 pays for one of its three, and year 1 for one of its two beside it. */
+static void two_ties_drawn(void)
+{
+    static const uint64_t budgets[] = { 8760, 18396 };
+    static const struct { uint32_t number; const char *reasons; } cases[] = {
+        { 0, "33131" }, { 1, "31331" }, { 2, "13331" }, { 3, "33113" }, { 4, "31313" }, { 5, "13313" },
+        { 6, "33131" }, { 7, "31331" }, { JUDGE_MAX_DRAWN, "33113" },
+    };
+    struct round_file f = two_ties(budgets, 3), g = drawn(&f, JUDGE_NO_CAP, 5);
+    for (size_t i = 0; i < sizeof cases / sizeof *cases; i++)
+        reasons_drawn(&f, JUDGE_NO_CAP, cases[i].number, cases[i].reasons);
+    reasons_under_cap(&f, JUDGE_NO_CAP, "13313");
+    lists(&g,
+          "pot 0 auction\n"
+          "year 0 price 1000 total 876000\n"
+          "year 1 price 1100 total 1839600\n"
+          "application 0 won 1000 bid 0\n"
+          "application 1 lost\n"
+          "application 2 lost\n"
+          "application 3 won 1100 bid 3\n"
+          "application 4 lost\n"
+          "bid 0 reason 1\n"
+          "bid 1 reason 3\n"
+          "bid 2 reason 3\n"
+          "bid 3 reason 1\n"
+          "bid 4 reason 3\n");
+}
+
+/* Two that fit together in year 0 use none of the number, nor does one alone. */
+static void drawn_after_what_fits(void)
+{
+    static const uint64_t both[] = { 17520, 27156 }, one[] = { 8760, 18396 };
+    struct round_file f = two_ties(both, 2), g = two_ties(one, 1);
+    for (uint32_t number = 0; number < 6; number++) {
+        reasons_drawn(&f, JUDGE_NO_CAP, number, number % 2 == 0 ? "1131" : "1113");
+        reasons_drawn(&g, JUDGE_NO_CAP, number, number % 2 == 0 ? "131" : "113");
+    }
+}
+
+/* One best of two tied, or none that fits alone, or one turned down alone, and the
+ * number stays as it is: year 0 pays for 2.00 MW at 1,000. */
+static void drawn_after_one_best_or_none(void)
+{
+    static const uint64_t budgets[] = { 17520, 27156 };
+    struct round_file f = two_ties(budgets, 2);
+    set(&f, 68, 4, 200);  /* the first application, of 2.00 MW */
+    set(&f, 148, 4, 200); /* and its bid */
+    struct round_file none = f;
+    set(&none, 24, 8, 9636);
+    for (unsigned i = 0; i < 2; i++) {
+        set(&none, 68 + 20 * i, 4, 300);
+        set(&none, 148 + 14 * i, 4, 300);
+    }
+    struct round_file alone = none;
+    set(&alone, 166, 4, 1050); /* the second bid comes when year 0 has closed */
+    for (uint32_t number = 0; number < 6; number++) {
+        reasons_drawn(&f, JUDGE_NO_CAP, number, number % 2 == 0 ? "1331" : "1313");
+        reasons_drawn(&none, JUDGE_NO_CAP, number, number % 2 == 0 ? "3331" : "3313");
+        reasons_drawn(&alone, JUDGE_NO_CAP, number, number % 2 == 0 ? "2531" : "2513");
+    }
+}
+
+/* Tied at 4,000, before a last year whose reference is above that: every
+ * combination that fits is best, and counts if none can be added. */
+static struct round_file free_at_last(uint64_t budget, unsigned bids, const uint32_t *capacities)
+{
+    struct round_file f = { .len = 0 };
+    add(&f, 2, 2);
+    add_year(&f, 365, 1, 0);
+    add_year(&f, 365, 0, 0);
+    add(&f, 2, 1);
+    add(&f, 8, budget);
+    add(&f, 8, 0);
+    add(&f, 2, 1);
+    add(&f, 2, 0);
+    add(&f, 2, 10000);
+    add_technology_year(&f, 20000, 0, 10000);
+    add_technology_year(&f, 0, 20000, 10000);
+    add(&f, 2, bids);
+    for (unsigned i = 0; i < bids; i++)
+        add_application(&f, 0, i, capacities[i]);
+    add(&f, 2, bids);
+    for (unsigned i = 0; i < bids; i++)
+        add_bid(&f, i, 0, capacities[i], 4000);
+    return f;
+}
+
+static void last_year_at_no_cost(void)
+{
+    static const uint32_t alike[] = { 100, 100, 100 }, mixed[] = { 200, 100, 100 };
+    static const char *const pairs[] = { "311", "131", "113" };
+    struct round_file money = free_at_last(70080, 3, alike), cap = free_at_last(PLENTY, 3, alike);
+    struct round_file t1 = free_at_last(105120, 3, mixed), t2 = free_at_last(105119, 3, mixed);
+    for (uint32_t number = 0; number < 6; number++) {
+        reasons_drawn(&money, JUDGE_NO_CAP, number, pairs[number % 3]);
+        reasons_drawn(&money, 299, number, pairs[number % 3]);
+        reasons_drawn(&cap, 200, number, pairs[number % 3]);
+        reasons_drawn(&t1, JUDGE_NO_CAP, number, pairs[number % 3]);
+        reasons_drawn(&t2, JUDGE_NO_CAP, number, number % 2 == 0 ? "311" : "133");
+    }
+    reasons_under_cap(&t1, JUDGE_NO_CAP, "113");
+}
+
 /* ---- beyond the worked cases: wide ties, valuation-only ---- */
 
 static struct round_file tied_at_4000(unsigned applications)
@@ -833,6 +1034,19 @@ static void widest_ties(void)
     assert(len > 0 && memcmp(out, eleven_starts, sizeof eleven_starts - 1) == 0);
     out[len] = 0;
     assert(strstr(out, "application 10 lost\nbid 0 reason 7\n"));
+}
+
+/* Ten alike, of which two fit: 45 pairs, from the two highest draws to the two
+ * lowest; eleven are too many. */
+static void widest_draws(void)
+{
+    struct round_file ten = tied_at_4000(10), eleven = tied_at_4000(11);
+    reasons_drawn(&ten, JUDGE_NO_CAP, 0, "1133333333");
+    reasons_drawn(&ten, JUDGE_NO_CAP, 1, "1313333333");
+    reasons_drawn(&ten, JUDGE_NO_CAP, 2, "3113333333");
+    reasons_drawn(&ten, JUDGE_NO_CAP, 44, "3333333311");
+    reasons_drawn(&ten, JUDGE_NO_CAP, 45, "1133333333");
+    reasons_drawn(&eleven, JUDGE_NO_CAP, 0, "77777777777");
 }
 
 static void valuation_only_year(void)
@@ -900,7 +1114,8 @@ static void refusals_of_round_a_with_cap(void)
 {
     static const struct { size_t at; unsigned bytes; uint64_t n; unsigned number; size_t offset; } cases[] = {
         { 14, 2, 32768, 2, 14 },   { 14, 2, 32773, 2, 14 },   { 14, 2, 16385, 2, 14 },
-        { 14, 2, 49153, 2, 14 },   { 14, 2, 65535, 2, 14 },   { 14, 2, 5, 2, 14 },
+        { 14, 2, 49152, 2, 14 },   { 14, 2, 65535, 2, 14 },   { 14, 2, 5, 2, 14 },
+        { 14, 2, 49153, 2, 40 },   /* the count of technologies begins the drawn number */
         { 32, 4, 20000001, 4, 16 },{ 32, 4, 4294967294u, 4, 16 },
         { 24, 8, 1000000000001u, 4, 16 },
         { 14, 2, 1, 2, 32 },       /* the cap is then the count of technologies */
@@ -925,6 +1140,34 @@ static void refusals_of_round_a_with_cap(void)
     refused(&f, 2, 36);
 }
 
+/* With a drawn number after the cap: technologies at 40, and all that follows eight
+ * bytes later than without. */
+static void refusals_of_round_a_drawn(void)
+{
+    static const struct { size_t at; unsigned bytes; uint64_t n; unsigned number; size_t offset; } cases[] = {
+        { 14, 2, 16385, 2, 14 },   { 14, 2, 16388, 2, 14 },   { 14, 2, 16384, 2, 14 },
+        { 14, 2, 49152, 2, 14 },   { 14, 2, 49157, 2, 14 },   { 14, 2, 65535, 2, 14 },
+        { 14, 2, 32769, 2, 36 },   /* the drawn number is then the count of technologies */
+        { 14, 2, 1, 2, 32 },       /* and so is the cap */
+        { 32, 4, 20000001, 4, 16 },{ 32, 4, 4294967294u, 4, 16 },
+        { 24, 8, 1000000000001u, 4, 16 },
+        { 40, 2, 0, 2, 40 },       { 66, 2, 65, 2, 66 },      { 128, 2, 257, 2, 128 },
+    };
+    static const uint32_t lawful[] = { 0, 1, 20000001, 4294967294u, 4294967295u };
+    for (size_t i = 0; i < sizeof cases / sizeof *cases; i++) {
+        struct round_file f;
+        f.len = make_round_a_drawn(200, 0, f.bytes);
+        assert(f.len == 172);
+        set(&f, cases[i].at, cases[i].bytes, cases[i].n);
+        refused(&f, cases[i].number, cases[i].offset);
+    }
+    for (size_t i = 0; i < sizeof lawful / sizeof *lawful; i++) {
+        struct round_file f;
+        f.len = make_round_a_drawn(JUDGE_NO_CAP, lawful[i], f.bytes);
+        lists(&f, listing_of_a);
+    }
+}
+
 static void refused_by_1_where_cut(const struct round_file *whole, const size_t *starts)
 {
     for (size_t len = 0; len < whole->len; len++) {
@@ -941,9 +1184,11 @@ static void cuts_of_round_a(void)
 {
     static const size_t starts[] = { 0, 2, 8, 14, 16, 32, 34, 58, 60, 80, 100, 120, 122, 136, 150, 164 };
     static const size_t capped_starts[] = { 0, 2, 8, 14, 16, 36, 38, 62, 64, 84, 104, 124, 126, 140, 154, 168 };
-    struct round_file f = round_a(100000, 100000), capped = with_cap(&f, 200);
+    static const size_t drawn_starts[] = { 0, 2, 8, 14, 16, 40, 42, 66, 68, 88, 108, 128, 130, 144, 158, 172 };
+    struct round_file f = round_a(100000, 100000), capped = with_cap(&f, 200), g = drawn(&f, 200, 1);
     refused_by_1_where_cut(&f, starts);
     refused_by_1_where_cut(&capped, capped_starts);
+    refused_by_1_where_cut(&g, drawn_starts);
     add(&f, 1, 0);
     refused(&f, 10, 164);
     lists(&f, "refused 10 at 164\n");
@@ -992,6 +1237,17 @@ static void largest_file(void)
     assert(judge_clear(f.bytes, f.len, result, sizeof result) == 0);
 }
 
+static void drawn_ties(void)
+{
+    t1_and_t2_drawn();
+    t1_drawn_under_a_cap();
+    two_ties_drawn();
+    drawn_after_what_fits();
+    drawn_after_one_best_or_none();
+    last_year_at_no_cost();
+    widest_draws();
+}
+
 int main(void)
 {
     values();
@@ -1017,10 +1273,12 @@ int main(void)
     cap_over_years();
     cap_and_most_money();
     cap_and_wide_tie();
+    drawn_ties();
     widest_ties();
     valuation_only_year();
     refusals_of_round_a();
     refusals_of_round_a_with_cap();
+    refusals_of_round_a_drawn();
     cuts_of_round_a();
     order_of_refusals();
     largest_file();

@@ -3,7 +3,7 @@
  * expected LAST KINDS: prints how often each kind of working occurs in the
  * texts of the seeds 1 to LAST, and fails if one never does.
  *
- * The values are worked out from document 01, with CR 5 and 11 of 02, alone,
+ * The values are worked out from document 01, with CR 5, 6 and 11 of 02, alone,
  * with no code of the library or the judge, so that a slip of theirs is not made here too. */
 #include <stdbool.h>
 #include <stdint.h>
@@ -81,7 +81,7 @@ enum { YEARS = 8, DELIVERY = 4, MOST_POTS = 4, TECHNOLOGIES = 32, APPLICATIONS =
 enum { BIDS_EACH = 4, MOST_BIDS_A_YEAR = 3, BIDS = APPLICATIONS * BIDS_EACH };
 enum { MOST_PRICE = 500000, MOST_CAPACITY = 300000, ONE = 10000, PRICE_STEP = 10 };
 enum { COMMON_DAYS = 365, LEAP_DAYS = 366, HOURS_A_DAY = 24 };
-enum { MOST_CAP = 20000000, WITH_CAPS = 32768 };
+enum { MOST_CAP = 20000000, WITH_CAPS = 32768, WITH_DRAWN = 16384 };
 #define MOST_BUDGET 1000000000000u
 #define NO_CAP UINT32_MAX
 
@@ -109,8 +109,8 @@ struct round {
     uint32_t pots;
     struct year year[YEARS];
     uint64_t budget[MOST_POTS][YEARS];
-    bool with_caps;
-    uint32_t cap[MOST_POTS];
+    bool with_caps, with_drawn;
+    uint32_t cap[MOST_POTS], drawn[MOST_POTS];
     struct technology technology[TECHNOLOGIES];
     struct application application[APPLICATIONS];
     struct bid bid[BIDS];
@@ -145,6 +145,15 @@ static void make_caps(struct round *round)
     round->with_caps = chance(rng, 50);
     for (unsigned p = 0; p < round->pots; p++)
         round->cap[p] = chance(rng, 25) ? NO_CAP : factor(rng, ANY, 0, MOST_CAP);
+}
+
+/* Nor any drawn number, which stands after a cap: four bytes more. */
+static void make_drawn_numbers(struct round *round)
+{
+    struct rng *rng = &round->rng;
+    round->with_drawn = round->with_caps && chance(rng, 50);
+    for (unsigned p = 0; p < round->pots; p++)
+        round->drawn[p] = factor(rng, ANY, 0, UINT32_MAX);
 }
 
 /* References come later: they are set by the prices that are bid. */
@@ -318,6 +327,7 @@ static void make_round(struct round *round, uint64_t seed)
         for (unsigned y = 0; y < YEARS; y++)
             round->technology[t].reference[y] = some_reference(round, t);
     make_caps(round);
+    make_drawn_numbers(round);
 }
 
 /* ---- the file ---- */
@@ -336,12 +346,14 @@ static void write_years_and_pots(const struct round *round)
         put(y < DELIVERY, 2);
         put(round->year[y].tlm, 2);
     }
-    put(round->pots + (round->with_caps ? WITH_CAPS : 0), 2);
+    put(round->pots + (round->with_caps ? WITH_CAPS : 0) + (round->with_drawn ? WITH_DRAWN : 0), 2);
     for (unsigned p = 0; p < round->pots; p++) {
         for (unsigned y = 0; y < YEARS; y++)
             put(round->budget[p][y], 8);
         if (round->with_caps)
             put(round->cap[p], 4);
+        if (round->with_drawn)
+            put(round->drawn[p], 4);
     }
 }
 
@@ -571,7 +583,7 @@ enum { KIND_COUNT = 0 KINDS(ONE_EACH) };
 
 static uint64_t of_kind[KIND_COUNT], of_digits[MOST_DIGITS + 1];
 static uint64_t nothing_over[LINES], something_over[LINES];
-static uint64_t with_caps, without_caps;
+static uint64_t with_drawn_numbers, with_caps_alone, without_caps;
 static bool missing;
 
 static unsigned digits_of(wide number)
@@ -608,7 +620,8 @@ static void count_working(const struct working *w)
 
 static void count_round(const struct round *round)
 {
-    with_caps += round->with_caps;
+    with_drawn_numbers += round->with_drawn;
+    with_caps_alone += round->with_caps && !round->with_drawn;
     without_caps += !round->with_caps;
     for (unsigned b = 0; b < BIDS; b++)
         for (unsigned y = 0; y < YEARS; y++) {
@@ -642,7 +655,8 @@ static void print_kinds(void)
         snprintf(name, sizeof name, "product of %u digits", digits);
         must_occur(name, "", of_digits[digits]);
     }
-    must_occur("rounds with caps", "", with_caps);
+    must_occur("rounds with drawn numbers", "", with_drawn_numbers);
+    must_occur("rounds with caps alone", "", with_caps_alone);
     must_occur("rounds without caps", "", without_caps);
 }
 
