@@ -2,7 +2,7 @@
 use Prim.Native.Nat.{ℕ, zero, suc, _+_, _-_, _*_}
 use mathlib.Core.List.{List}
 use lib.Dec.{ltb}
-use Rattle.rules.specs.Names.{countWidth, yearWidth, capWidth, capsAdded, potWidth, techWidth, appWidth, bidWidth}
+use Rattle.rules.specs.Names.{countWidth, yearWidth, capWidth, capsAdded, drawnWidth, drawnAdded, potWidth, techWidth, appWidth, bidWidth}
 use Rattle.rules.specs.Lists.{pick}
 use Rattle.rules.specs.Bytes.{le, part}
 use Rattle.rules.specs.declared.Sections.{Sections}
@@ -21,19 +21,28 @@ unfoldable pub deliveries : List ℕ → ℕ → ℕ
 deliveries s zero = 0
 deliveries s (suc n) = deliveries s n + yearAt s n .kind
 
--- "the pots count of such a file has 32,768 added" (02, CR 5): how many pots a count tells, and how many bytes of cap each pot's record then has
+-- "the pots count of such a file has 32,768 added" (02, CR 5), "has 16,384 added as well" (02, CR 6): one of three by what a count of pots has added. "16,384
+-- added without 32,768 is refusal 2": then the count is taken as it stands, and is too high
+abbrev pub byAdded : {A : Type 0} → (count : ℕ) → (nothing caps both : A) → A
+byAdded n nothing caps both = pick (ltb n capsAdded) nothing (pick (ltb n (capsAdded + drawnAdded)) caps both)
+
+-- how many pots a count tells, and how many bytes each pot's record has then gained
 unfoldable pub potsTold : (count : ℕ) → ℕ
-potsTold n = pick (ltb n capsAdded) n (n - capsAdded)
+potsTold n = byAdded n n (n - capsAdded) (n - (capsAdded + drawnAdded))
 
-unfoldable pub capTold : (count : ℕ) → ℕ
-capTold n = pick (ltb n capsAdded) 0 capWidth
+unfoldable pub gainedTold : (count : ℕ) → ℕ
+gainedTold n = byAdded n 0 capWidth (capWidth + drawnWidth)
 
--- "pots: budget 8 for each year", of y years; "a 4-byte cap after its budgets" (02, CR 5), where a record has c bytes of cap
+-- "pots: budget 8 for each year", of y years; "a 4-byte cap after its budgets" (02, CR 5), "a 4-byte drawn number after the cap" (02, CR 6), where a record has
+-- gained c bytes
 abbrev pub budgetAt : (y c : ℕ) → List ℕ → (i k : ℕ) → ℕ
 budgetAt y c s i k = le 8 s (i * potWidth y c + 8 * k)
 
 abbrev pub capAt : (y c : ℕ) → List ℕ → (i : ℕ) → ℕ
 capAt y c s i = le 4 s (i * potWidth y c + 8 * y)
+
+abbrev pub drawnAt : (y c : ℕ) → List ℕ → (i : ℕ) → ℕ
+drawnAt y c s i = le 4 s (i * potWidth y c + (8 * y + capWidth))
 
 -- "technologies: pot 2, RQM 2, then for each year: administrative price 4, reference price 4, load factor 2"
 pub record Tech : Type 0 where
@@ -86,8 +95,8 @@ bidAt s i = record {
   price = le 4 s (i * bidWidth + 10);
 }
 
--- The parts of a file that its sections' records occupy, and how many records each has: y years, d of them delivery years, p pots with c bytes of cap each,
--- t technologies, n applications, b bids
+-- The parts of a file that its sections' records occupy, and how many records each has: y years, d of them delivery years, p pots that have gained c
+-- bytes each, t technologies, n applications, b bids
 pub record Round : Type 0 where
   pub years : List ℕ
   pub pots : List ℕ
@@ -139,7 +148,7 @@ sections s y c p t n b = record {
 unfoldable pub roundOf : List ℕ → Round
 roundOf s =
     let y = le countWidth s 0 in
-    let c = capTold (le countWidth s (potsAt y)) in
+    let c = gainedTold (le countWidth s (potsAt y)) in
     let p = potsTold (le countWidth s (potsAt y)) in
     let t = le countWidth s (techsAt y c p) in
     let n = le countWidth s (appsAt y c p t) in
@@ -151,7 +160,7 @@ unfoldable pub sectionsOf : Round → Sections
 sectionsOf R = record {
   years = R .y;
   deliveries = R .d;
-  «cap_width» = R .c;
+  gained = R .c;
   pots = R .p;
   technologies = R .t;
   applications = R .n;

@@ -7,5 +7,6 @@ pub mod Refusals
 pub mod Pot
 pub mod Round
 pub mod Result
+pub mod Written
 pub mod Worked
 pub mod Listing

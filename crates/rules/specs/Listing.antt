@@ -10,16 +10,17 @@ use Rattle.rules.specs.Names.{administrative, auctioned, noPrice, noBid}
 use Rattle.rules.specs.Lists.{pick, given, both, when, never, one-more, every, howMany, sum}
 use Rattle.rules.specs.Bytes.{le, bytes, each}
 use Rattle.rules.specs.Value.{exactParts, hoursOf}
-use Rattle.rules.specs.File.{Round, deliveries, potsTold, capTold, sections, roundOf, sectionsOf}
+use Rattle.rules.specs.File.{Round, deliveries, potsTold, gainedTold, sections, roundOf, sectionsOf}
 use Rattle.rules.specs.Refusals.{orElse, orFault, scan, countFault, recordFault, section, yearFault, potFault, techFault, appFault, sevenOf, eightOf}
 use Rattle.rules.specs.Refusals.{nineOf, bidFault, elevenOf, judged, reading}
-use Rattle.rules.specs.Pot.{Pot, winners, downs, seen, closed, hanging, wideEnd, mark, atMost, best, value, priceFrom, tally, within, live, least, lowest}
-use Rattle.rules.specs.Pot.{taken, follows, remaining, rank, combination, chosen, choose, tied, alone, lost, look, run, auction, adminTotal}
-use Rattle.rules.specs.Pot.{adminCapacity, adminFits}
+use Rattle.rules.specs.Pot.{Pot, winners, downs, seen, closed, hanging, wideEnd, mark, divided, goesOn, atMost, best, all, atPlace, value, priceFrom}
+use Rattle.rules.specs.Pot.{tally, within, live, least, lowest, taken, follows, remaining, rank, combination, topNumber, full, keeps, kept, number}
+use Rattle.rules.specs.Pot.{chosen, choose, waysOf, tied, alone, lost, look, run, auction, adminTotal, adminCapacity, adminFits}
 use Rattle.rules.specs.Pot.{outcome, priceIn, totalIn, paid, unlookedReason, auctionReason, reason, silent, automaticReason, winnersOf}
-use Rattle.rules.specs.Round.{energyOf, costOf, assemble, atAdminPrice, mine, appMine, rowFor, capOf, potOf}
+use Rattle.rules.specs.Round.{energyOf, costOf, assemble, atAdminPrice, mine, appMine, rowFor, capOf, drawnOf, potOf}
 use Rattle.rules.specs.Result.{told, toldIn, appTold, potAt}
-use Rattle.rules.specs.Worked.{nums, joined, counted, roundA, silence}
+use Rattle.rules.specs.Written.{nums, joined, counted}
+use Rattle.rules.specs.Worked.{roundA, silence}
 use Rattle.rules.specs.declared.Reading.{Reading}
 use Rattle.rules.specs.declared.Reading.the-variants.{Accepted, Refused}
 
@@ -141,9 +142,10 @@ pub listed :
     × (decimal 9876543210 ≡ ascii "9876543210")
     × (decimal 10 ≡ ascii "10")
 unfolding decimalIn decimal outcomeWord priceWord bidWord potLine yearLine wonLine lostLine appLine bidLine refusalLine priceListed potLines appLineOf
-    roundLines listingFor listingOf nums joined counted given both when never one-more every howMany sum le bytes each exactParts hoursOf deliveries
-    potsTold capTold sections roundOf sectionsOf orElse orFault scan countFault recordFault section yearFault potFault techFault appFault sevenOf eightOf nineOf bidFault
-    elevenOf judged reading winners downs seen closed hanging wideEnd mark atMost best value priceFrom tally within live least lowest taken follows remaining
-    rank combination chosen choose tied alone lost look run auction adminTotal adminCapacity adminFits outcome priceIn totalIn paid unlookedReason auctionReason
-    reason silent automaticReason winnersOf energyOf costOf assemble atAdminPrice mine appMine rowFor capOf potOf told toldIn appTold decLe decLt ℕ-discrete
+    roundLines listingFor listingOf nums joined counted given both when never one-more every howMany sum le bytes each exactParts hoursOf deliveries potsTold
+    gainedTold sections roundOf sectionsOf orElse orFault scan countFault recordFault section yearFault potFault techFault appFault sevenOf eightOf nineOf
+    bidFault elevenOf judged reading winners downs seen closed hanging wideEnd mark divided goesOn atMost best all atPlace value priceFrom tally within live
+    least lowest taken follows remaining rank combination topNumber full keeps kept number chosen choose waysOf tied alone lost look run auction adminTotal
+    adminCapacity adminFits outcome priceIn totalIn paid unlookedReason auctionReason reason silent automaticReason winnersOf energyOf costOf assemble
+    atAdminPrice mine appMine rowFor capOf drawnOf potOf told toldIn appTold decLe decLt ℕ-discrete
 listed = (refl, refl, refl, refl, refl, refl)

@@ -78,8 +78,15 @@ capWidth = 4
 abbrev pub capsAdded : ℕ
 capsAdded = 32768
 
--- of so many years, and with so many bytes of cap: `capWidth`, or none
-abbrev pub potWidth : (years cap : ℕ) → ℕ
+-- "The pot gains a 4-byte drawn number after the cap (the pots count has 16,384 added as well)" (02, CR 6)
+abbrev pub drawnWidth : ℕ
+drawnWidth = 4
+
+abbrev pub drawnAdded : ℕ
+drawnAdded = 16384
+
+-- of so many years, and with so many bytes gained: those of a cap, of a cap and a drawn number, or none
+abbrev pub potWidth : (years gained : ℕ) → ℕ
 potWidth y c = 8 * y + c
 
 abbrev pub techWidth : (years : ℕ) → ℕ

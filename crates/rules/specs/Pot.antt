@@ -2,7 +2,7 @@
 -- The state of an auction is its trace: what each step did, the newest first. All else is read off the trace, so that
 -- what had won "by the end of the step that turned it down" is `winners` of the trace from that step on.
 use Prim.Native.Nat.{ℕ, zero, suc, _+_, _-_, _/_, _%_, _^_, min}
-use mathlib.Core.Bool.{Bool, true, false, not, _&&_}
+use mathlib.Core.Bool.{Bool, true, false, not, _&&_, _||_}
 use mathlib.Core.Option.{Option, none, some}
 use mathlib.Core.List.{List, [], _∷_, _++_, map}
 use lib.Dec.{eqb, leb, ltb}
@@ -10,13 +10,13 @@ use lib.ListN.{length}
 use Rattle.rules.specs.Names.{administrative, auctioned, tooWide, widestTie, noPrice, noReason, becauseWon, downAlone, downTied, unlookedWon}
 use Rattle.rules.specs.Names.{unlookedElse, becauseAdministrative, becauseTooWide, becauseSilent}
 use Rattle.rules.specs.Value.{ceilDiv}
-use Rattle.rules.specs.Lists.{pick, memb, sift, sum}
+use Rattle.rules.specs.Lists.{pick, memb, sift, below, sum}
 
 -- "Pots are cleared apart": what the clearing of one pot reads. `bids` are the numbers of its sealed bids, `apps` those of its applications; years are numbered
 -- below `years`; `cost b p y` is the exact cost in parts of bid b in year y where the clearing price of its start year is p, with `scale` parts to the penny;
 -- `budget y` is in pence; `admin` is the administrative price of a bid's technology in its start year, and `capacity` the bid's capacity; `cap` is the most
--- capacity of all winners, where there is a cap. Of application a `adminPrice` is its administrative price, `adminCost a y` the exact cost in parts of its own
--- capacity, year and days at that price, and `appCapacity` its own capacity.
+-- capacity of all winners, where there is a cap, and `drawn` the number drawn for its ties, where there is one. Of application a `adminPrice` is its
+-- administrative price, `adminCost a y` the exact cost in parts of its own capacity, year and days at that price, and `appCapacity` its own capacity.
 pub record Pot : Type 0 where
   pub bids : List ℕ
   pub apps : List ℕ
@@ -31,12 +31,14 @@ pub record Pot : Type 0 where
   pub admin : ℕ → ℕ
   pub capacity : ℕ → ℕ
   pub cap : Option ℕ
+  pub drawn : Option ℕ
   pub adminPrice : ℕ → ℕ
   pub adminCost : ℕ → ℕ → ℕ
   pub appCapacity : ℕ → ℕ
 
 -- What a step did: the bids that it let win, those that it turned down and the reason that they are given, the years that it closed, and the year that it
--- left open though it turned a bid down there, since the next look is at the same application's next bid (2); whether more bids remained than are searched (3)
+-- left open though it turned a bid down there, since the next look is at the same application's next bid (2); whether more bids remained than are searched (3);
+-- among how many combinations it chose, 1 where there was nothing to choose
 pub record Event : Type 0 where
   pub wins : List ℕ
   pub downs : List ℕ
@@ -44,6 +46,7 @@ pub record Event : Type 0 where
   pub closes : List ℕ
   pub hangs : List ℕ
   pub wide : Bool
+  pub ways : ℕ
 
 abbrev pub Trace : Type 0
 Trace = List Event
@@ -82,6 +85,15 @@ unfoldable pub mark : Trace → ℕ → ℕ
 mark [] b = noReason
 mark (e ∷ s) b = pick (memb b (e .wins)) becauseWon (pick (memb b (e .downs)) (e .why) (mark s b))
 
+-- "go on with the drawn number divided by m, the rest dropped" (02, CR 6); and after all the steps of a trace
+unfoldable pub divided : Option ℕ → (m : ℕ) → Option ℕ
+divided none m = none
+divided (some d) m = some (d / m)
+
+unfoldable pub goesOn : Option ℕ → Trace → Option ℕ
+goesOn d [] = d
+goesOn d (e ∷ s) = divided (goesOn d s) (e .ways)
+
 -- "equal fits": a number is not above a limit, where there is one
 unfoldable pub atMost : Option ℕ → ℕ → Bool
 atMost none n = true
@@ -96,6 +108,16 @@ has m i = eqb (m / 2 ^ i % 2) 1
 unfoldable pub best : (ℕ → Bool) → (ℕ → ℕ) → ℕ → ℕ
 best ok figure zero = 0
 best ok figure (suc n) = let r = best ok figure n in pick (ok n && leb (figure r) (figure n)) n r
+
+-- does every one of a list pass a test?
+unfoldable pub all : (ℕ → Bool) → List ℕ → Bool
+all ok [] = true
+all ok (x ∷ l) = ok x && all ok l
+
+-- "in order of combination number from the smallest .. counting from 0" (02, CR 6): of numbers listed the largest first, the one at place k, with k behind it
+unfoldable pub atPlace : (k : ℕ) → List ℕ → ℕ
+atPlace k [] = 0
+atPlace k (x ∷ l) = pick (eqb (length l) k) x (atPlace k l)
 
 module _ (P : Pot) where
   -- "Round each value up to a penny" (02, CR 11): "the exact cost rounded up once", to whole pence
@@ -168,11 +190,11 @@ module _ (P : Pot) where
 
   -- "all win"; and where the look was a further one of 2, "it wins and the year closes"
   abbrev pub won : Trace → List ℕ → Event
-  won s l = record { wins = l; downs = []; why = downAlone; closes = hanging s; hangs = []; wide = false }
+  won s l = record { wins = l; downs = []; why = downAlone; closes = hanging s; hangs = []; wide = false; ways = 1 }
 
   -- b is turned down alone
   abbrev pub down : ℕ → List ℕ → List ℕ → Event
-  down b close hang = record { wins = []; downs = b ∷ []; why = downAlone; closes = close; hangs = hang; wide = false }
+  down b close hang = record { wins = []; downs = b ∷ []; why = downAlone; closes = close; hangs = hang; wide = false; ways = 1 }
 
   -- "the sole next lowest live bid of the whole pot is of the same application and year"
   unfoldable pub follows : ℕ → List ℕ → Bool
@@ -192,13 +214,48 @@ module _ (P : Pot) where
   unfoldable pub combination : List ℕ → ℕ → List ℕ
   combination r m = sift (λ b. has m (rank r b)) r
 
-  -- "choose the fitting combination whose total in the last year of the file is greatest; if none remain, none is chosen. Among equals, the one holding the
-  -- lowest-draw bid on which they differ": the one with the largest number. "Closest to the budget still means money" (02, CR 5): the total, not the capacity
-  unfoldable pub chosen : List ℕ → List ℕ → List ℕ
-  chosen ws r = combination r (best (λ m. fits (combination r m ++ ws)) (λ m. total (combination r m ++ ws) (P .years - 1)) (2 ^ length r))
+  -- of the bids r that remain beside the winners ws: does combination m fit, and what is its "total in the last year of the file"? "Closest to the budget still
+  -- means money" (02, CR 5): the total, not the capacity
+  abbrev pub fitsAt : (ws r : List ℕ) → (m : ℕ) → Bool
+  fitsAt ws r m = fits (combination r m ++ ws)
 
-  unfoldable pub choose : List ℕ → List ℕ → List ℕ
-  choose ws l = chosen ws (remaining ws l)
+  abbrev pub lastAt : (ws r : List ℕ) → (m : ℕ) → ℕ
+  lastAt ws r m = total (combination r m ++ ws) (P .years - 1)
+
+  -- "choose the fitting combination whose total in the last year of the file is greatest; if none remain, none is chosen. Among equals, the one holding the
+  -- lowest-draw bid on which they differ": the one with the largest number
+  unfoldable pub topNumber : (ws r : List ℕ) → ℕ
+  topNumber ws r = best (fitsAt ws r) (lastAt ws r) (2 ^ length r)
+
+  -- "no other tied bid can be added and still fit" (02, CR 6), to combination m: of those that remain, for one that does not fit alone can never be added
+  unfoldable pub full : (ws r : List ℕ) → (m : ℕ) → Bool
+  full ws r m = all (λ c. memb c (combination r m) || not (fits (c ∷ (combination r m ++ ws)))) r
+
+  -- "Among the best combinations keep those to which no other tied bid can be added and still fit" (02, CR 6): combination m, `most` being the greatest total
+  unfoldable pub keeps : (ws r : List ℕ) → (most m : ℕ) → Bool
+  keeps ws r most m = fitsAt ws r m && (eqb (lastAt ws r m) most && full ws r m)
+
+  unfoldable pub kept : (ws r : List ℕ) → List ℕ
+  kept ws r = sift (keeps ws r (lastAt ws r (topNumber ws r))) (below (2 ^ length r))
+
+  -- "If there are m, .. take the one at place (drawn number mod m)"; "Without drawn numbers the rule of 01 stands" (02, CR 6)
+  unfoldable pub number : Option ℕ → (ws r : List ℕ) → ℕ
+  number none ws r = topNumber ws r
+  number (some d) ws r = let l = kept ws r in atPlace (d % length l) l
+
+  unfoldable pub chosen : Option ℕ → (ws r : List ℕ) → List ℕ
+  chosen d ws r = combination r (number d ws r)
+
+  unfoldable pub choose : Option ℕ → (ws l : List ℕ) → List ℕ
+  choose d ws l = chosen d ws (remaining ws l)
+
+  -- "If there are m": among how many a tie is drawn
+  unfoldable pub waysOf : (ws l : List ℕ) → ℕ
+  waysOf ws l = length (kept ws (remaining ws l))
+
+  -- the number that the pot's next tie is drawn by
+  abbrev pub drawnAfter : Trace → Option ℕ
+  drawnAfter s = goesOn (P .drawn) s
 
   abbrev pub others : List ℕ → List ℕ → List ℕ
   others l ch = sift (λ b. not (memb b ch)) l
@@ -206,13 +263,13 @@ module _ (P : Pot) where
   -- "All others taken are turned down and their years close"
   abbrev pub shared : Trace → List ℕ → Event
   shared s l =
-      let ch = choose (winners s) l in
+      let ch = choose (drawnAfter s) (winners s) l in
       let out = others l ch in
-      record { wins = ch; downs = out; why = downTied; closes = map (P .yr) out; hangs = []; wide = false }
+      record { wins = ch; downs = out; why = downTied; closes = map (P .yr) out; hangs = []; wide = false; ways = waysOf (winners s) l }
 
   -- "If more than 10 remain, outcome 2": the step that ends the pot
   abbrev pub endedWide : Event
-  endedWide = record { wins = []; downs = []; why = downTied; closes = []; hangs = []; wide = true }
+  endedWide = record { wins = []; downs = []; why = downTied; closes = []; hangs = []; wide = true; ways = 1 }
 
   -- 3, of several bids
   unfoldable pub tied : Trace → List ℕ → Event

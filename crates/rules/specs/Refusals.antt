@@ -39,7 +39,7 @@ unfoldable pub scan : (fault : ℕ → ℕ) → (width base i k : ℕ) → Readi
 scan fault width base i zero r = r
 scan fault width base i (suc k) r = orElse (fault i) (base + i * width) (scan fault width base (i + 1) k r)
 
--- how many records a count tells: as many as it says, but for the pots', which may tell of caps as well (`potsTold`)
+-- how many records a count tells: as many as it says, but for the pots', which may tell of caps and drawn numbers as well (`potsTold`)
 abbrev pub plain : (count : ℕ) → ℕ
 plain n = n
 
@@ -77,7 +77,7 @@ yearFault years i =
 abbrev pub capRight? : (n : ℕ) → Dec ((n ≡ noCap → ⊥) → n ≤ highestCap)
 capRight? n = when (never (ℕ-discrete n noCap)) (decLe n highestCap)
 
--- 4: "a budget above 1,000,000,000,000"; "also covers a cap out of range" (02, CR 5), where a record has c bytes of cap
+-- 4: "a budget above 1,000,000,000,000"; "also covers a cap out of range" (02, CR 5), where a record has gained c bytes
 unfoldable pub potFault : (y c : ℕ) → List ℕ → ℕ → ℕ
 potFault y c pots i = given (both (every y (λ k. decLe (budgetAt y c pots i k) highestBudget)) (when (decLt 0 c) (capRight? (capAt y c pots i)))) 0 potBroken
 

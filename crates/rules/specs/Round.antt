@@ -5,9 +5,9 @@ use mathlib.Core.Option.{Option, none, some}
 use mathlib.Core.List.{List}
 use lib.Dec.{eqb, ltb}
 use Rattle.rules.specs.Lists.{pick, sift, below}
-use Rattle.rules.specs.Names.{pencePerPound, noCap}
+use Rattle.rules.specs.Names.{pencePerPound, noCap, capWidth}
 use Rattle.rules.specs.Value.{exactParts, hoursOf, penny}
-use Rattle.rules.specs.File.{Round, Tech, App, Bid, yearAt, budgetAt, capAt, techAt, appAt, bidAt}
+use Rattle.rules.specs.File.{Round, Tech, App, Bid, yearAt, budgetAt, capAt, drawnAt, techAt, appAt, bidAt}
 use Rattle.rules.specs.Pot.{Pot}
 
 -- what the clearing reads of one bid, or of an application at its administrative price: its own fields, the draw of its application, and the figures of its
@@ -32,9 +32,9 @@ energyOf years b y = hoursOf y (b .year) (b .days) (yearAt years y .days) * b .c
 unfoldable pub costOf : (years : List ℕ) → Row → (price y : ℕ) → ℕ
 costOf years r price y = exactParts (min price (r .admin)) (r .reference y) (r .load y) (energyOf years (r .bid) y) (yearAt years y .tlm) (r .rqm)
 
--- a pot of y years from the numbers of its bids and of its applications, their rows, its budgets in pence and its cap
-unfoldable pub assemble : (years : List ℕ) (y : ℕ) (bids apps : List ℕ) → (row adminRow : ℕ → Row) → (budget : ℕ → ℕ) → (cap : Option ℕ) → Pot
-assemble years y bids apps row adminRow budget cap = record {
+-- a pot of y years from the numbers of its bids and of its applications, their rows, its budgets in pence, its cap and its drawn number
+unfoldable pub assemble : (years : List ℕ) (y : ℕ) (bids apps : List ℕ) → (row adminRow : ℕ → Row) → (budget : ℕ → ℕ) → (cap drawn : Option ℕ) → Pot
+assemble years y bids apps row adminRow budget cap drawn = record {
   bids = bids;
   apps = apps;
   years = y;
@@ -48,6 +48,7 @@ assemble years y bids apps row adminRow budget cap = record {
   admin = λ k. row k .admin;
   capacity = λ k. row k .bid .capacity;
   cap = cap;
+  drawn = drawn;
   adminPrice = λ a. adminRow a .admin;
   adminCost = λ a y. costOf years (adminRow a) (adminRow a .admin) y;
   appCapacity = λ a. adminRow a .bid .capacity;
@@ -93,10 +94,14 @@ module _ (R : Round) where
       let n = capAt (R .y) (R .c) (R .pots) p in
       pick (ltb 0 (R .c)) (pick (eqb n noCap) none (some n)) none
 
+  -- "The pot gains a 4-byte drawn number" (02, CR 6): pot p's. A file without drawn numbers has none
+  unfoldable pub drawnOf : (p : ℕ) → Option ℕ
+  drawnOf p = pick (ltb capWidth (R .c)) (some (drawnAt (R .y) (R .c) (R .pots) p)) none
+
   -- "Pots are cleared apart"; "an application without a sealed bid takes no part in the auction" (02, CR 8): the auction's bids are the file's
   unfoldable pub potOf : ℕ → Pot
   potOf p =
       assemble (R .years) (R .y) (sift (mine p) (below (R .b))) (sift (appMine p) (below (R .n)))
       (λ k. pick (mine p k) (rowFor (bidAt (R .bids) k)) blank)
       (λ a. pick (appMine p a) (rowFor (atAdminPrice a)) blank)
-      (budgetOf p) (capOf p)
+      (budgetOf p) (capOf p) (drawnOf p)

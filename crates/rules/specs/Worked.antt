@@ -1,111 +1,29 @@
 -- The worked cases of document 01, restated in pence (02, CR 11), from the file's bytes to the result's, as rows under a single theorem; and rows of our own
 -- for what they leave open. Assumes nothing.
-use Prim.Native.Nat.{ℕ, zero, suc, _+_, _*_, _/_, _^_}
+use Prim.Native.Nat.{ℕ, _+_, _*_, _/_, _^_}
 use mathlib.Core.Path.{_≡_, refl}
 use mathlib.Core.List.{List, [], _∷_, _++_}
 use native.Mathlib.Decide.{decLe, decLt, ℕ-discrete}
 use lib.ListN.{length, replicate}
-use Rattle.rules.specs.Names.{capsAdded, noCap, noPrice}
+use Rattle.rules.specs.Names.{noCap, noPrice}
 use Rattle.rules.specs.Lists.{given, both, when, never, one-more, every, howMany, sum}
 use Rattle.rules.specs.Bytes.{le, bytes, each, onto}
 use Rattle.rules.specs.Value.{exactParts, hoursOf}
-use Rattle.rules.specs.File.{deliveries, potsTold, capTold, sections, roundOf, sectionsOf}
+use Rattle.rules.specs.File.{deliveries, potsTold, gainedTold, sections, roundOf, sectionsOf}
 use Rattle.rules.specs.Refusals.{orElse, orFault, scan, countFault, recordFault, section, yearFault, potFault, techFault, appFault, sevenOf, eightOf}
 use Rattle.rules.specs.Refusals.{nineOf, bidFault, elevenOf, judged, reading, refusal, place}
-use Rattle.rules.specs.Pot.{winners, downs, seen, closed, hanging, wideEnd, mark, atMost, best, value, priceFrom, tally, within, live, least, lowest}
-use Rattle.rules.specs.Pot.{taken}
-use Rattle.rules.specs.Pot.{follows, remaining, rank, combination, chosen, choose, tied, alone, lost, look, run, auction, adminTotal, adminCapacity}
-use Rattle.rules.specs.Pot.{adminFits, outcome}
+use Rattle.rules.specs.Pot.{winners, downs, seen, closed, hanging, wideEnd, mark, divided, goesOn, atMost, best, all, atPlace, value, priceFrom, tally}
+use Rattle.rules.specs.Pot.{within, live, least, lowest, taken, follows, remaining, rank, combination, topNumber, full, keeps, kept, number, chosen}
+use Rattle.rules.specs.Pot.{choose, waysOf, tied, alone, lost, look, run, auction, adminTotal, adminCapacity, adminFits, outcome}
 use Rattle.rules.specs.Pot.{priceIn, totalIn, paid, unlookedReason, auctionReason, reason, silent, automaticReason, winnersOf}
-use Rattle.rules.specs.Round.{energyOf, costOf, assemble, atAdminPrice, mine, appMine, rowFor, capOf, potOf}
+use Rattle.rules.specs.Round.{energyOf, costOf, assemble, atAdminPrice, mine, appMine, rowFor, capOf, drawnOf, potOf}
 use Rattle.rules.specs.Result.{told, toldIn, appTold, appBytes, potBytes, bidBytes, potsPart, appsPart, bidsPart, resultBytes, needed, answerTo, answerOf}
 use Rattle.rules.specs.Result.{after, clearOf, refusedAs, refusedAt, codeOf, lengthTo, lengthOf}
+use Rattle.rules.specs.Written.{nums, joined, counted, times, yearWith, year, budgets, figuresWith, figures, tech, appWith, bidWith, app, bid, file}
+use Rattle.rules.specs.Written.{single, potUnder, potsUnder, singleUnder, potDrawn, potsDrawn, singleDrawn, potTold, lineWith, line, result}
 use Rattle.rules.specs.declared.Answer.the-variants.{Cleared, Refused}
 
--- ---- files and results, from their numbers
-
--- numbers of w bytes each
-unfoldable pub nums : ℕ → List ℕ → List ℕ
-nums w [] = []
-nums w (x ∷ l) = bytes w x ++ nums w l
-
--- records one after the other; and after their count
-unfoldable pub joined : List (List ℕ) → List ℕ
-joined [] = []
-joined (x ∷ l) = x ++ joined l
-
-unfoldable pub counted : List (List ℕ) → List ℕ
-counted l = bytes 2 (length l) ++ joined l
-
--- n records alike but for their number
-unfoldable pub times : ℕ → (ℕ → List ℕ) → List (List ℕ)
-times zero f = []
-times (suc n) f = times n f ++ (f n ∷ [])
-
-abbrev pub yearWith : (days kind tlm : ℕ) → List ℕ
-yearWith days kind tlm = nums 2 (days ∷ kind ∷ tlm ∷ [])
-
--- "years 0 and 1, both delivery, 365 days, TLM 0"
-abbrev pub year : List ℕ
-year = yearWith 365 1 0
-
-abbrev pub budgets : List ℕ → List ℕ
-budgets l = nums 8 l
-
-abbrev pub figuresWith : (admin reference load : ℕ) → List ℕ
-figuresWith admin reference load = nums 4 (admin ∷ reference ∷ []) ++ bytes 2 load
-
--- "administrative 20,000, reference 0, load and RQM 10,000"
-abbrev pub figures : List ℕ
-figures = figuresWith 20000 0 10000
-
-abbrev pub tech : (pot rqm : ℕ) → List (List ℕ) → List ℕ
-tech pot rqm years = nums 2 (pot ∷ rqm ∷ []) ++ joined years
-
-abbrev pub appWith : (tech year days draw capacity cost : ℕ) → List ℕ
-appWith t y days draw capacity cost = (nums 2 (t ∷ y ∷ days ∷ draw ∷ []) ++ nums 4 (capacity ∷ [])) ++ nums 8 (cost ∷ [])
-
-abbrev pub bidWith : (a year days capacity price : ℕ) → List ℕ
-bidWith a y days capacity price = nums 2 (a ∷ y ∷ days ∷ []) ++ nums 4 (capacity ∷ price ∷ [])
-
--- of technology 0, for 365 days
-abbrev pub app : (year draw capacity : ℕ) → List ℕ
-app y draw capacity = appWith 0 y 365 draw capacity 0
-
-abbrev pub bid : (a year capacity price : ℕ) → List ℕ
-bid a y capacity price = bidWith a y 365 capacity price
-
-abbrev pub file : (years pots techs apps bids : List (List ℕ)) → List ℕ
-file years pots techs apps bids = counted years ++ (counted pots ++ (counted techs ++ (counted apps ++ counted bids)))
-
--- "year 0 alone, with round A's technology", and a budget
-abbrev pub single : (budget : ℕ) → (apps bids : List (List ℕ)) → List ℕ
-single b apps bids = file (year ∷ []) (budgets (b ∷ []) ∷ []) (tech 0 10000 (figures ∷ []) ∷ []) apps bids
-
--- the same with a cap: "the pots count of such a file has 32,768 added" (02, CR 5)
-abbrev pub potUnder : (budgets : List ℕ) → (cap : ℕ) → List ℕ
-potUnder l cap = budgets l ++ bytes 4 cap
-
-abbrev pub potsUnder : List (List ℕ) → List ℕ
-potsUnder pots = bytes 2 (capsAdded + length pots) ++ joined pots
-
-abbrev pub singleUnder : (budget cap : ℕ) → (techs apps bids : List (List ℕ)) → List ℕ
-singleUnder b cap techs apps bids = counted (year ∷ []) ++ (potsUnder (potUnder (b ∷ []) cap ∷ []) ++ (counted techs ++ (counted apps ++ counted bids)))
-
--- what is told of a pot; of an application; and the result
-abbrev potTold : (outcome : ℕ) → (prices totals : List ℕ) → List ℕ
-potTold outcome prices totals = bytes 2 outcome ++ (nums 4 prices ++ nums 8 totals)
-
-abbrev lineWith : (won bid reason paid : ℕ) → List ℕ
-lineWith won bid reason paid = nums 2 (won ∷ bid ∷ reason ∷ []) ++ bytes 4 paid
-
-abbrev line : (won bid paid : ℕ) → List ℕ
-line won bid paid = lineWith won bid 0 paid
-
-abbrev result : (pots apps : List (List ℕ)) (reasons : List ℕ) → List ℕ
-result pots apps reasons = counted pots ++ (counted apps ++ (bytes 2 (length reasons) ++ nums 2 reasons))
-
--- the file's result is r, and the three bytes lent beyond it stay
+-- the result of a file is r, and the three bytes lent beyond it stay
 abbrev Gives : (file r : List ℕ) → Type 0
 Gives file r = clearOf file (replicate (3 + length r) 9) ≡ record { answer = Cleared (length r); exit = r ++ (9 ∷ 9 ∷ 9 ∷ []) }
 
@@ -126,8 +44,21 @@ abbrev allWin : List ℕ
 allWin = result (potTold 1 (6000 ∷ 5000 ∷ []) (10512000 ∷ 14892000 ∷ []) ∷ []) (line 1 0 6000 ∷ line 1 1 6000 ∷ line 1 2 5000 ∷ []) (1 ∷ 1 ∷ 1 ∷ [])
 
 -- "T1, T2 and F1 have year 0 alone"
+abbrev tiedApps : List (List ℕ)
+tiedApps = app 0 5 200 ∷ app 0 3 100 ∷ app 0 4 100 ∷ []
+
+abbrev tiedBids : List (List ℕ)
+tiedBids = bid 0 0 200 4000 ∷ bid 1 0 100 4000 ∷ bid 2 0 100 4000 ∷ []
+
 abbrev tiedAt : (budget : ℕ) → List ℕ
-tiedAt b = single b (app 0 5 200 ∷ app 0 3 100 ∷ app 0 4 100 ∷ []) (bid 0 0 200 4000 ∷ bid 1 0 100 4000 ∷ bid 2 0 100 4000 ∷ [])
+tiedAt b = single b tiedApps tiedBids
+
+-- their results: the first two win; the last two
+abbrev firstTwo : List ℕ
+firstTwo = result (potTold 1 (4000 ∷ []) (10512000 ∷ []) ∷ []) (line 1 0 4000 ∷ line 1 1 4000 ∷ line 0 65535 0 ∷ []) (1 ∷ 1 ∷ 3 ∷ [])
+
+abbrev lastTwo : List ℕ
+lastTwo = result (potTold 1 (4000 ∷ []) (7008000 ∷ []) ∷ []) (line 0 65535 0 ∷ line 1 1 4000 ∷ line 1 2 4000 ∷ []) (3 ∷ 1 ∷ 1 ∷ [])
 
 -- one application, whose value in year 0 is the total of the first test
 abbrev valued : (capacity price reference load tlm rqm days : ℕ) → List ℕ
@@ -153,8 +84,8 @@ Marked =
     (line 1 65535 20000 ∷ line 1 65535 20000 ∷ line 1 65535 20000 ∷ []) (6 ∷ 6 ∷ 6 ∷ []))
     × Gives (roundA 350400 525599) allWin
     -- T1, T2
-    × Gives (tiedAt 105120) (result (potTold 1 (4000 ∷ []) (10512000 ∷ []) ∷ []) (line 1 0 4000 ∷ line 1 1 4000 ∷ line 0 65535 0 ∷ []) (1 ∷ 1 ∷ 3 ∷ []))
-    × Gives (tiedAt 105119) (result (potTold 1 (4000 ∷ []) (7008000 ∷ []) ∷ []) (line 0 65535 0 ∷ line 1 1 4000 ∷ line 1 2 4000 ∷ []) (3 ∷ 1 ∷ 1 ∷ []))
+    × Gives (tiedAt 105120) firstTwo
+    × Gives (tiedAt 105119) lastTwo
     -- F1
     × Gives (single 60000 (app 0 0 200 ∷ []) (bid 0 0 200 6000 ∷ bid 0 0 100 6001 ∷ []))
     (result (potTold 1 (6001 ∷ []) (5256876 ∷ []) ∷ []) (line 1 1 6001 ∷ []) (2 ∷ 1 ∷ []))
@@ -245,10 +176,6 @@ bothAtAdmin = result (potTold 0 (noPrice ∷ []) (35040000 ∷ []) ∷ []) (line
 abbrev firstAlone : List ℕ
 firstAlone = result (potTold 1 (4000 ∷ []) (3504000 ∷ []) ∷ []) (line 1 0 4000 ∷ line 0 65535 0 ∷ []) (1 ∷ 2 ∷ [])
 
--- of the tie of T1 the last two win
-abbrev lastTwo : List ℕ
-lastTwo = result (potTold 1 (4000 ∷ []) (7008000 ∷ []) ∷ []) (line 0 65535 0 ∷ line 1 1 4000 ∷ line 1 2 4000 ∷ []) (3 ∷ 1 ∷ 1 ∷ [])
-
 abbrev Caps : Type 0
 Caps =
     -- their capacity is the cap, or no cap at all: the first test passes
@@ -260,9 +187,8 @@ Caps =
     × Gives (twoUnder 100) firstAlone
     × Gives (twoUnder 0) (result (potTold 1 (noPrice ∷ []) (0 ∷ []) ∷ []) (line 0 65535 0 ∷ line 0 65535 0 ∷ []) (2 ∷ 5 ∷ []))
     -- T1 with cap 250: the last two win; with 300 it is T1; with 199 and money for all the tie's first bid does not fit alone
-    × Gives (singleUnder 105120 250 techA (app 0 5 200 ∷ app 0 3 100 ∷ app 0 4 100 ∷ []) (bid 0 0 200 4000 ∷ bid 1 0 100 4000 ∷ bid 2 0 100 4000 ∷ [])) lastTwo
-    × Gives (singleUnder 105120 300 techA (app 0 5 200 ∷ app 0 3 100 ∷ app 0 4 100 ∷ []) (bid 0 0 200 4000 ∷ bid 1 0 100 4000 ∷ bid 2 0 100 4000 ∷ []))
-    (result (potTold 1 (4000 ∷ []) (10512000 ∷ []) ∷ []) (line 1 0 4000 ∷ line 1 1 4000 ∷ line 0 65535 0 ∷ []) (1 ∷ 1 ∷ 3 ∷ []))
+    × Gives (singleUnder 105120 250 techA tiedApps tiedBids) lastTwo
+    × Gives (singleUnder 105120 300 techA tiedApps tiedBids) firstTwo
     × Gives (singleUnder 1000000 199 techA (app 0 3 100 ∷ app 0 5 200 ∷ []) (bid 0 0 100 4000 ∷ bid 1 0 200 4000 ∷ []))
     (result (potTold 1 (4000 ∷ []) (3504000 ∷ []) ∷ []) (line 1 0 4000 ∷ line 0 65535 0 ∷ []) (1 ∷ 3 ∷ []))
     -- "Closest to the budget still means money": of two tied bids, of which one fits beside neither, the dearer wins, not the larger or the lower draw
@@ -281,6 +207,72 @@ Caps =
     × Gives (counted (year ∷ []) ++ (potsUnder (potUnder (1000000 ∷ []) noCap ∷ potUnder (1000000 ∷ []) 99 ∷ []) ++ (counted (tech 0 10000 (figures ∷ []) ∷
     tech 1 10000 (figures ∷ []) ∷ []) ++ (counted (app 0 0 100 ∷ appWith 1 0 365 1 100 0 ∷ []) ++ counted (bid 0 0 100 4000 ∷ bid 1 0 100 5000 ∷ [])))))
     (result (potTold 0 (noPrice ∷ []) (17520000 ∷ []) ∷ potTold 1 (noPrice ∷ []) (0 ∷ []) ∷ []) (line 1 65535 20000 ∷ line 0 65535 0 ∷ []) (6 ∷ 2 ∷ []))
+
+-- ---- drawn numbers (02, CR 6)
+
+-- T1 and T2 with a cap and a drawn number; beside their results of 01, the first and the last win, or the first alone
+abbrev tieDrawn : (budget cap drawn : ℕ) → List ℕ
+tieDrawn b cap drawn = singleDrawn b cap drawn techA tiedApps tiedBids
+
+abbrev firstAndLast : List ℕ
+firstAndLast = result (potTold 1 (4000 ∷ []) (10512000 ∷ []) ∷ []) (line 1 0 4000 ∷ line 0 65535 0 ∷ line 1 2 4000 ∷ []) (1 ∷ 3 ∷ 1 ∷ [])
+
+abbrev firstOfThree : List ℕ
+firstOfThree = result (potTold 1 (4000 ∷ []) (7008000 ∷ []) ∷ []) (line 1 0 4000 ∷ line 0 65535 0 ∷ line 0 65535 0 ∷ []) (1 ∷ 3 ∷ 3 ∷ [])
+
+-- two years, round A's technology in both, one pot
+abbrev twoYears : (b0 b1 drawn : ℕ) → (apps bids : List (List ℕ)) → List ℕ
+twoYears b0 b1 drawn apps bids =
+    counted (year ∷ year ∷ []) ++ (potsDrawn (potDrawn (b0 ∷ b1 ∷ []) noCap drawn ∷ [])
+    ++ (counted (tech 0 10000 (figures ∷ figures ∷ []) ∷ []) ++ (counted apps ++ counted bids)))
+
+-- so many of 1.00 MW tie in year 0, and two in year 1
+abbrev twoTies : (n b0 b1 drawn : ℕ) → List ℕ
+twoTies n b0 b1 drawn =
+    twoYears b0 b1 drawn (times n (λ i. app 0 i 100) ++ times 2 (λ i. app 1 (n + i) 100))
+    (times n (λ i. bid i 0 100 1000) ++ times 2 (λ i. bid (n + i) 1 100 1100))
+
+-- three alike, which cost nothing in the last year, where the reference price is above theirs; two fit
+abbrev worthless : (drawn : ℕ) → List ℕ
+worthless drawn =
+    counted (year ∷ yearWith 365 0 0 ∷ []) ++ (potsDrawn (potDrawn (70080 ∷ 0 ∷ []) noCap drawn ∷ [])
+    ++ (counted (tech 0 10000 (figures ∷ figuresWith 0 4001 10000 ∷ []) ∷ [])
+    ++ (counted (times 3 (λ i. app 0 i 100)) ++ counted (times 3 (λ i. bid i 0 100 4000)))))
+
+abbrev Drawn : Type 0
+Drawn =
+    -- T1: 0 takes the first and the last, 1 what 01 takes
+    Gives (tieDrawn 105120 noCap 0) firstAndLast
+    × Gives (tieDrawn 105120 noCap 1) firstTwo
+    -- T2: even, the first alone; odd, the last two; the greatest number is one like any other
+    × Gives (tieDrawn 105119 noCap 0) firstOfThree
+    × Gives (tieDrawn 105119 noCap 4294967295) lastTwo
+    -- no other bid can be added for the cap alone: T1 with money for all
+    × Gives (tieDrawn 1000000 300 0) firstAndLast
+    -- two ties: of three the one at place 1 wins, and the second tie goes on with a third of the number
+    × Gives (twoTies 3 8760 18396 1)
+    (result (potTold 1 (1000 ∷ 1100 ∷ []) (876000 ∷ 1839600 ∷ []) ∷ [])
+    (line 0 65535 0 ∷ line 1 1 1000 ∷ line 0 65535 0 ∷ line 0 65535 0 ∷ line 1 4 1100 ∷ []) (3 ∷ 1 ∷ 3 ∷ 3 ∷ 1 ∷ []))
+    -- the first tie fits together, or none of it remains, or a bid was turned down alone: the second is drawn by the number itself
+    × Gives (twoTies 2 17520 27156 1)
+    (result (potTold 1 (1000 ∷ 1100 ∷ []) (1752000 ∷ 2715600 ∷ []) ∷ []) (line 1 0 1000 ∷ line 1 1 1000 ∷ line 1 2 1100 ∷ line 0 65535 0 ∷ [])
+    (1 ∷ 1 ∷ 1 ∷ 3 ∷ []))
+    × Gives (twoTies 2 8759 9636 1)
+    (result (potTold 1 (noPrice ∷ 1100 ∷ []) (0 ∷ 963600 ∷ []) ∷ []) (line 0 65535 0 ∷ line 0 65535 0 ∷ line 1 2 1100 ∷ line 0 65535 0 ∷ [])
+    (3 ∷ 3 ∷ 1 ∷ 3 ∷ []))
+    × Gives (twoTies 1 8759 9636 1)
+    (result (potTold 1 (noPrice ∷ 1100 ∷ []) (0 ∷ 963600 ∷ []) ∷ []) (line 0 65535 0 ∷ line 1 1 1100 ∷ line 0 65535 0 ∷ []) (2 ∷ 1 ∷ 3 ∷ []))
+    -- all combinations are best where the last year costs nothing: those to which none can be added are three
+    × Gives (worthless 0)
+    (result (potTold 1 (4000 ∷ []) (7008000 ∷ 0 ∷ []) ∷ []) (line 0 65535 0 ∷ line 1 1 4000 ∷ line 1 2 4000 ∷ []) (3 ∷ 1 ∷ 1 ∷ []))
+    × Gives (worthless 1)
+    (result (potTold 1 (4000 ∷ []) (7008000 ∷ 0 ∷ []) ∷ []) (line 1 0 4000 ∷ line 0 65535 0 ∷ line 1 2 4000 ∷ []) (1 ∷ 3 ∷ 1 ∷ []))
+    -- two pots, each with its own number: of each two bids tie and one fits
+    × Gives (counted (year ∷ []) ++ (potsDrawn (potDrawn (40000 ∷ []) noCap 0 ∷ potDrawn (40000 ∷ []) noCap 1 ∷ []) ++ (counted (tech 0 10000 (figures ∷ []) ∷
+    tech 1 10000 (figures ∷ []) ∷ []) ++ (counted (app 0 0 100 ∷ app 0 1 100 ∷ appWith 1 0 365 2 100 0 ∷ appWith 1 0 365 3 100 0 ∷ [])
+    ++ counted (times 4 (λ i. bid i 0 100 4000))))))
+    (result (potTold 1 (4000 ∷ []) (3504000 ∷ []) ∷ potTold 1 (4000 ∷ []) (3504000 ∷ []) ∷ [])
+    (line 0 65535 0 ∷ line 1 1 4000 ∷ line 1 2 4000 ∷ line 0 65535 0 ∷ []) (3 ∷ 1 ∷ 1 ∷ 3 ∷ []))
 
 -- ---- files that are turned away
 
@@ -327,17 +319,22 @@ Refusals =
     × Refuses (ofYears (yearWith 365 0 0 ∷ [])) 3 2
     × Refuses (ofYears (year ∷ yearWith 365 0 0 ∷ year ∷ [])) 3 14
     × Refuses (ofYears (year ∷ year ∷ year ∷ year ∷ year ∷ [])) 3 26)
-    -- 2 of the pots with caps: none, a fifth, and 16,384 added, alone or as well; and 1 within a cap
+    -- 2 of the pots with caps: none, a fifth; and 1 within a cap
     × (Refuses (ofPots 32768 []) 2 8
     × Refuses (ofPots 32773 []) 2 8
-    × Refuses (ofPots 16385 (potUnder (1 ∷ []) 1)) 2 8
-    × Refuses (ofPots 49153 (potUnder (1 ∷ []) 1)) 2 8
     × Refuses (ofPots 32769 (budgets (1 ∷ []) ++ nums 1 (0 ∷ 0 ∷ 0 ∷ []))) 1 10)
+    -- and with drawn numbers: none, a fifth, the highest count of all, and 16,384 added without 32,768; and 1 within a drawn number
+    × (Refuses (ofPots 49152 []) 2 8
+    × Refuses (ofPots 49157 []) 2 8
+    × Refuses (ofPots 65535 []) 2 8
+    × Refuses (ofPots 16385 (potDrawn (1 ∷ []) 1 1)) 2 8
+    × Refuses (ofPots 49153 (potUnder (1 ∷ []) 1 ++ nums 1 (0 ∷ 0 ∷ 0 ∷ []))) 1 10)
     -- 4: a budget, without caps and with them; a cap above the highest, and one that is just not none
     × (Refuses (file (year ∷ []) (budgets (100000 ∷ []) ∷ budgets (1000000000001 ∷ []) ∷ []) [] [] []) 4 18
     × Refuses (ofPots 32770 (potUnder (1 ∷ []) 1 ++ potUnder (1000000000001 ∷ []) 1)) 4 22
     × Refuses (ofPots 32769 (potUnder (1 ∷ []) 20000001)) 4 10
-    × Refuses (ofPots 32770 (potUnder (1 ∷ []) noCap ++ potUnder (1 ∷ []) 4294967294)) 4 22)
+    × Refuses (ofPots 32770 (potUnder (1 ∷ []) noCap ++ potUnder (1 ∷ []) 4294967294)) 4 22
+    × Refuses (ofPots 49154 (potDrawn (1 ∷ []) noCap noCap ++ potDrawn (1 ∷ []) 20000001 0)) 4 26)
     -- 5: pot, RQM, load factor, reference, administrative price
     × (Refuses (ofTech (tech 1 10000 (figures ∷ []))) 5 20
     × Refuses (ofTech (tech 0 10001 (figures ∷ []))) 5 20
@@ -391,16 +388,14 @@ Answers =
     × ((refusal (reading (2 ∷ [])) ≡ 1) × (place (reading (counted (year ∷ []))) ≡ 8))
     × ((lengthOf (roundA 100000 100000) ≡ 68) × (lengthOf (2 ∷ []) ≡ 0))
 
-pub worked : Marked × (Own × (Caps × (Refusals × Answers)))
-unfolding times counted joined nums given both when never one-more every howMany sum le bytes each onto exactParts hoursOf deliveries potsTold capTold sections
-    roundOf sectionsOf
-    orElse orFault scan countFault recordFault section yearFault potFault techFault appFault sevenOf
-    eightOf nineOf bidFault elevenOf judged reading winners downs
-    seen closed hanging wideEnd mark atMost best value priceFrom tally within live least lowest taken follows remaining rank combination chosen choose tied
-    alone lost look run auction adminTotal adminCapacity adminFits outcome priceIn totalIn paid unlookedReason auctionReason
-    reason silent automaticReason winnersOf energyOf costOf assemble atAdminPrice mine
-    appMine rowFor capOf potOf told toldIn appTold appBytes potBytes bidBytes potsPart appsPart bidsPart resultBytes needed answerTo answerOf after clearOf
-    refusal place refusedAs refusedAt codeOf lengthTo lengthOf decLe decLt ℕ-discrete
+pub worked : Marked × (Own × (Caps × (Drawn × (Refusals × Answers))))
+unfolding times counted joined nums given both when never one-more every howMany sum le bytes each onto exactParts hoursOf deliveries potsTold gainedTold
+    sections roundOf sectionsOf orElse orFault scan countFault recordFault section yearFault potFault techFault appFault sevenOf eightOf nineOf bidFault
+    elevenOf judged reading winners downs seen closed hanging wideEnd mark divided goesOn atMost best all atPlace value priceFrom tally within live least
+    lowest taken follows remaining rank combination topNumber full keeps kept number chosen choose waysOf tied alone lost look run auction adminTotal
+    adminCapacity adminFits outcome priceIn totalIn paid unlookedReason auctionReason reason silent automaticReason winnersOf energyOf costOf assemble
+    atAdminPrice mine appMine rowFor capOf drawnOf potOf told toldIn appTold appBytes potBytes bidBytes potsPart appsPart bidsPart resultBytes needed answerTo
+    answerOf after clearOf refusal place refusedAs refusedAt codeOf lengthTo lengthOf decLe decLt ℕ-discrete
 worked = (
   (refl, refl, refl, refl, refl, refl, refl, refl, refl, refl, refl, refl, refl, refl),
   (
@@ -408,22 +403,26 @@ worked = (
     (
       (refl, refl, refl, refl, refl, refl, refl, refl, refl, refl, refl, refl, refl, refl),
       (
+        (refl, refl, refl, refl, refl, refl, refl, refl, refl, refl, refl, refl),
         (
-          (refl, refl, refl),
-          (refl, refl, refl, refl, refl, refl, refl, refl),
-          (refl, refl, refl, refl, refl, refl, refl),
-          (refl, refl, refl, refl, refl),
-          (refl, refl, refl, refl),
-          (refl, refl, refl, refl, refl, refl, refl, refl),
-          (refl, refl, refl, refl, refl, refl, refl),
-          (refl, refl, refl, refl, refl, refl, refl, refl, refl, refl),
-          refl,
-          (refl, refl),
-          refl,
-          refl,
-          refl,
+          (
+            (refl, refl, refl),
+            (refl, refl, refl, refl, refl, refl, refl, refl),
+            (refl, refl, refl, refl, refl, refl, refl),
+            (refl, refl, refl),
+            (refl, refl, refl, refl, refl),
+            (refl, refl, refl, refl, refl),
+            (refl, refl, refl, refl, refl, refl, refl, refl),
+            (refl, refl, refl, refl, refl, refl, refl),
+            (refl, refl, refl, refl, refl, refl, refl, refl, refl, refl),
+            refl,
+            (refl, refl),
+            refl,
+            refl,
+            refl,
+          ),
+          ((refl, refl, refl, refl), (refl, refl), (refl, refl), (refl, refl), (refl, refl)),
         ),
-        ((refl, refl, refl, refl), (refl, refl), (refl, refl), (refl, refl), (refl, refl)),
       ),
     ),
   ),
