@@ -5,7 +5,9 @@ pub mod Bits
 pub mod Taken
 pub mod Steps
 pub mod Tie
+pub mod Kept
 pub mod Runs
+pub mod Drawn
 pub mod Demand
 pub mod Pots
 pub mod Once

@@ -1,20 +1,23 @@
 -- Two pots of which one has a single bid of an application at a lower price, to one that no other bid carries: what each takes, and what a look does. Assumes
 -- nothing but what `Lowered` says of them.
-use Prim.Native.Nat.{ℕ, _-_, _^_, _≤_, _<_}
+use Prim.Native.Nat.{ℕ, _-_, _%_, _^_, _≤_, _<_}
 use mathlib.Core.Path.{_≡_, refl, sym, ap, _∙_}
 use mathlib.Core.Bool.{Bool, true, false}
 use mathlib.Core.List.{List, [], _∷_, _++_}
+use mathlib.Core.Option.{Option, none, some}
 use native.Mathlib.Omega.{arith}
 use lib.ListN.{length}
 use lib.Dec.{eqb, leb}
 use borrow.Author.Tests.{eqb-true, eqb-false, eq-eqb, ne-eqb, leb-true, leb-false}
-use Rattle.rules.specs.Lists.{memb, sift}
+use Rattle.rules.specs.Lists.{memb, sift, below}
 use Rattle.laws_pot.specs.Lists.{case, clash, memb-join, In, here, there, memb-in, in-memb, in-none, memb-parts, sift-in, in-sift, sift-same, sift-sift}
 use Rattle.rules.specs.Pot.{Pot, Trace, winners, seen, closed, value, priceFrom, clearing, tally, summed, total, summedCapacity, fits, live, least, lowest}
-use Rattle.rules.specs.Pot.{taken, down, follows, rank, combination, remaining, chosen, choose, tied, alone, lost, look}
+use Rattle.rules.specs.Pot.{taken, down, follows, atPlace, rank, combination, remaining, fitsAt, lastAt, topNumber, full, keeps, kept, number, chosen, choose}
+use Rattle.rules.specs.Pot.{waysOf, drawnAfter, tied, alone, lost, look}
 use Rattle.laws_pot.specs.Taken.{least-le, least-met}
 use Rattle.laws_pot.specs.Money.{fitting-same}
 use Rattle.laws_pot.specs.Tie.{combination-in, best-same}
+use Rattle.laws_pot.specs.Kept.{all-same}
 
 -- the pot with other prices
 abbrev pub priced : Pot → (ℕ → ℕ) → Pot
@@ -32,6 +35,7 @@ priced P pr = record {
   admin = P .admin;
   capacity = P .capacity;
   cap = P .cap;
+  drawn = P .drawn;
   adminPrice = P .adminPrice;
   adminCost = P .adminCost;
   appCapacity = P .appCapacity;
@@ -179,32 +183,74 @@ module _ (P : Pot) (b : ℕ) (pr : ℕ → ℕ) (W : Lowered P b pr) where
   unfolding combination rank
   combination-same r m = refl
 
-  chosen-same : (ws r : List ℕ) → memb b ws ≡ false → memb b r ≡ false → chosen Q ws r ≡ chosen P ws r
-  unfolding chosen
-  chosen-same ws r w m = combination-same r _ ∙ ap (λ (k : ℕ). combination P r k) (best-same _ _ _ _ (2 ^ length r)
-      (λ k. ap (λ (l : List ℕ). fits Q (l ++ ws)) (combination-same r k) ∙ fits-same (combination P r k ++ ws) (free k))
-      (λ k. ap (λ (l : List ℕ). total Q (l ++ ws) (P .years - 1)) (combination-same r k) ∙ total-same (combination P r k ++ ws) (P .years - 1) (free k)))
-    where
-      free : (k : ℕ) → memb b (combination P r k ++ ws) ≡ false
-      free k = apart-join (combination P r k) ws
-          (case (memb b (combination P r k)) (λ t. clash (in-memb (combination-in P b k r (memb-in b (combination P r k) t))) m) (λ f. f)) w
+  combination-free : (r : List ℕ) (k : ℕ) → memb b r ≡ false → memb b (combination P r k) ≡ false
+  combination-free r k m = case (memb b (combination P r k)) (λ t. clash (in-memb (combination-in P b k r (memb-in b (combination P r k) t))) m) (λ f. f)
+
+  module _ (ws r : List ℕ) (w : memb b ws ≡ false) (m : memb b r ≡ false) where
+    free : (k : ℕ) → memb b (combination P r k ++ ws) ≡ false
+    free k = apart-join (combination P r k) ws (combination-free r k m) w
+
+    fits-at-same : (k : ℕ) → fitsAt Q ws r k ≡ fitsAt P ws r k
+    fits-at-same k = ap (λ (l : List ℕ). fits Q (l ++ ws)) (combination-same r k) ∙ fits-same (combination P r k ++ ws) (free k)
+
+    last-at-same : (k : ℕ) → lastAt Q ws r k ≡ lastAt P ws r k
+    last-at-same k =
+        ap (λ (l : List ℕ). total Q (l ++ ws) (P .years - 1)) (combination-same r k) ∙ total-same (combination P r k ++ ws) (P .years - 1) (free k)
+
+    top-same : topNumber Q ws r ≡ topNumber P ws r
+    unfolding topNumber
+    top-same = best-same _ _ _ _ (2 ^ length r) fits-at-same last-at-same
+
+    full-same : (k : ℕ) → full Q ws r k ≡ full P ws r k
+    unfolding full
+    full-same k = rw (combination-same r k) (all-same _ _ r (λ c i.
+        rw (fits-same (c ∷ (combination P r k ++ ws))
+        (apart-join (c ∷ []) (combination P r k ++ ws) (rw (ne-eqb b c (λ e. other c r i m (sym e)))) (free k)))))
+
+    keeps-same : (x k : ℕ) → keeps Q ws r x k ≡ keeps P ws r x k
+    unfolding keeps
+    keeps-same x k = rw (fits-at-same k, last-at-same k, full-same k)
+
+    kept-same : kept Q ws r ≡ kept P ws r
+    unfolding kept
+    kept-same =
+        rw (top-same, last-at-same (topNumber P ws r))
+        (sift-same (keeps Q ws r x) (keeps P ws r x) (below (2 ^ length r)) (λ k i. keeps-same x k))
+      where
+        x : ℕ
+        x = lastAt P ws r (topNumber P ws r)
+
+    number-same : (n : Option ℕ) → number Q n ws r ≡ number P n ws r
+    unfolding number
+    number-same none = top-same
+    number-same (some n) = ap (λ (l : List ℕ). atPlace (n % length l) l) kept-same
+
+    chosen-same : (n : Option ℕ) → chosen Q n ws r ≡ chosen P n ws r
+    unfolding chosen
+    chosen-same n = combination-same r (number Q n ws r) ∙ ap (combination P r) (number-same n)
 
   remaining-same : (ws l : List ℕ) → memb b ws ≡ false → memb b l ≡ false → remaining Q ws l ≡ remaining P ws l
   unfolding remaining
   remaining-same ws l w m = sift-same (λ c. fits Q (c ∷ ws)) (λ c. fits P (c ∷ ws)) l (λ c i.
       fits-same (c ∷ ws) (apart-join (c ∷ []) ws (rw (ne-eqb b c (λ e. other c l i m (sym e)))) w))
 
-  choose-same : (ws l : List ℕ) → memb b ws ≡ false → memb b l ≡ false → choose Q ws l ≡ choose P ws l
-  unfolding choose remaining
-  choose-same ws l w m = rw (remaining-same ws l w m) (chosen-same ws (remaining P ws l) w left)
-    where
-      left : memb b (remaining P ws l) ≡ false
-      left = case (memb b (remaining P ws l))
-          (λ t. clash (in-memb (sift-in b (λ c. fits P (c ∷ ws)) l (memb-in b (remaining P ws l) t) .0)) m) (λ f. f)
+  remaining-free : (ws l : List ℕ) → memb b l ≡ false → memb b (remaining P ws l) ≡ false
+  unfolding remaining
+  remaining-free ws l m =
+      case (memb b (remaining P ws l)) (λ t. clash (in-memb (sift-in b (λ c. fits P (c ∷ ws)) l (memb-in b (remaining P ws l) t) .0)) m) (λ f. f)
+
+  choose-same : (n : Option ℕ) (ws l : List ℕ) → memb b ws ≡ false → memb b l ≡ false → choose Q n ws l ≡ choose P n ws l
+  unfolding choose
+  choose-same n ws l w m = ap (chosen Q n ws) (remaining-same ws l w m) ∙ chosen-same ws (remaining P ws l) w (remaining-free ws l m) n
+
+  ways-same : (ws l : List ℕ) → memb b ws ≡ false → memb b l ≡ false → waysOf Q ws l ≡ waysOf P ws l
+  unfolding waysOf
+  ways-same ws l w m =
+      ap (λ (r : List ℕ). length (kept Q ws r)) (remaining-same ws l w m) ∙ ap length (kept-same ws (remaining P ws l) w (remaining-free ws l m))
 
   tied-same : (s : Trace) (l : List ℕ) → memb b (winners s) ≡ false → memb b l ≡ false → tied Q s l ≡ tied P s l
   unfolding tied
-  tied-same s l w m = rw (choose-same (winners s) l w m, remaining-same (winners s) l w m)
+  tied-same s l w m = rw (choose-same (drawnAfter P s) (winners s) l w m, ways-same (winners s) l w m, remaining-same (winners s) l w m)
 
   lost-looks : (s : Trace) (l : List ℕ) → ((c : ℕ) → In c l → In c (P .bids)) → live P s b ≡ true → memb b (winners s) ≡ false → memb b l ≡ false
       → fits P (l ++ winners s) ≡ false → fits Q (l ++ winners s) ≡ false → Looks s l

@@ -4,6 +4,7 @@ use mathlib.Core.Path.{_≡_, refl, sym, ap, _∙_}
 use mathlib.Core.Bool.{Bool, true, false, not}
 use mathlib.Core.Logic.{⊎-elim}
 use mathlib.Core.List.{List, [], _∷_, _++_, map}
+use mathlib.Core.Option.{Option}
 use native.Mathlib.Omega.{arith}
 use native.Mathlib.Nat.{le-trans}
 use lib.ListN.{length}
@@ -12,12 +13,12 @@ use borrow.Author.Tests.{eqb-true, eq-eqb, ne-eqb}
 use Rattle.rules.specs.Names.{widestTie}
 use Rattle.rules.specs.Lists.{pick, memb, sift, below}
 use Rattle.rules.specs.Pot.{Pot, Event, Trace, winners, downs, seen, live, least, lowest, taken, down, follows, combination, remaining, chosen, choose}
-use Rattle.rules.specs.Pot.{others, tied, alone, lost, look, auction, fits}
+use Rattle.rules.specs.Pot.{drawnAfter, others, tied, alone, lost, look, auction, fits}
 use Rattle.laws_pot.specs.Lists.{case, clash, In, here, there, memb-in, in-memb, in-none, in-left, in-map, map-in, in-cases}
 use Rattle.laws_pot.specs.Taken.{live-is}
 use Rattle.laws_pot.specs.Steps.{Step}
 use Rattle.laws_pot.specs.Mono.{Lawful}
-use Rattle.laws_pot.specs.Runs.{auction-keeps, kept, Inv}
+use Rattle.laws_pot.specs.Runs.{auction-keeps, holds-at-the-end, Inv}
 
 -- how often k stands in a list
 unfoldable pub often : ℕ → List ℕ → ℕ
@@ -68,9 +69,9 @@ module _ (k : ℕ) where
   often-below (suc n) = case (eqb k n) (λ t. rw t (omega (arith, often-above n (omega (arith, eqb-true k n t))))) (λ t. rw t (omega (arith, often-below n)))
 
   module _ (P : Pot) where
-    often-chosen : (ws l : List ℕ) → often k (choose P ws l) ≤ often k l
+    often-chosen : (n : Option ℕ) (ws l : List ℕ) → often k (choose P n ws l) ≤ often k l
     unfolding choose chosen combination remaining
-    often-chosen ws l = le-trans (often-sift _ (remaining P ws l)) (often-sift (λ c. fits P (c ∷ ws)) l)
+    often-chosen n ws l = le-trans (often-sift _ (remaining P ws l)) (often-sift (λ c. fits P (c ∷ ws)) l)
 
     -- a choice and the others
     often-parts : (ch l : List ℕ) → often k ch ≤ often k l → often k (ch ++ others P l ch) ≤ often k l
@@ -84,7 +85,7 @@ module _ (k : ℕ) where
     unfolding tied often
     often-tied s l =
         case (ltb widestTie (length (remaining P (winners s) l))) (λ t. rw t (omega arith))
-        (λ t. rw t (often-parts (choose P (winners s) l) l (often-chosen (winners s) l)))
+        (λ t. rw t (often-parts (choose P (drawnAfter P s) (winners s) l) l (often-chosen (drawnAfter P s) (winners s) l)))
 
     often-lost : (s : Trace) (l : List ℕ) → often k (lost P s l .wins ++ lost P s l .downs) ≤ often k l
     unfolding lost alone often
@@ -179,7 +180,7 @@ module _ (P : Pot) (L : Lawful P) where
   pub seen-mine : (k : ℕ) → In k (seen (auction P)) → In k (P .bids)
   unfolding seen
   seen-mine =
-      kept P L (λ (s : Trace). (k : ℕ) → In k (seen s) → In k (P .bids))
+      holds-at-the-end P L (λ (s : Trace). (k : ℕ) → In k (seen s) → In k (P .bids))
       (λ s e I S h k i. ⊎-elim (λ j. S .sound k j .0) (h k) (in-cases (e .wins ++ e .downs) (seen s) i))
       (λ s h. h) (λ k i. in-none i)
 
@@ -206,7 +207,7 @@ module _ (P : Pot) (L : Lawful P) where
     -- two winning bids of one application are one
     pub single : Single (auction P)
     unfolding winners
-    single = kept P L Single single-step (λ s h. h) (λ w v i j e. in-none i)
+    single = holds-at-the-end P L Single single-step (λ s h. h) (λ w v i j e. in-none i)
 
     -- no application wins twice
     pub apps-once : NoneTwice (P .bids) → NoneTwice (map (P .app) (winners (auction P)))

@@ -1,19 +1,15 @@
 -- The sentences of demand 3 as tests that compute, and small pots on which they come out true. A rule that is changed so that a sentence fails on one of
 -- them is refused here, by computation alone. Assumes nothing.
-use Prim.Native.Nat.{ℕ, _+_, _*_}
+use Prim.Native.Nat.{ℕ, _+_, _*_, _/_}
 use mathlib.Core.Path.{_≡_, refl}
 use mathlib.Core.Bool.{Bool, true, false, not, _&&_, _||_}
 use mathlib.Core.Option.{Option, none, some}
 use mathlib.Core.List.{List, [], _∷_, _++_, map}
 use lib.Dec.{eqb, leb, ltb}
 use Rattle.rules.specs.Lists.{pick, memb, below}
-use Rattle.rules.specs.Pot.{Pot, Trace, winners, downs, seen, closed, hanging, wideEnd, atMost, best, value, priceFrom, tally, within, total, exact, counted}
-use Rattle.rules.specs.Pot.{summedCapacity, live, least, lowest, taken, follows, remaining, rank, combination, chosen, choose, tied, alone, lost, look, run}
-use Rattle.rules.specs.Pot.{auction}
-
-unfoldable pub all : {A : Type 0} → (A → Bool) → List A → Bool
-all f [] = true
-all f (x ∷ l) = f x && all f l
+use Rattle.rules.specs.Pot.{Pot, Trace, winners, downs, seen, closed, hanging, wideEnd, divided, goesOn, atMost, best, all, atPlace, value, priceFrom, tally}
+use Rattle.rules.specs.Pot.{within, total, exact, counted, summedCapacity, live, least, lowest, taken, follows, remaining, rank, combination, topNumber}
+use Rattle.rules.specs.Pot.{full, keeps, kept, number, chosen, choose, waysOf, tied, alone, lost, look, run, auction}
 
 unfoldable pub any : {A : Type 0} → (A → Bool) → List A → Bool
 any f [] = false
@@ -75,6 +71,7 @@ potWith cap bids price parts budget = record {
   admin = λ k. 100;
   capacity = parts;
   cap = cap;
+  drawn = none;
   adminPrice = λ a. 100;
   adminCost = λ a y. 0;
   appCapacity = λ a. 0;
@@ -97,12 +94,46 @@ abbrev unordered : Pot
 unordered = pot (0 ∷ 1 ∷ 2 ∷ []) (λ k. pick (eqb k 0) 20 (pick (eqb k 1) 10 30)) (λ k. pick (eqb k 0) 9 1) 12
 
 -- three tied bids of 3, 2 and 2, and a cap that any two fit under and all do not, with money for all; and a fourth, dearer one
-abbrev full : Pot
-full = potWith (some 5) (3 ∷ 2 ∷ 1 ∷ 0 ∷ []) (λ k. pick (eqb k 3) 20 10) (λ k. pick (eqb k 0) 3 2) 1000
+abbrev crowded : Pot
+crowded = potWith (some 5) (3 ∷ 2 ∷ 1 ∷ 0 ∷ []) (λ k. pick (eqb k 3) 20 10) (λ k. pick (eqb k 0) 3 2) 1000
 
 -- two bids at 10 and 20, of 3 and 2, which together are the cap
 abbrev even : Pot
 even = potWith (some 5) (1 ∷ 0 ∷ []) (λ k. 10 + 10 * k) (λ k. pick (eqb k 0) 3 2) 1000
+
+-- bids 0 and 1 tie in year 0, bids 2 and 3 in year 1, and in each year there is money for one; a bid costs in its own year alone, so that in the first tie all
+-- combinations come to nothing in the last year; and a number drawn for them
+abbrev drawnPot : (drawn : ℕ) → Pot
+drawnPot drawn = record {
+  bids = 3 ∷ 2 ∷ 1 ∷ 0 ∷ [];
+  apps = [];
+  years = 2;
+  scale = 1;
+  app = λ k. k;
+  yr = λ k. k / 2;
+  price = λ k. 1 + k / 2;
+  cost = λ k p y. pick (eqb y (k / 2)) p 0;
+  budget = λ y. 1 + y;
+  draw = λ k. k;
+  admin = λ k. 100;
+  capacity = λ k. 0;
+  cap = none;
+  drawn = some drawn;
+  adminPrice = λ a. 100;
+  adminCost = λ a y. 0;
+  appCapacity = λ a. 0;
+}
+
+-- "Ties must be drawn fairly" (02, CR 6): of the numbers below 4 one has bids i and j win
+abbrev drawnBoth : (i j : ℕ) → Bool
+drawnBoth i j = any (λ d. memb i (winners (auction (drawnPot d))) && memb j (winners (auction (drawnPot d)))) (below 4)
+
+abbrev fair : Bool
+fair = all (λ i. all (drawnBoth i) (2 ∷ 3 ∷ [])) (0 ∷ 1 ∷ [])
+
+-- and whatever number is drawn one of the first two wins
+abbrev filled : Bool
+filled = all (λ d. any (λ i. memb i (winners (auction (drawnPot d)))) (0 ∷ 1 ∷ [])) (below 4)
 
 pub small-pots :
     (affordable dearer (auction dearer) ≡ true)
@@ -110,9 +141,11 @@ pub small-pots :
     × (dear dearer (auction dearer) ≡ true)
     × (unlooked unordered (auction unordered) ≡ true)
     × (shut dearer (auction dearer) ≡ true)
-    × (small full (auction full) ≡ true)
-    × (dear full (auction full) ≡ true)
+    × (small crowded (auction crowded) ≡ true)
+    × (dear crowded (auction crowded) ≡ true)
     × (dear even (auction even) ≡ true)
-unfolding all any more dear winners downs seen closed hanging wideEnd atMost best value priceFrom tally within live least lowest taken follows remaining rank
-    combination chosen choose tied alone lost look run auction
-small-pots = (refl, refl, refl, refl, refl, refl, refl, refl)
+    × (fair ≡ true)
+    × (filled ≡ true)
+unfolding any more dear winners downs seen closed hanging wideEnd divided goesOn atMost best all atPlace value priceFrom tally within live least lowest taken
+    follows remaining rank combination topNumber full keeps kept number chosen choose waysOf tied alone lost look run auction
+small-pots = (refl, refl, refl, refl, refl, refl, refl, refl, refl, refl)

@@ -17,7 +17,7 @@ use Rattle.laws_pot.specs.Taken.{live-is, is-live, Dead, looked, app-won
 use Rattle.laws_pot.specs.Money.{at-most-none}
 use Rattle.laws_pot.specs.Mono.{Lawful, clearing-below, clearing-more, clearing-new}
 use Rattle.laws_pot.specs.Steps.{Step, look-step, look-wide}
-use Rattle.laws_pot.specs.Tie.{choice-of}
+use Rattle.laws_pot.specs.Kept.{choice-of}
 
 pub won-seen : (w : ℕ) (s : Trace) → In w (winners s) → In w (seen s)
 unfolding winners seen
@@ -246,11 +246,11 @@ module _ (P : Pot) where
       both-next : (s : Trace) → Both s → Both (next s ∷ s)
       both-next s b = let h = looked-next s (b .0) in (inv-looked s (next s) (b .0) h, kept-looked s (next s) (b .0) (b .1) h)
 
-      pub kept : Q [] → Q (auction P)
-      kept q = auction-keeps Both both-next (inv-none, q) .1
+      pub holds-at-the-end : Q [] → Q (auction P)
+      holds-at-the-end q = auction-keeps Both both-next (inv-none, q) .1
 
     pub inv-end : Inv (auction P)
-    inv-end = kept Inv (λ s e I S q. inv-step s e I S) inv-wide inv-none
+    inv-end = holds-at-the-end Inv (λ s e I S q. inv-step s e I S) inv-wide inv-none
 
     -- ---- the end
 

@@ -1,4 +1,5 @@
--- The tie rule of document 01 chooses some of those taken, which fit, and to which no other of them can be added. Assumes nothing.
+-- Combinations of tied bids and their numbers: what they come to hangs on their members alone, and the best of them, with the largest number, fits and leaves
+-- no other bid that could be added. Assumes nothing.
 use Prim.Native.Nat.{ℕ, zero, suc, _+_, _-_, _^_, _≤_, _<_}
 use mathlib.Core.Path.{_≡_, refl, sym, ap, _∙_}
 use mathlib.Core.Bool.{Bool, true, false, _&&_}
@@ -12,12 +13,11 @@ use borrow.Author.Tests.{eqb-true, eqb-false, eq-eqb, ne-eqb, leb-true, leb-fals
 use Rattle.rules.specs.Lists.{memb, pick, sift}
 use Rattle.laws_pot.specs.Lists.{case, clash, and-true, and-false, In, here, there, memb-in, in-memb, in-tail, in-left, in-right, in-cases, in-map}
 use Rattle.laws_pot.specs.Lists.{map-in, sift-in, in-sift, sift-le, sift-less}
-use Rattle.rules.specs.Pot.{Pot, value, priceFrom, clearing, tally, summed, total, summedCapacity, fits, has, rank, combination, best, remaining, chosen}
-use Rattle.rules.specs.Pot.{choose}
+use Rattle.rules.specs.Pot.{Pot, value, priceFrom, clearing, tally, summed, summedCapacity, total, fits, has, rank, combination, best, fitsAt, lastAt}
+use Rattle.rules.specs.Pot.{topNumber}
 use Rattle.laws_pot.specs.Bits.{has-none, add-lt, add-adds, add-other}
 use Rattle.laws_pot.specs.Money.{fitting-same}
 use Rattle.laws_pot.specs.Mono.{Lawful, Dearer, dearer}
-use Rattle.laws_pot.specs.Steps.{Choice}
 
 -- two lists with the same members
 pub record Alike (a b : List ℕ) : Type 0 where
@@ -60,7 +60,7 @@ module _ (P : Pot) where
       (λ t. absurd (omega (arith, rank-order r d c i (ltb-true (P .draw d) (P .draw c) t))))
       (λ g. omega (arith, ltb-false (P .draw c) (P .draw d) f, ltb-false (P .draw d) (P .draw c) g)))
 
-  rank-lt : (r : List ℕ) (c : ℕ) → In c r → rank P r c < length r
+  pub rank-lt : (r : List ℕ) (c : ℕ) → In c r → rank P r c < length r
   unfolding rank
   rank-lt r c i = go i
     where
@@ -76,7 +76,7 @@ module _ (P : Pot) where
   unfolding combination
   combination-in c m r i = sift-in c (λ b. has m (rank P r b)) r i .0
 
-  combination-none : (r : List ℕ) → combination P r 0 ≡ []
+  pub combination-none : (r : List ℕ) → combination P r 0 ≡ []
   unfolding combination
   combination-none r = go r
     where
@@ -85,34 +85,33 @@ module _ (P : Pot) where
       go (x ∷ l) = rw (has-none (rank P r x), go l)
 
   -- a bid that is left out can be put in: that is a larger number
-  more : (r : List ℕ) (m c : ℕ) → ((a : ℕ) → In a r → P .draw a ≡ P .draw c → a ≡ c) → m < 2 ^ length r → In c r → memb c (combination P r m) ≡ false
-      → (n : ℕ) × (m < n) × (n < 2 ^ length r) × Alike (combination P r n) (c ∷ combination P r m)
-  unfolding combination
-  more r m c ap h i f = (
-    m + 2 ^ rank P r c,
-    omega (arith, pow-pos (rank P r c)),
-    add-lt m (rank P r c) (length r) free (rank-lt r c i) h,
-    record {
+  module _ (r : List ℕ) (m c : ℕ) (ap : (a : ℕ) → In a r → P .draw a ≡ P .draw c → a ≡ c) (i : In c r) (f : memb c (combination P r m) ≡ false) where
+    free : has m (rank P r c) ≡ false
+    unfolding combination
+    free = case (has m (rank P r c)) (λ t. clash (in-memb (in-sift (λ b. has m (rank P r b)) i t)) f) (λ g. g)
+
+    same-place : (k : ℕ) → In k r → (k ≡ c → ⊥) → has (m + 2 ^ rank P r c) (rank P r k) ≡ has m (rank P r k)
+    same-place k j n = add-other m (rank P r c) (rank P r k) free (λ e. n (ap k j (rank-apart r k c j i e)))
+
+    pub with-one : Alike (combination P r (m + 2 ^ rank P r c)) (c ∷ combination P r m)
+    unfolding combination
+    with-one = record {
       to = λ k j.
           let z = sift-in k (λ b. has (m + 2 ^ rank P r c) (rank P r b)) r j in
           case (eqb k c) (λ t. here (eqb-true k c t))
-          (λ u. there (in-sift (λ b. has m (rank P r b)) (z .0) (sym (same k (z .0) (eqb-false k c u)) ∙ z .1)));
+          (λ u. there (in-sift (λ b. has m (rank P r b)) (z .0) (sym (same-place k (z .0) (eqb-false k c u)) ∙ z .1)));
       back = λ k j. ⊎-elim
           (λ e. rw e (in-sift (λ b. has (m + 2 ^ rank P r c) (rank P r b)) i (add-adds m (rank P r c) free)))
           (λ q.
           let z = sift-in k (λ b. has m (rank P r b)) r q in
           case (eqb k c)
           (λ t. rw (eqb-true k c t) (in-sift (λ b. has (m + 2 ^ rank P r c) (rank P r b)) i (add-adds m (rank P r c) free)))
-          (λ u. in-sift (λ b. has (m + 2 ^ rank P r c) (rank P r b)) (z .0) (same k (z .0) (eqb-false k c u) ∙ z .1)))
+          (λ u. in-sift (λ b. has (m + 2 ^ rank P r c) (rank P r b)) (z .0) (same-place k (z .0) (eqb-false k c u) ∙ z .1)))
           (in-tail j);
-    },
-  )
-    where
-      free : has m (rank P r c) ≡ false
-      free = case (has m (rank P r c)) (λ t. clash (in-memb (in-sift (λ b. has m (rank P r b)) i t)) f) (λ g. g)
+    }
 
-      same : (k : ℕ) → In k r → (k ≡ c → ⊥) → has (m + 2 ^ rank P r c) (rank P r k) ≡ has m (rank P r k)
-      same k j n = add-other m (rank P r c) (rank P r k) free (λ e. n (ap k j (rank-apart r k c j i e)))
+    more : m < 2 ^ length r → (n : ℕ) × (m < n) × (n < 2 ^ length r) × Alike (combination P r n) (c ∷ combination P r m)
+    more h = (m + 2 ^ rank P r c, omega (arith, pow-pos (rank P r c)), add-lt m (rank P r c) (length r) free (rank-lt r c i) h, with-one)
 
   -- ---- the best number
 
@@ -179,6 +178,12 @@ module _ (P : Pot) where
       tally-same f (λ k. memb k (a ++ ws)) (λ k. memb k (b ++ ws)) (clearing P (a ++ ws)) (clearing P (b ++ ws)) y (P .bids)
       (λ k i. memb-alike k (alike-join ws A)) (λ k i t. clearing-alike q a b ws (P .yr k) A h)
 
+  -- so whether they fit does as well
+  pub fits-alike : (q : ℕ) (a b ws : List ℕ) → Alike a b → ((x : ℕ) → In x b → P .price x ≡ q) → fits P (a ++ ws) ≡ fits P (b ++ ws)
+  fits-alike q a b ws A h =
+      fitting-same P P (total P (a ++ ws)) (total P (b ++ ws)) (summedCapacity P (a ++ ws)) (summedCapacity P (b ++ ws)) refl refl (λ y. refl)
+      (λ y. summed-alike (value P) q a b ws y A h) (summed-alike (λ b p y. P .capacity b) q a b ws 0 A h)
+
   clearing-joined : (q : ℕ) (ns ws : List ℕ) (d : ℕ) → ((a : ℕ) → In a ns → P .price a ≡ q) → clearing P ws d ≤ q → clearing P (ns ++ ws) d ≤ q
   unfolding priceFrom
   clearing-joined q [] ws d h k = k
@@ -191,66 +196,44 @@ module _ (P : Pot) where
     unfolding priceFrom
     grows c vs h = dearer P L vs (c ∷ vs) (λ b i. there i) (λ d. case (eqb (P .yr c) d) (λ t. rw t (h d)) (λ f. rw f (omega arith)))
 
-    -- the choice among the remaining bids r
+    -- the best of the remaining bids r
     module _ (ws r : List ℕ) (w : fits P ws ≡ true) where
-      abbrev ok : ℕ → Bool
-      ok m = fits P (combination P r m ++ ws)
+      pub top-best : Best (fitsAt P ws r) (lastAt P ws r) (2 ^ length r) (topNumber P ws r)
+      unfolding topNumber
+      top-best = best-is (fitsAt P ws r) (lastAt P ws r) (rw (combination-none r) w) (2 ^ length r)
 
-      abbrev last : ℕ → ℕ
-      last m = total P (combination P r m ++ ws) (P .years - 1)
+      pub top-small : topNumber P ws r < 2 ^ length r
+      top-small = omega (arith, top-best .small, pow-pos (length r))
 
-      the-best : Best ok last (2 ^ length r) (best ok last (2 ^ length r))
-      the-best = best-is ok last (rw (combination-none r) w) (2 ^ length r)
-
-      pub chosen-fits : fits P (chosen P ws r ++ ws) ≡ true
-      unfolding chosen
-      chosen-fits = the-best .fit
-
+      -- where they are at one price, no lower than the clearing prices, none can be added
       module _ (q c : ℕ) (pq : (a : ℕ) → In a r → In a (P .bids) × (P .price a ≡ q)) (cl : (d : ℕ) → clearing P ws d ≤ q) (i : In c r) where
-        most-of : (k : ℕ) → Best ok last (2 ^ length r) k → memb c (combination P r k) ≡ false → fits P (c ∷ (combination P r k ++ ws)) ≡ false
+        most-of : (k : ℕ) → Best (fitsAt P ws r) (lastAt P ws r) (2 ^ length r) k → memb c (combination P r k) ≡ false
+            → fits P (c ∷ (combination P r k ++ ws)) ≡ false
         most-of k B f =
             case (fits P (c ∷ (combination P r k ++ ws)))
             (λ t. ⊎-elim
-            (λ (u : last n < last k).
+            (λ (u : lastAt P ws r n < lastAt P ws r k).
             absurd (omega (
               arith,
-              same (value P) (P .years - 1),
+              summed-alike (value P) q (combination P r n) (c ∷ combination P r k) ws (P .years - 1) (z .3) at,
               grows c (combination P r k ++ ws) (λ d.
                   omega (arith, pq c i .1, clearing-joined q (combination P r k) ws d (λ a j. pq a (combination-in a k r j) .1) (cl d))) .money (P .years - 1),
             )))
             (λ u. absurd (omega (arith, z .1, u .1)))
-            (B .top n (z .2)
-            (fitting-same P P (total P (combination P r n ++ ws)) (total P (c ∷ (combination P r k ++ ws))) (summedCapacity P (combination P r n ++ ws)) _
-            refl refl (λ y. refl) (same (value P)) (same (λ b p y. P .capacity b) 0) ∙ t)))
+            (B .top n (z .2) (fits-alike q (combination P r n) (c ∷ combination P r k) ws (z .3) at ∙ t)))
             (λ g. g)
           where
             z : (n : ℕ) × (k < n) × (n < 2 ^ length r) × Alike (combination P r n) (c ∷ combination P r k)
-            z = more r k c (λ a j e. L .apart a c (pq a j .0) (pq c i .0) (pq a j .1 ∙ sym (pq c i .1)) e) (omega (arith, B .small, pow-pos (length r))) i f
+            z = more r k c (λ a j e. L .apart a c (pq a j .0) (pq c i .0) (pq a j .1 ∙ sym (pq c i .1)) e) i f (omega (arith, B .small, pow-pos (length r)))
 
             n : ℕ
             n = z .0
 
-            same : (f : ℕ → ℕ → ℕ → ℕ) (y : ℕ) → summed P f (combination P r n ++ ws) y ≡ summed P f (c ∷ (combination P r k ++ ws)) y
-            same f y = summed-alike f q (combination P r n) (c ∷ combination P r k) ws y (z .3)
-                (λ x j. ⊎-elim (λ e. ap (P .price) e ∙ pq c i .1) (λ h. pq x (combination-in x k r h) .1) (in-tail j))
+            at : (x : ℕ) → In x (c ∷ combination P r k) → P .price x ≡ q
+            at x j = ⊎-elim (λ e. ap (P .price) e ∙ pq c i .1) (λ h. pq x (combination-in x k r h) .1) (in-tail j)
 
-        pub chosen-most : memb c (chosen P ws r) ≡ false → fits P (c ∷ (chosen P ws r ++ ws)) ≡ false
-        unfolding chosen
-        chosen-most f = most-of _ the-best f
-
-    pub choice-of : Choice P
-    unfolding choose remaining chosen
-    choice-of = record {
-      among = λ ws l c i. back ws l c (combination-in c _ (remaining P ws l) i);
-      fit = λ ws l w. chosen-fits ws (remaining P ws l) w;
-      most = λ ws l q c w pq cl i f.
-          case (fits P (c ∷ ws))
-          (λ t. inr (chosen-most ws (remaining P ws l) w q c (λ a j. pq a (back ws l a j)) cl (in-sift (λ c. fits P (c ∷ ws)) i t) f))
-          (λ g. inl g);
-    }
-      where
-        back : (ws l : List ℕ) (c : ℕ) → In c (remaining P ws l) → In c l
-        back ws l c i = sift-in c (λ c. fits P (c ∷ ws)) l i .0
+        pub top-most : memb c (combination P r (topNumber P ws r)) ≡ false → fits P (c ∷ (combination P r (topNumber P ws r) ++ ws)) ≡ false
+        top-most f = most-of (topNumber P ws r) top-best f
 
 -- two listings that agree have one best
 pub best-same : (f g : ℕ → Bool) (t u : ℕ → ℕ) (n : ℕ) → ((m : ℕ) → f m ≡ g m) → ((m : ℕ) → t m ≡ u m) → best f t n ≡ best g u n

@@ -8,11 +8,11 @@ use native.Mathlib.Nat.{mul-le-mul}
 use native.Mathlib.Decide.{decLe}
 use lib.ListN.{length, getD, take, length-take}
 use lib.Seq.{getD-take}
-use Rattle.rules.specs.Names.{bytesAfter, mostYears, mostPots, mostTechs, mostApps, mostBids, countWidth, yearWidth, capWidth, potWidth, techWidth, appWidth}
-use Rattle.rules.specs.Names.{bidWidth}
+use Rattle.rules.specs.Names.{bytesAfter, mostYears, mostPots, mostTechs, mostApps, mostBids, countWidth, yearWidth, capWidth, drawnWidth, potWidth, techWidth}
+use Rattle.rules.specs.Names.{appWidth, bidWidth}
 use Rattle.rules.specs.Lists.{given, both}
 use Rattle.rules.specs.Bytes.{le, part}
-use Rattle.rules.specs.File.{Round, sections, roundOf, sectionsOf, deliveries, potsTold, capTold, potsAt, techsAt, appsAt, bidsAt, endAt}
+use Rattle.rules.specs.File.{Round, sections, roundOf, sectionsOf, deliveries, potsTold, gainedTold, potsAt, techsAt, appsAt, bidsAt, endAt}
 use Rattle.rules.specs.Refusals.{refusal, orElse, scan, plain, countFault, recordFault, section, yearFault, potFault, techFault, appFault, bidFault, elevenOf}
 use Rattle.rules.specs.Refusals.{judged, reading}
 use Rattle.rules.specs.declared.Sections.{Sections}
@@ -20,7 +20,7 @@ use Rattle.rules.specs.declared.Reading.{Reading}
 use Rattle.rules.specs.declared.Reading.the-variants.{Accepted}
 use Rattle.laws_reading.specs.Walk.{given-yes, given-no}
 use Rattle.laws_reading.specs.Alike.{le-same, part-same}
-use Rattle.laws_reading.specs.Reading.{holds, cap-told, cap-most}
+use Rattle.laws_reading.specs.Reading.{holds, gained-told, gained-most}
 use Rattle.laws_reading.specs.Fault.{handed-on, ends-there}
 use Rattle.laws_reading.specs.Small.{largest}
 
@@ -54,10 +54,10 @@ module _ (s : List ℕ) where
       section plain s (techsAt y c p) 1 mostTechs (techWidth y) techs (techFault y (deliveries (years y) y) p techs)
       (ofApps y c p t (le countWidth s (appsAt y c p t)))
 
-  -- after a count of pots, which tells of their caps as well
+  -- after a count of pots, which tells of their caps and drawn numbers as well
   ofPots : (y count : ℕ) → Reading
   ofPots y q =
-      let c = capTold q in
+      let c = gainedTold q in
       let p = potsTold q in
       let pots = part s (potsAt y + countWidth) (techsAt y c p) in
       section potsTold s (potsAt y) 1 mostPots (potWidth y c) pots (potFault y c pots) (ofTechs y c p (le countWidth s (techsAt y c p)))
@@ -109,9 +109,9 @@ module _ (s : List ℕ) (h : largest < length s) where
 
   -- ---- from the last section to the first
 
-  module _ (y c p n k : ℕ) (hy : y ≤ mostYears) (hc : c ≤ capWidth) (hp : p ≤ mostPots) (ht : k ≤ mostTechs) where
-    pots-most : p * potWidth y c ≤ 272
-    pots-most = let w : potWidth y c ≤ 68 = omega arith in mul-le-mul hp w
+  module _ (y c p n k : ℕ) (hy : y ≤ mostYears) (hc : c ≤ capWidth + drawnWidth) (hp : p ≤ mostPots) (ht : k ≤ mostTechs) where
+    pots-most : p * potWidth y c ≤ 288
+    pots-most = let w : potWidth y c ≤ 72 = omega arith in mul-le-mul hp w
 
     techs-most : k * techWidth y ≤ 2688
     techs-most = let w : techWidth y ≤ 84 = omega arith in mul-le-mul ht w
@@ -157,7 +157,7 @@ module _ (s : List ℕ) (h : largest < length s) where
           ending-same b hn hb (sections s y c p k n b) (sections t y c p k n b) ∙ ap (λ (x : ℕ). ending t (sections t y c p k n x) (endAt y c p k n x)) e,
         ))
 
-  apps-same : (y c p k : ℕ) → y ≤ mostYears → c ≤ capWidth → p ≤ mostPots → k ≤ mostTechs
+  apps-same : (y c p k : ℕ) → y ≤ mostYears → c ≤ capWidth + drawnWidth → p ≤ mostPots → k ≤ mostTechs
       → ofApps s y c p k (le countWidth s (appsAt y c p k)) ≡ ofApps t y c p k (le countWidth t (appsAt y c p k))
   unfolding ofApps
   apps-same y c p k hy hc hp ht =
@@ -176,7 +176,7 @@ module _ (s : List ℕ) (h : largest < length s) where
         bids-same y c p n k hy hc hp ht hn ∙ ap (λ (x : ℕ). ofBids t y c p k x (le countWidth t (bidsAt y c p k x))) e,
       ))
 
-  techs-same : (y c p : ℕ) → y ≤ mostYears → c ≤ capWidth → p ≤ mostPots
+  techs-same : (y c p : ℕ) → y ≤ mostYears → c ≤ capWidth + drawnWidth → p ≤ mostPots
       → ofTechs s y c p (le countWidth s (techsAt y c p)) ≡ ofTechs t y c p (le countWidth t (techsAt y c p))
   unfolding ofTechs
   techs-same y c p hy hc hp =
@@ -202,9 +202,9 @@ module _ (s : List ℕ) (h : largest < length s) where
       section-same potsTold s t _ _ _ _ _ _ _ _ _ _ (fault potsTold (potsAt y) 1 mostPots at) e
       (λ hp.
       let q = le countWidth s (potsAt y) in
-      let c = capTold q in
+      let c = gainedTold q in
       let p = potsTold q in
-      let hc = cap-most (cap-told q) in
+      let hc = gained-most (gained-told q) in
       let most = pots-most y c p 0 0 hy hc hp (omega arith) in
       let l = same (potsAt y + countWidth) (techsAt y c p) (omega arith) in
       (l, ap (potFault y c) l, techs-same y c p hy hc hp))
@@ -229,6 +229,6 @@ module _ (s : List ℕ) (h : largest < length s) where
       let R = roundOf s in
       let S = handed-on s e .1 in
       let a = ends-there s (unfold refusal in rw e) in
-      let pots = pots-most (R .y) (R .c) (R .p) 0 (R .t) (S .years-most) (cap-most (S .cap-told)) (S .pots-few) (S .techs-few) in
-      let techs = techs-most (R .y) (R .c) (R .p) 0 (R .t) (S .years-most) (cap-most (S .cap-told)) (S .pots-few) (S .techs-few) in
+      let pots = pots-most (R .y) (R .c) (R .p) 0 (R .t) (S .years-most) (gained-most (S .gained-told)) (S .pots-few) (S .techs-few) in
+      let techs = techs-most (R .y) (R .c) (R .p) 0 (R .t) (S .years-most) (gained-most (S .gained-told)) (S .pots-few) (S .techs-few) in
       omega (arith, S .years-most, S .apps-few, S .bids-few)

@@ -12,10 +12,10 @@ use native.Mathlib.Nat.{not-suc-le-zero}
 use native.Mathlib.Numerals.{add-one}
 use native.Mathlib.Decide.{decLt}
 use Rattle.rules.specs.Names.{mostYears, mostPots, mostTechs, mostApps, mostBids, yearWidth, potWidth, techWidth, appWidth, bidWidth, delivery}
-use Rattle.rules.specs.Names.{capWidth, capsAdded, highestCap, noCap}
+use Rattle.rules.specs.Names.{capWidth, capsAdded, drawnWidth, drawnAdded, highestCap, noCap}
 use Rattle.rules.specs.Names.{mostDeliveries, shortYear, longYear, whole, highestBudget, highestPrice, priceStep, largestCapacity, bidsEach, bidsAYear}
 use Rattle.rules.specs.Lists.{given, pick, howMany}
-use Rattle.rules.specs.File.{Round, roundOf, sections, deliveries, yearAt, potsTold, capTold, budgetAt, capAt, techAt, appAt, bidAt, potsAt, techsAt, appsAt}
+use Rattle.rules.specs.File.{Round, roundOf, sections, deliveries, yearAt, potsTold, gainedTold, budgetAt, capAt, techAt, appAt, bidAt, potsAt, techsAt, appsAt}
 use Rattle.rules.specs.File.{bidsAt}
 use Rattle.rules.specs.Refusals.{refusal, orFault, scan, countFault, recordFault, section, yearFault, potFault, techFault, appFault, sevenOf, eightOf, nineOf}
 use Rattle.rules.specs.Refusals.{bidFault, sameApp?, sameYear?, elevenOf, judged, reading, IsAccepted}
@@ -241,7 +241,7 @@ module _ (years : List ℕ) where
 -- the counts are those of the file
 pub record Counts (s : List ℕ) (R : Round) : Type 0 where
   pub y : R .y ≡ le 2 s 0
-  pub c : R .c ≡ capTold (le 2 s (potsAt (R .y)))
+  pub c : R .c ≡ gainedTold (le 2 s (potsAt (R .y)))
   pub p : R .p ≡ potsTold (le 2 s (potsAt (R .y)))
   pub t : R .t ≡ le 2 s (techsAt (R .y) (R .c) (R .p))
   pub n : R .n ≡ le 2 s (appsAt (R .y) (R .c) (R .p) (R .t))
@@ -252,24 +252,28 @@ pub counts : (s : List ℕ) → Counts s (roundOf s)
 unfolding roundOf sections
 counts s = record { y = refl; c = refl; p = refl; t = refl; n = refl; b = refl; d = refl }
 
--- a pot's record has a cap or none: so many bytes of it
-abbrev pub CapTold : (c : ℕ) → Type 0
-CapTold c = (c ≡ 0) ⊎ (c ≡ capWidth)
+-- a pot's record has gained nothing, a cap, or a cap and a drawn number: so many bytes
+abbrev pub GainedTold : (c : ℕ) → Type 0
+GainedTold c = (c ≡ 0) ⊎ ((c ≡ capWidth) ⊎ (c ≡ capWidth + drawnWidth))
 
-pub cap-told : (count : ℕ) → CapTold (capTold count)
-unfolding capTold
-cap-told n = of (ltb n capsAdded)
+pub gained-told : (count : ℕ) → GainedTold (gainedTold count)
+unfolding gainedTold
+gained-told n = of (ltb n capsAdded) (ltb n (capsAdded + drawnAdded))
   where
-    of : (b : Bool) → CapTold (pick b 0 capWidth)
-    of true = inl refl
-    of false = inr refl
+    of : (a b : Bool) → GainedTold (pick a 0 (pick b capWidth (capWidth + drawnWidth)))
+    of true b = inl refl
+    of false true = inr (inl refl)
+    of false false = inr (inr refl)
 
-pub cap-most : {c : ℕ} → CapTold c → c ≤ capWidth
-cap-most h = ⊎-elim (λ e. omega arith) (λ e. omega arith) h
+pub gained-most : {c : ℕ} → GainedTold c → c ≤ capWidth + drawnWidth
+gained-most h = ⊎-elim (λ e. omega arith) (⊎-elim (λ e. omega arith) (λ e. omega arith)) h
 
--- a record that has bytes of cap has all of them
-pub whole-cap : {c : ℕ} → CapTold c → (c ≡ 0 → ⊥) → capWidth ≤ c
-whole-cap h z = ⊎-elim (λ e. absurd (z e)) (λ e. omega arith) h
+-- a record that has gained bytes has all those of a cap; one that has gained more than a cap, all those of a drawn number as well
+pub whole-gained : {c : ℕ} → GainedTold c → (c ≡ 0 → ⊥) → capWidth ≤ c
+whole-gained h z = ⊎-elim (λ e. absurd (z e)) (⊎-elim (λ e. omega arith) (λ e. omega arith)) h
+
+pub whole-drawn : {c : ℕ} → GainedTold c → capWidth < c → capWidth + drawnWidth ≤ c
+whole-drawn h l = ⊎-elim (λ e. absurd (omega arith)) (⊎-elim (λ e. absurd (omega arith)) (λ e. omega arith)) h
 
 -- What the tables of an accepted file are good for
 pub record Sound (R : Round) : Type 0 where
@@ -283,7 +287,7 @@ pub record Sound (R : Round) : Type 0 where
   pub techs-few : R .t ≤ mostTechs
   pub apps-few : R .n ≤ mostApps
   pub bids-few : R .b ≤ mostBids
-  pub cap-told : CapTold (R .c)
+  pub gained-told : GainedTold (R .c)
   -- the records end within their parts
   pub years-whole : R .y * yearWidth ≤ length (R .years)
   pub pots-whole : R .p * potWidth (R .y) (R .c) ≤ length (R .pots)
@@ -349,7 +353,7 @@ sound-of R s r C e =
         techs-few = omega (arith, C .t, T .most);
         apps-few = omega (arith, C .n, N .most);
         bids-few = omega (arith, C .b, B .most);
-        cap-told = rw (C .c) (cap-told (le 2 s (potsAt (R .y))));
+        gained-told = rw (C .c) (gained-told (le 2 s (potsAt (R .y))));
         years-whole = all-whole (R .y) yearWidth (R .years) (λ i l. Y .whole i (omega (arith, C .y)));
         pots-whole = all-whole (R .p) (potWidth (R .y) (R .c)) (R .pots) (λ i l. P .whole i (omega (arith, C .p)));
         techs-whole = all-whole (R .t) (techWidth (R .y)) (R .techs) (λ i l. T .whole i (omega (arith, C .t)));

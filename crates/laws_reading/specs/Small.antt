@@ -6,7 +6,8 @@ use lib.ListN.{length}
 use native.Mathlib.Omega.{arith}
 use native.Mathlib.Nat.{mul-le-mul, mul-le-mul-right}
 use native.Mathlib.Decide.{decLe}
-use Rattle.rules.specs.Names.{mostYears, mostPots, mostTechs, mostApps, mostBids, lowestUneven, countWidth, capWidth, potWidth, techWidth, bidWidth}
+use Rattle.rules.specs.Names.{mostYears, mostPots, mostTechs, mostApps, mostBids, lowestUneven, countWidth, capWidth, drawnWidth, potWidth, techWidth}
+use Rattle.rules.specs.Names.{bidWidth}
 use Rattle.rules.specs.Lists.{given}
 use Rattle.rules.specs.Bytes.{le}
 use Rattle.rules.specs.File.{Round, roundOf, sectionsOf, potsAt, bidsAt, endAt}
@@ -14,11 +15,11 @@ use Rattle.rules.specs.Refusals.{refusal, place, orElse, orFault, scan, countFa
 use Rattle.rules.specs.Refusals.{eightOf, nineOf, bidFault, elevenOf, judged, reading}
 use Rattle.rules.specs.declared.Reading.{Reading}
 use Rattle.rules.specs.declared.Reading.the-variants.{Accepted}
-use Rattle.laws_reading.specs.Reading.{holds, Counts, counts, cap-told, cap-most}
+use Rattle.laws_reading.specs.Reading.{holds, Counts, counts, gained-told, gained-most}
 
 -- the end of the largest round
 abbrev pub largest : ℕ
-largest = endAt mostYears capWidth mostPots mostTechs mostApps mostBids
+largest = endAt mostYears (capWidth + drawnWidth) mostPots mostTechs mostApps mostBids
 
 -- a refusal that is not large, or none
 pub record Small (r : Reading) : Type 0 where
@@ -91,14 +92,14 @@ unfolding elevenOf
 uneven-small R i = given-most _ _ _ _ (omega arith) (omega arith)
 
 module _ (R : Round) (s : List ℕ) (C : Counts s R) (r : Reading) (S : Small r) where
-  cap-few : R .c ≤ capWidth
-  cap-few = rw (C .c) (cap-most (cap-told (le 2 s (potsAt (R .y)))))
+  gained-few : R .c ≤ capWidth + drawnWidth
+  gained-few = rw (C .c) (gained-most (gained-told (le 2 s (potsAt (R .y)))))
 
   module _ (y : R .y ≤ mostYears) where
     module _ (p : R .p ≤ mostPots) where
       -- where the pots end
-      pots-end : R .p * potWidth (R .y) (R .c) ≤ 272
-      pots-end = let w : potWidth (R .y) (R .c) ≤ 68 = omega (arith, cap-few) in mul-le-mul p w
+      pots-end : R .p * potWidth (R .y) (R .c) ≤ 288
+      pots-end = let w : potWidth (R .y) (R .c) ≤ 72 = omega (arith, gained-few) in mul-le-mul p w
 
       module _ (t : R .t ≤ mostTechs) where
         -- where the technologies end
@@ -118,7 +119,7 @@ module _ (R : Round) (s : List ℕ) (C : Counts s R) (r : Reading) (S : Small r)
   judged-small =
       section-small _ s _ _ _ _ _ _ _ (year-small (R .years)) (omega arith) (omega arith) (λ y′.
       let y : R .y ≤ mostYears = omega (arith, C .y) in
-      section-small _ s _ _ _ _ _ _ _ (pot-small (R .y) (R .c) (R .pots)) (omega arith) (omega (arith, cap-few)) (λ p′.
+      section-small _ s _ _ _ _ _ _ _ (pot-small (R .y) (R .c) (R .pots)) (omega arith) (omega (arith, gained-few)) (λ p′.
       let p : R .p ≤ mostPots = omega (arith, C .p) in
       section-small _ s _ _ _ _ _ _ _ (tech-small (R .y) (R .d) (R .p) (R .techs)) (omega (arith, pots-end y p)) (omega (arith, pots-end y p)) (λ t′.
       let t : R .t ≤ mostTechs = omega (arith, C .t) in
@@ -128,7 +129,7 @@ module _ (R : Round) (s : List ℕ) (C : Counts s R) (r : Reading) (S : Small r)
       section-small _ s _ _ _ _ _ _ _ (bid-small R) (omega (arith, pots-end y p, techs-end y p t)) (omega (arith, pots-end y p, techs-end y p t)) (λ b′.
       last-small y p t n (omega (arith, C .b)))))))
 
--- a refusal's number is at most 11, and its offset at most 7,882
+-- a refusal's number is at most 11, and its offset at most 7,898
 pub reading-small : (s : List ℕ) → Small (reading s)
 unfolding reading
 reading-small s =

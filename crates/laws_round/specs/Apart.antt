@@ -1,6 +1,6 @@
 -- "Two accepted files with equal counts that differ only in declared costs, and in budgets, technologies, applications and bids of other pots, each pot's
--- records at the same places, give one pot the same outcome, prices, totals and reasons"; and so where they differ in other pots' caps (02, CR 5). Assumes
--- nothing.
+-- records at the same places, give one pot the same outcome, prices, totals and reasons"; and so where they differ in other pots' caps (02, CR 5) and drawn
+-- numbers: "The independence of pots reads the drawn number as that pot's own" (02, CR 6). Assumes nothing.
 use Prim.Native.Nat.{ℕ, _+_, _*_, _≤_, _<_}
 use mathlib.Core.Path.{_≡_, sym, ap, ap₂, _∙_}
 use mathlib.Core.Logic.{_↔_}
@@ -9,16 +9,16 @@ use native.Mathlib.Omega.{arith}
 use native.Mathlib.Decide.{decLt}
 use lib.Dec.{eqb, ltb}
 use borrow.Author.Tests.{eqb-true, eqb-false, eq-eqb, ne-eqb, ltb-true}
-use Rattle.rules.specs.Names.{pencePerPound, noCap, potWidth, techWidth, appWidth, bidWidth}
+use Rattle.rules.specs.Names.{pencePerPound, noCap, capWidth, potWidth, techWidth, appWidth, bidWidth}
 use Rattle.rules.specs.Lists.{pick, sift, below}
 use Rattle.rules.specs.Bytes.{le}
-use Rattle.rules.specs.File.{Round, App, Bid, budgetAt, capAt, techAt, appAt, bidAt}
+use Rattle.rules.specs.File.{Round, App, Bid, budgetAt, capAt, drawnAt, techAt, appAt, bidAt}
 use Rattle.rules.specs.Pot.{Pot, outcome, priceIn, totalIn, reason}
-use Rattle.rules.specs.Round.{blank, techOf, atAdminPrice, mine, appMine, rowFor, assemble, budgetOf, capOf, potOf}
+use Rattle.rules.specs.Round.{blank, techOf, atAdminPrice, mine, appMine, rowFor, assemble, budgetOf, capOf, drawnOf, potOf}
 use Rattle.rules.specs.Result.{potAt, toldIn, appTold}
 use Rattle.laws_pot.specs.Lists.{case, sift-same}
 use Rattle.laws_reading.specs.Alike.{Same, le-same}
-use Rattle.laws_reading.specs.Reading.{Sound, whole-cap, app-tech, app-year}
+use Rattle.laws_reading.specs.Reading.{Sound, whole-gained, whole-drawn, app-tech, app-year}
 use Rattle.laws_round.specs.Bids.{appPot, bidPot, mine-own, mine-out, mine-in, app-mine, app-out, app-in, Mine, mine-is, app-mine-is}
 
 -- the bytes of an application before its declared cost
@@ -27,15 +27,15 @@ undeclared = 12
 
 -- the two files differ elsewhere than in pot p
 pub record DifferElsewhere (p : ℕ) (f g : Round) : Type 0 where
-  -- "equal counts": that of the pots tells of caps in both or in neither
+  -- "equal counts": that of the pots tells of caps in both or in neither, and of drawn numbers
   pub count-y : f .y ≡ g .y
   pub count-c : f .c ≡ g .c
   pub count-p : f .p ≡ g .p
   pub count-t : f .t ≡ g .t
   pub count-n : f .n ≡ g .n
   pub count-b : f .b ≡ g .b
-  -- what the files may not differ in: the years; this pot's own record, its budgets and its cap; its technologies; its applications, but for their declared
-  -- cost, the last 8 of an application's bytes; and its bids
+  -- what the files may not differ in: the years; this pot's own record, its budgets, its cap and its drawn number; its technologies; its applications, but for
+  -- their declared cost, the last 8 of an application's bytes; and its bids
   pub years : f .years ≡ g .years
   pub pot : Same (f .pots) (g .pots) (p * potWidth (f .y) (f .c)) (potWidth (f .y) (f .c))
   pub techs : (i : ℕ) → i < f .t → techAt (f .y) (f .techs) i .pot ≡ p → Same (f .techs) (g .techs) (i * techWidth (f .y)) (techWidth (f .y))
@@ -152,8 +152,8 @@ module _ (p : ℕ) (f g : Round) (F : Sound f) (A : DifferElsewhere p f g) where
 
   -- ---- the pot
   pub pot-same : potOf f p ≡ potOf g p
-  unfolding potOf capOf
-  pot-same = λ i. assemble (A .years i) (A .count-y i) (bids i) (apps i) (λ k. rows k i) (λ a. own a i) (λ y. budget y i) (cap i)
+  unfolding potOf capOf drawnOf
+  pot-same = λ i. assemble (A .years i) (A .count-y i) (bids i) (apps i) (λ k. rows k i) (λ a. own a i) (λ y. budget y i) (cap i) (drawn i)
     where
       bids : sift (mine f p) (below (f .b)) ≡ sift (mine g p) (below (g .b))
       bids = sift-same (mine f p) (mine g p) (below (f .b)) (λ k i. mine-same k) ∙ ap (λ (n : ℕ). sift (mine g p) (below n)) (A .count-b)
@@ -198,8 +198,18 @@ module _ (p : ℕ) (f g : Round) (F : Sound f) (A : DifferElsewhere p f g) where
           case (ltb 0 (f .c))
           (λ u. rw (e, u)
           (ap (λ (n : ℕ). pick (eqb n noCap) none (some n))
-          (pot-le 4 (8 * f .y) (omega (arith, whole-cap (F .cap-told) (λ z. omega (arith, ltb-true 0 (f .c) u))))
+          (pot-le 4 (8 * f .y) (omega (arith, whole-gained (F .gained-told) (λ z. omega (arith, ltb-true 0 (f .c) u))))
           ∙ ap (λ (y : ℕ). le 4 (g .pots) (p * potWidth (g .y) (g .c) + 8 * y)) (A .count-y))))
+          (λ u. rw (e, u))
+
+      drawn : drawnOf f p ≡ drawnOf g p
+      drawn =
+          let e : ltb capWidth (g .c) ≡ ltb capWidth (f .c) = ap (λ (z : ℕ). ltb capWidth z) (sym (A .count-c)) in
+          case (ltb capWidth (f .c))
+          (λ u. rw (e, u)
+          (ap (λ (n : ℕ). some n)
+          (pot-le 4 (8 * f .y + capWidth) (omega (arith, whole-drawn (F .gained-told) (ltb-true capWidth (f .c) u)))
+          ∙ ap (λ (y : ℕ). le 4 (g .pots) (p * potWidth (g .y) (g .c) + (8 * y + capWidth))) (A .count-y))))
           (λ u. rw (e, u))
 
 -- What the result tells of pot p is the same

@@ -1,16 +1,17 @@
 -- The theorems, each under the sentence of the papers that it answers. `clearOf file lent` is the answer to a file, and what then stands in the lent
 -- bytes; a file is cleared where that answer is no refusal. Assumes nothing.
-use Prim.Native.Nat.{ℕ, _+_, _≤_, _<_}
-use mathlib.Core.Path.{_≡_, _∙_}
+use Prim.Native.Nat.{ℕ, _+_, _/_, _≤_, _<_}
+use mathlib.Core.Path.{_≡_, ap, _∙_}
 use mathlib.Core.Bool.{false}
 use mathlib.Core.Logic.{_↔_}
 use mathlib.Core.List.{List, map}
+use mathlib.Core.Option.{Option, none, some}
 use lib.ListN.{length, take, drop}
-use borrow.Author.Tests.{eq-eqb}
-use Rattle.rules.specs.Names.{administrative, auctioned, noReason}
+use borrow.Author.Tests.{eq-eqb, le-ltb}
+use Rattle.rules.specs.Names.{administrative, auctioned, noReason, capWidth}
 use Rattle.rules.specs.File.{Round, roundOf, bidAt}
-use Rattle.rules.specs.Pot.{Pot, winners, live, auction, wideEnd}
-use Rattle.rules.specs.Round.{potOf}
+use Rattle.rules.specs.Pot.{Pot, winners, goesOn, live, drawnAfter, auction, wideEnd}
+use Rattle.rules.specs.Round.{assemble, drawnOf, potOf}
 use Rattle.rules.specs.Result.{needed, refusedAs, clearOf}
 use Rattle.laws_pot.specs.Lists.{In}
 use Rattle.laws_reading.specs.Reading.{Sound}
@@ -19,6 +20,7 @@ use Rattle.laws_round.specs.Undeclared.{SaveCosts, same-clearing}
 use Rattle.laws_pot.specs.Mono.{Lawful}
 use Rattle.laws_pot.specs.Runs as runs
 use Rattle.laws_pot.specs.Once as once
+use Rattle.laws_pot.specs.Drawn as drawn
 use Rattle.laws_round.specs.Bids.{bidPot, mine-own, mine-in, bids-in, in-bids, bids-once, differ, lawful}
 use Rattle.laws_round.specs.Apart.{DifferElsewhere}
 use Rattle.laws_round.specs.Third.{Third}
@@ -104,6 +106,20 @@ few-steps = runs.steps-most
 pub wins-once : (R : Round) → Sound R → (p : ℕ) → once.NoneTwice (winners (auction (potOf R p)))
     × once.NoneTwice (map (potOf R p .app) (winners (auction (potOf R p))))
 wins-once R S p = (once.winners-once (potOf R p) (bids-once R p), once.apps-once (potOf R p) (lawful R p S) (differ R p S) (bids-once R p))
+
+-- "If there are m .." (02, CR 6): at every step of an auction there is one, so that no drawn number is divided by 0; and after its steps the number has been
+-- divided by the ways of all of them
+pub always-a-way : (R : Round) → Sound R → (p : ℕ) → 0 < drawn.allWays (auction (potOf R p))
+always-a-way R S p = drawn.auction-ways (potOf R p) (lawful R p S)
+
+pub number-left : (R : Round) (p d : ℕ) → potOf R p .drawn ≡ some d
+    → drawnAfter (potOf R p) (auction (potOf R p)) ≡ some (d / drawn.allWays (auction (potOf R p)))
+number-left R p d e = ap (λ (n : Option ℕ). goesOn n (auction (potOf R p))) e ∙ drawn.goes-on-is d (auction (potOf R p))
+
+-- "Without drawn numbers the rule of 01 stands" (02, CR 6): the pots of a file without them have none, and keep none
+pub no-number : (R : Round) (p : ℕ) → R .c ≤ capWidth → potOf R p .drawn ≡ none
+unfolding potOf assemble drawnOf
+no-number R p h = rw (le-ltb capWidth (R .c) h)
 
 -- Change request 3, of a pot: an application's single bid that won still wins where its price alone is lowered, to one that no other bid of the pot carries
 pub lower-still-wins : (P : Pot) (b : ℕ) (price : ℕ → ℕ) → Lawful P → Lowered P b price → In b (winners (auction P)) → In b (winners (auction (priced P price)))

@@ -12,12 +12,12 @@ use Rattle.rules.specs.Names.{countWidth, appWidth, bidWidth, bytesAfter, large
 use Rattle.rules.specs.Names.{countOutside, appBroken, bidBroken, endsEarly}
 use Rattle.rules.specs.Lists.{pick, given, both, when, never, every, sift, below}
 use Rattle.rules.specs.Bytes.{le, part, bytes, each, onto}
-use Rattle.rules.specs.File.{Round, Bid, sections, roundOf, sectionsOf, deliveries, yearAt, potsTold, capTold, techAt, appAt, bidAt, potsAt, techsAt, appsAt}
+use Rattle.rules.specs.File.{Round, Bid, sections, roundOf, sectionsOf, deliveries, yearAt, potsTold, gainedTold, techAt, appAt, bidAt, potsAt, techsAt, appsAt}
 use Rattle.rules.specs.File.{bidsAt, endAt}
 use Rattle.rules.specs.Refusals.{orElse, orFault, scan, countFault, recordFault, section, appFault, sevenOf, eightOf, nineOf}
 use Rattle.rules.specs.Refusals.{bidFault, elevenOf, judged, reading}
 use Rattle.rules.specs.Pot.{reason}
-use Rattle.rules.specs.Round.{blank, assemble, atAdminPrice, mine, appMine, rowFor, budgetOf, capOf, potOf}
+use Rattle.rules.specs.Round.{blank, assemble, atAdminPrice, mine, appMine, rowFor, budgetOf, capOf, drawnOf, potOf}
 use Rattle.rules.specs.Result.{toldIn, appTold, appBytes, potBytes, bidBytes, potsPart, appsPart, bidsPart, resultBytes, needed, answerTo, answerOf, after}
 use Rattle.rules.specs.Result.{clearOf}
 use Rattle.rules.specs.declared.Reading.{Reading}
@@ -27,7 +27,7 @@ use Rattle.rules.specs.declared.Answer.the-variants.{Cleared, Refused}
 use Rattle.laws_round.specs.Apart.{undeclared}
 use Rattle.laws_reading.specs.Alike.{le-same, getD-past, part-same, part-byte, part-size}
 
--- where the declared cost of application a stands in a file of y years, p pots with c bytes of cap each and t technologies: the last 8 of its bytes
+-- where the declared cost of application a stands in a file of y years, p pots that have gained c bytes each and t technologies: the last 8 of its bytes
 abbrev pub costAt : (y c p t a : ℕ) → ℕ
 costAt y c p t a = appsAt y c p t + countWidth + a * appWidth + undeclared
 
@@ -132,12 +132,12 @@ module _ (R : Round) (m : List ℕ) (e : (a : ℕ) → appAt (R .apps) a ≡ app
   its-app p a = λ j. ltb a (R .n) && eqb (techAt (R .y) (R .techs) (e a j .tech) .pot) p
 
   pot : (p : ℕ) → potOf R p ≡ potOf Q p
-  unfolding potOf capOf
+  unfolding potOf capOf drawnOf
   pot p = λ j.
       assemble (R .years) (R .y) (sift (λ k. its p k j) (below (R .b))) (sift (λ a. its-app p a j) (below (R .n)))
       (λ k. pick (its p k j) (row (bidAt (R .bids) k) j) blank)
       (λ a. pick (its-app p a j) (own a j) blank)
-      (budgetOf R p) (capOf R p)
+      (budgetOf R p) (capOf R p) (drawnOf R p)
     where
       own : (a : ℕ) → rowFor R (atAdminPrice R a) ≡ rowFor Q (atAdminPrice Q a)
       own a = row (atAdminPrice R a) ∙ ap (rowFor Q) (at-admin-price a)
@@ -155,7 +155,8 @@ module _ (R : Round) (m : List ℕ) (e : (a : ℕ) → appAt (R .apps) a ≡ app
 
 -- a section is the same where its count, the room of its records and what is wrong with each are
 section-same : (told : ℕ → ℕ) (s t : List ℕ) (at low high w : ℕ) (l m : List ℕ) (f g : ℕ → ℕ) (q r : Reading) → length s ≡ length t
-    → le countWidth s at ≡ le countWidth t at → length l ≡ length m → ((i : ℕ) → f i ≡ g i) → q ≡ r → section told s at low high w l f q ≡ section told t at low high w m g r
+    → le countWidth s at ≡ le countWidth t at → length l ≡ length m → ((i : ℕ) → f i ≡ g i) → q ≡ r
+    → section told s at low high w l f q ≡ section told t at low high w m g r
 unfolding section countFault recordFault
 section-same told s t at low high w l m f g q r long c room h e = λ j.
     orElse (given (decLe (at + countWidth) (long j)) (given (both (decLe low (told (c j))) (decLe (told (c j)) high)) 0 countOutside) endsEarly) at
@@ -169,7 +170,7 @@ module _ (s t : List ℕ) (D : SaveCosts s t) where
   y = le countWidth s 0
 
   abbrev c : ℕ
-  c = capTold (le countWidth s (potsAt y))
+  c = gainedTold (le countWidth s (potsAt y))
 
   abbrev p : ℕ
   p = potsTold (le countWidth s (potsAt y))
@@ -267,7 +268,7 @@ module _ (s t : List ℕ) (D : SaveCosts s t) where
       eq = count (potsAt y) (omega arith) ∙ ap (λ (x : ℕ). le countWidth t (potsAt x)) ey
 
       ec : c ≡ roundOf t .c
-      ec = ap capTold eq
+      ec = ap gainedTold eq
 
       ep : p ≡ roundOf t .p
       ep = ap potsTold eq
