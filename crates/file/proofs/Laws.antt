@@ -8,13 +8,13 @@ use lib.ListN.{length}
 use Rattle.rules.specs.Names.{endsEarly, bytesAfter, mostYears, mostPots, mostTechs, mostApps, mostBids, countWidth, yearWidth, potWidth, techWidth, appWidth}
 use Rattle.rules.specs.Names.{bidWidth}
 use Rattle.rules.specs.Bytes.{le, part}
-use Rattle.rules.specs.File.{roundOf, sections, sectionsOf, potsTold, capTold, appAt, potsAt, techsAt, appsAt, bidsAt, endAt}
+use Rattle.rules.specs.File.{roundOf, sections, sectionsOf, potsTold, gainedTold, appAt, potsAt, techsAt, appsAt, bidsAt, endAt}
 use Rattle.rules.specs.Refusals.{scan, plain, countFault, section, sevenOf, eightOf, nineOf, bidFault, elevenOf, judged, reading}
 use Rattle.rules.specs.declared.Sections.{Sections}
 use Rattle.rules.specs.declared.Reading.{Reading}
 use Rattle.rules.specs.declared.Reading.the-variants.{Accepted, Refused}
 use Rattle.laws_reading.specs.Walk.{given-yes, given-no, refuses}
-use Rattle.laws_reading.specs.Reading.{holds, CapTold, cap-told, YearRight, year-right, app-right, deliveries-most, counts}
+use Rattle.laws_reading.specs.Reading.{holds, GainedTold, gained-told, YearRight, year-right, app-right, deliveries-most, counts}
 use Rattle.laws_reading.specs.Fault.{Table, years, pots, techs, apps, bids, tables, says, countIs, recordIs, judges, judgesAll, Right, AllRight, none, also}
 use Rattle.laws_reading.specs.Fault.{after, goes, stops, faulty, or-passes, sections-pass, count-right, record-right, ends-within}
 use Rattle.fields.proofs.Le.{part-length}
@@ -45,9 +45,9 @@ counted told s at low high e z =
     let b = holds _ _ _ (a .1) (λ q. omega arith) in
     (a .0, b .0)
 
--- the bytes of a cap that a count was found to tell
-pub cap-found : (count : ℕ) {c : ℕ} → c ≡ capTold count → CapTold c
-cap-found count e = rw e (cap-told count)
+-- the bytes gained that a count was found to tell
+pub gained-found : (count : ℕ) {c : ℕ} → c ≡ gainedTold count → GainedTold c
+gained-found count e = rw e (gained-told count)
 
 -- n records, no more than a and none wider than b
 pub few-bytes : (a b n w : ℕ) → n ≤ a → w ≤ b → n * w ≤ a * b
@@ -165,9 +165,9 @@ module _ (s : List ℕ) {g : Sections} (h : readYears s ≡ Accepted g) where
     unfolding readYears readPots
     pots-refused z =
         let a = goes s (toYears (roundOf s)) (afterYears s) h in
-        next-refused s (a .0) (pots (roundOf s)) (Accepted (afterPots s)) (λ x. x .«pots_at») (λ x n. potWidth (x .years) (capTold n)) (a .1) refl e z
+        next-refused s (a .0) (pots (roundOf s)) (Accepted (afterPots s)) (λ x. x .«pots_at») (λ x n. potWidth (x .years) (gainedTold n)) (a .1) refl e z
 
-    pub pots-read : f ≡ 0 → {count c n m : ℕ} {l : List ℕ} {r : Reading} → count ≡ le countWidth s (g .«pots_at») → c ≡ capTold count → n ≡ potsTold count
+    pub pots-read : f ≡ 0 → {count c n m : ℕ} {l : List ℕ} {r : Reading} → count ≡ le countWidth s (g .«pots_at») → c ≡ gainedTold count → n ≡ potsTold count
         → m ≡ n * potWidth (g .years) c
         → l ≡ part s (g .«pots_at» + countWidth) (g .«pots_at» + countWidth + m)
         → r ≡ potsOf l (g .«pots_at» + countWidth) (withPots g c n (g .«pots_at» + countWidth + m)) → r ≡ readPots s
@@ -175,8 +175,8 @@ module _ (s : List ℕ) {g : Sections} (h : readYears s ≡ Accepted g) where
     pots-read z {m = m} {l = l} p u v w q r =
         let a = goes s (toYears (roundOf s)) (afterYears s) h in
         let start = g .«pots_at» + countWidth in
-        next-read s (a .0) (pots (roundOf s)) (Accepted (afterPots s)) (λ x. x .«pots_at») (λ x n. potWidth (x .years) (capTold n)) (a .1) refl e
-        (λ x n next l. potsOf l (x .«pots_at» + countWidth) (withPots x (capTold n) (potsTold n) next)) refl z p
+        next-read s (a .0) (pots (roundOf s)) (Accepted (afterPots s)) (λ x. x .«pots_at») (λ x n. potWidth (x .years) (gainedTold n)) (a .1) refl e
+        (λ x n next l. potsOf l (x .«pots_at» + countWidth) (withPots x (gainedTold n) (potsTold n) next)) refl z p
         (ap (λ (x : ℕ). start + x) w ∙ (λ j. start + v j * potWidth (g .years) (u j))) q
         (r ∙ (λ j. potsOf l start (withPots g (u j) (v j) (start + m))))
 

@@ -16,7 +16,7 @@ use Rattle.records.specs.Records.{withYears}
 unfoldable pub rangeFault : (n low high : ℕ) → ℕ
 rangeFault n low high = given (both (decLe low n) (decLe n high)) 0 countOutside
 
--- ---- the sections so far: each brings its own count, the pots' also the bytes of a cap, and, but for the last, the place of the next one's
+-- ---- the sections so far: each brings its own count, the pots' also the bytes that each has gained, and, but for the last, the place of the next one's
 
 abbrev pub withPots : Sections → (c n next : ℕ) → Sections
 withPots g c n next =
@@ -24,16 +24,16 @@ withPots g c n next =
 
 abbrev pub withTechs : Sections → (n next : ℕ) → Sections
 withTechs g n next =
-    laidOut (g .years) (g .deliveries) (g .«cap_width») (g .pots) n (g .applications) (g .bids) (g .«pots_at») (g .«technologies_at») next (g .«bids_at»)
+    laidOut (g .years) (g .deliveries) (g .gained) (g .pots) n (g .applications) (g .bids) (g .«pots_at») (g .«technologies_at») next (g .«bids_at»)
 
 abbrev pub withApps : Sections → (n next : ℕ) → Sections
 withApps g n next =
-    laidOut (g .years) (g .deliveries) (g .«cap_width») (g .pots) (g .technologies) n (g .bids) (g .«pots_at») (g .«technologies_at»)
+    laidOut (g .years) (g .deliveries) (g .gained) (g .pots) (g .technologies) n (g .bids) (g .«pots_at») (g .«technologies_at»)
     (g .«applications_at») next
 
 abbrev pub withBids : Sections → (n : ℕ) → Sections
 withBids g n =
-    laidOut (g .years) (g .deliveries) (g .«cap_width») (g .pots) (g .technologies) (g .applications) n (g .«pots_at») (g .«technologies_at»)
+    laidOut (g .years) (g .deliveries) (g .gained) (g .pots) (g .technologies) (g .applications) n (g .«pots_at») (g .«technologies_at»)
     (g .«applications_at») (g .«bids_at»)
 
 -- where a section's n records of a width end, after its count at `at`

@@ -28,7 +28,7 @@ pub fn count_fault(file: &[u8], at: usize, low: u64, high: u64) -> u64
     range_fault(reader::count_at(file, at), low, high)
 }
 
-// What is wrong with the count of pots at `at`, which may tell of caps as well: 0 if nothing is.
+// What is wrong with the count of pots at `at`, which may tell of caps and drawn numbers as well: 0 if nothing is.
 pub fn pots_count_fault(file: &[u8], at: usize) -> u64
     ensures { λ r. ⌜ r ≡ countFault potsTold (now (file .entry)) at 1 mostPots ⌝ }
 {

@@ -29,7 +29,7 @@ pub fn read_years(file: &[u8]) -> Reading
     years(records_after(file, 0, next), n, names::COUNT_WIDTH)
 }
 
-// The pots, after the years. Their count tells of caps as well.
+// The pots, after the years. Their count tells of caps and drawn numbers as well.
 pub fn read_pots(file: &[u8], past: Sections) -> Reading
     requires { ⌜ readYears (now file) ≡ Accepted past ⌝ }
     ensures { λ r. ⌜ r ≡ readPots (now (file .entry)) ⌝ }
@@ -40,12 +40,12 @@ pub fn read_pots(file: &[u8], past: Sections) -> Reading
         return Reading::Refused { number: f, at };
     }
     let count = count_at(file, at);
-    let cap_width = pot::cap_told(count);
+    let gained = pot::gained_told(count);
     let n = pot::pots_told(count) as usize;
     let start = at + names::COUNT_WIDTH;
-    let next = start + pot::place(past.years, cap_width, n);
+    let next = start + pot::place(past.years, gained, n);
     let mut done = past;
-    done.cap_width = cap_width;
+    done.gained = gained;
     done.pots = n;
     done.technologies_at = next;
     pots(records_after(file, at, next), start, done)

@@ -11,7 +11,7 @@ use Rattle.layout.specs.declared.bid.Bid as b
 
 -- a place past every byte of every round file
 abbrev pub beyond : ℕ
-beyond = 7883
+beyond = 7899
 
 -- record i, of those of this width, stands whole in the part that they occupy
 abbrev pub Room : (recs : List ℕ) (width i : ℕ) → Type 0
@@ -25,11 +25,11 @@ abbrev pub bidShown : b.Bid → Bid
 bidShown x = record { app = x .application; year = x .year; days = x .days; capacity = x .capacity; price = x .price }
 
 -- the sections with these counts and places
-abbrev pub laidOut : (years deliveries cap-width pots technologies applications bids pots-at technologies-at applications-at bids-at : ℕ) → Sections
-laidOut years deliveries cap-width pots technologies applications bids pots-at technologies-at applications-at bids-at = record {
+abbrev pub laidOut : (years deliveries gained pots technologies applications bids pots-at technologies-at applications-at bids-at : ℕ) → Sections
+laidOut years deliveries gained pots technologies applications bids pots-at technologies-at applications-at bids-at = record {
   years = years;
   deliveries = deliveries;
-  «cap_width» = cap-width;
+  gained = gained;
   pots = pots;
   technologies = technologies;
   applications = applications;

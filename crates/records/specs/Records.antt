@@ -20,8 +20,8 @@ yearsOf recs n base = scan (recordFault recs yearWidth (yearFault recs)) yearWid
 
 unfoldable pub potsOf : List ℕ → (base : ℕ) → Sections → Reading
 potsOf recs base g =
-    let width = potWidth (g .years) (g .«cap_width») in
-    scan (recordFault recs width (potFault (g .years) (g .«cap_width») recs)) width base 0 (g .pots) (Accepted g)
+    let width = potWidth (g .years) (g .gained) in
+    scan (recordFault recs width (potFault (g .years) (g .gained) recs)) width base 0 (g .pots) (Accepted g)
 
 unfoldable pub techsOf : List ℕ → (base : ℕ) → Sections → Reading
 techsOf recs base g =

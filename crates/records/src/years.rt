@@ -69,7 +69,7 @@ pub fn years(recs: &[u8], n: usize, base: usize) -> Reading
         sections: Sections {
             years: n,
             deliveries,
-            cap_width: 0,
+            gained: 0,
             pots: 0,
             technologies: 0,
             applications: 0,

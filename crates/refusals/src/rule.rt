@@ -2,15 +2,20 @@
 use super::broken;
 use text::word;
 
-// Rules 1 to 6, but for 4.
+// Rule 2, which the count at `at` broke.
+fn of_count(file: &[u8], at: usize) {
+    if broken::drawn_without_caps(file, at) {
+        return word(b": 16,384 added without 32,768 (drawn numbers without caps)");
+    }
+    word(
+        b": count outside its range (years 1 to 8, pots 1 to 4 or, with caps, 32,769 to 32,772 or, with caps and drawn numbers, 49,153 to 49,156, technologies 1 to 32, applications 0 to 64, bids 0 to 256)",
+    );
+}
+
+// Rules 1 to 6, but for 2 and 4.
 fn of_sections(number: u64) {
     if number == names::ENDS_EARLY {
         return word(b": the file ends before the end of this count or record");
-    }
-    if number == names::COUNT_OUTSIDE {
-        return word(
-            b": count outside its range (years 1 to 8, pots 1 to 4 or, with caps, 32,769 to 32,772, technologies 1 to 32, applications 0 to 64, bids 0 to 256)",
-        );
     }
     if number == names::YEAR_BROKEN {
         return word(
@@ -46,8 +51,11 @@ fn of_bids(number: u64) {
     word(b": the lowest bid of its application in its year is not in whole pence");
 }
 
-// The rule of this number, which the record at `at` broke.
+// The rule of this number, which the count or record at `at` broke.
 pub fn words(file: &[u8], number: u64, at: usize) {
+    if number == names::COUNT_OUTSIDE {
+        return of_count(file, at);
+    }
     if number == names::POT_BROKEN {
         return broken::of_pot(file, at);
     }

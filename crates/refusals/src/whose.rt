@@ -59,7 +59,7 @@ fn of_pots(file: &[u8], years: usize, pots_at: usize, at: usize)
     requires { ⌜ years < 65536 ⌝ }
 {
     let counted = count(file, pots_at) as u64;
-    let pot_width = pot::width(years, pot::cap_told(counted));
+    let pot_width = pot::width(years, pot::gained_told(counted));
     let pots = pot::pots_told(counted) as usize;
     let technologies_at = after(pots_at, pots, pot_width);
     if at < technologies_at {

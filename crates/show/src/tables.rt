@@ -2,7 +2,7 @@
 ghost use Prim.Native.Nat.{_*_, _≤_, _<_};
 ghost use lib.ListN.{length};
 ghost use Rattle.rules.specs.Names.{yearWidth, capWidth, potWidth, techWidth, appWidth, bidWidth};
-ghost use Rattle.laws_reading.specs.Reading.{CapTold};
+ghost use Rattle.laws_reading.specs.Reading.{GainedTold};
 ghost use Rattle.layout.specs.Layout.{Room};
 ghost use Rattle.rows.specs.Rows.{Held};
 use layout::application;
@@ -45,30 +45,30 @@ fn years(recs: &[u8], n: usize)
 }
 
 // The budget of pot p in year y, after a comma but for the first.
-fn budget(recs: &[u8], years: usize, cap_width: usize, p: usize, y: usize)
-    requires { ⌜ Room (now recs) (potWidth years «cap_width») p × (y < years) ⌝ }
+fn budget(recs: &[u8], years: usize, gained: usize, p: usize, y: usize)
+    requires { ⌜ Room (now recs) (potWidth years gained) p × (y < years) ⌝ }
 {
     if y > 0 {
         word(b",");
     }
-    money(b" ", pot::budget(recs, years, cap_width, p, y), 0);
+    money(b" ", pot::budget(recs, years, gained, p, y), 0);
 }
 
-fn budgets(recs: &[u8], years: usize, cap_width: usize, p: usize)
-    requires { ⌜ Room (now recs) (potWidth years «cap_width») p ⌝ }
+fn budgets(recs: &[u8], years: usize, gained: usize, p: usize)
+    requires { ⌜ Room (now recs) (potWidth years gained) p ⌝ }
 {
     let mut y: usize = 0;
     while y < years {
-        budget(recs, years, cap_width, p, y);
+        budget(recs, years, gained, p, y);
         y += 1;
     }
 }
 
 // The cap of pot p, in a file with caps.
-fn cap(recs: &[u8], years: usize, cap_width: usize, p: usize)
-    requires { ⌜ Room (now recs) (potWidth years «cap_width») p × (capWidth ≤ «cap_width») ⌝ }
+fn cap(recs: &[u8], years: usize, gained: usize, p: usize)
+    requires { ⌜ Room (now recs) (potWidth years gained) p × (capWidth ≤ gained) ⌝ }
 {
-    let cap = pot::cap(recs, years, cap_width, p);
+    let cap = pot::cap(recs, years, gained, p);
     if cap == names::NO_CAP {
         return word(b"; cap none");
     }
@@ -76,25 +76,37 @@ fn cap(recs: &[u8], years: usize, cap_width: usize, p: usize)
     word(b" MW");
 }
 
-fn pot_line(recs: &[u8], years: usize, cap_width: usize, p: usize)
-    requires { ⌜ Room (now recs) (potWidth years «cap_width») p × CapTold «cap_width» ⌝ }
+// What the record of pot p has gained: its cap, and after that its drawn number, in a file with drawn numbers.
+fn gains(recs: &[u8], years: usize, gained: usize, p: usize)
+    requires { ⌜ Room (now recs) (potWidth years gained) p × GainedTold gained ⌝ }
+{
+    if gained == 0 {
+        return;
+    }
+    cap(recs, years, gained, p);
+    if gained <= names::CAP_WIDTH {
+        return;
+    }
+    field(b"; drawn number ", pot::drawn(recs, years, gained, p));
+}
+
+fn pot_line(recs: &[u8], years: usize, gained: usize, p: usize)
+    requires { ⌜ Room (now recs) (potWidth years gained) p × GainedTold gained ⌝ }
 {
     field(b"  pot ", p as u64);
     word(b": budgets");
-    budgets(recs, years, cap_width, p);
-    if cap_width != 0 {
-        cap(recs, years, cap_width, p);
-    }
+    budgets(recs, years, gained, p);
+    gains(recs, years, gained, p);
     word(b"\n");
 }
 
-fn pots(recs: &[u8], years: usize, cap_width: usize, n: usize)
-    requires { ⌜ (n * potWidth years «cap_width» ≤ length (now recs)) × CapTold «cap_width» ⌝ }
+fn pots(recs: &[u8], years: usize, gained: usize, n: usize)
+    requires { ⌜ (n * potWidth years gained ≤ length (now recs)) × GainedTold gained ⌝ }
 {
     word(b"pots\n");
     let mut p: usize = 0;
     while p < n {
-        pot_line(recs, years, cap_width, p);
+        pot_line(recs, years, gained, p);
         p += 1;
     }
 }
@@ -199,7 +211,7 @@ pub fn print(file: &[u8], sections: Sections)
 {
     years(parts::years(file, sections), sections.years);
     let recs = parts::pots(file, sections);
-    pots(recs, sections.years, sections.cap_width, sections.pots);
+    pots(recs, sections.years, sections.gained, sections.pots);
     let techs = parts::technologies(file, sections);
     technologies(techs, sections.years, sections.technologies);
     applications(parts::applications(file, sections), sections.applications);

@@ -5,9 +5,9 @@ use Prim.Native.Nat.{_+_, _*_, _≤_}
 use mathlib.Core.Path.{ap}
 use lib.ListN.{length}
 use denote.Ref.{now}
-use Rattle.rules.specs.Names.{countWidth, capWidth, mostYears, mostPots, potWidth}
+use Rattle.rules.specs.Names.{countWidth, capWidth, drawnWidth, mostYears, mostPots, potWidth}
 use Rattle.rules.specs.File.{potsTold}
-use Rattle.file.proofs.Laws.{counted, cap-found, few-bytes, facts1, pots-refused, pots-read}
+use Rattle.file.proofs.Laws.{counted, gained-found, few-bytes, facts1, pots-refused, pots-read}
 use Rattle.file.proofs.section.read_pots.Statement.{statement}
 use Rattle.file.proofs.section.read_pots.Tie as tie
 
@@ -21,7 +21,7 @@ count-at-requires c κs = counted _ _ _ _ _ (c .before .pots-count-fault .ensure
 room : (k : tie.After-pots-told) → let p = k .before .before .before .before .before .before .args in
     (p .past .«pots_at» + countWidth ≤ length (now (p .file)))
     × ((p .past .years ≤ mostYears)
-    × (k .pots-told .result * potWidth (p .past .years) (k .before .cap-told .result) ≤ mostPots * potWidth mostYears capWidth))
+    × (k .pots-told .result * potWidth (p .past .years) (k .before .gained-told .result) ≤ mostPots * potWidth mostYears (capWidth + drawnWidth)))
 room k =
     let p = k .before .before .before .before .before .before in
     let n = counted _ _ _ _ _ (k .before .before .before .before .pots-count-fault .ensures) (k .before .before .before .if1 .left) in
@@ -30,13 +30,13 @@ room k =
       n .0,
       (
         m,
-        few-bytes mostPots (potWidth mostYears capWidth) (k .pots-told .result) (potWidth (p .args .past .years) (k .before .cap-told .result)) few
-            (omega (arith, k .before .cap-told .ensures .1)),
+        few-bytes mostPots (potWidth mostYears (capWidth + drawnWidth)) (k .pots-told .result)
+            (potWidth (p .args .past .years) (k .before .gained-told .result)) few (omega (arith, k .before .gained-told .ensures .1)),
       ),
     )
 
 place-requires : tie.Need-place-requires
-place-requires c κs = omega (arith, room c, c .before .cap-told .ensures .1)
+place-requires c κs = omega (arith, room c, c .before .gained-told .ensures .1)
 
 add-start : tie.Need-add-start
 add-start c = omega (arith, room c)
@@ -50,14 +50,14 @@ records-after-requires c κs = omega (arith, room (c .before))
 pots-requires : tie.Need-pots-requires
 pots-requires c κs =
     let k = c .before .before in
-    (room k .1 .0, (cap-found _ (k .before .cap-told .ensures .0), omega (arith, room k)))
+    (room k .1 .0, (gained-found _ (k .before .gained-told .ensures .0), omega (arith, room k)))
 
 returns-2 : tie.Need-returns-2
 returns-2 c =
     let k = c .before .before .before in
     let o = k .before .before .before in
     pots-read _ (o .before .before .before .pre) (o .before .pots-count-fault .ensures) (o .if1 .left) (k .before .before .count-at .ensures .0)
-    (k .before .cap-told .ensures .0) (k .pots-told .ensures .0)
+    (k .before .gained-told .ensures .0) (k .pots-told .ensures .0)
     (c .before .before .place .ensures)
     (c .before .records-after .ensures .0) (c .pots .ensures)
 

@@ -9,22 +9,22 @@ use Rattle.rules.specs.Names.{highestBudget}
 use Rattle.rules.specs.File.{budgetAt}
 use Rattle.rules.specs.Refusals.{recordFault, potFault}
 use Rattle.laws_reading.specs.Walk.{given-yes, given-no}
-use Rattle.laws_reading.specs.Reading.{cap-most, whole-cap}
+use Rattle.laws_reading.specs.Reading.{gained-most, whole-gained}
 use Rattle.records.proofs.Laws.{no-cap-asked, cap-asked}
 use Rattle.records.proofs.pots.pot_fault.Statement.{statement}
 use Rattle.records.proofs.pots.pot_fault.Tie as tie
 
 abbrev Inv-loop : tie.InvT-loop
-Inv-loop recs years cap p y₀ y = (y ≤ years) × ((j : ℕ) → j < y → budgetAt years cap recs p j ≤ highestBudget)
+Inv-loop recs years gained p y₀ y = (y ≤ years) × ((j : ℕ) → j < y → budgetAt years gained recs p j ≤ highestBudget)
 
 abbrev μ-loop : tie.MeasureT-loop
-μ-loop recs years cap p y₀ y = years - y
+μ-loop recs years gained p y₀ y = years - y
 
 place-requires : tie.Need-place-requires Inv-loop μ-loop
-place-requires c κs = omega (arith, cap-most (c .before .pre .1 .0))
+place-requires c κs = omega (arith, gained-most (c .before .pre .1 .0))
 
 width-requires : tie.Need-width-requires Inv-loop μ-loop
-width-requires c κs = omega (arith, cap-most (c .before .before .pre .1 .0))
+width-requires c κs = omega (arith, gained-most (c .before .before .pre .1 .0))
 
 returns : tie.Need-returns Inv-loop μ-loop
 unfolding recordFault
@@ -48,7 +48,7 @@ returns-3 c =
 
 cap-requires : tie.Need-cap-requires Inv-loop μ-loop
 cap-requires c κs =
-    (omega arith, whole-cap (c .before .before .before .before .before .before .before .pre .1 .0) (c .if3 .left))
+    (omega arith, whole-gained (c .before .before .before .before .before .before .before .pre .1 .0) (c .if3 .left))
 
 returns-4 : tie.Need-returns-4 Inv-loop μ-loop
 unfolding recordFault

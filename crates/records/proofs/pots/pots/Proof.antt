@@ -9,7 +9,7 @@ use Rattle.rules.specs.Names.{potWidth}
 use Rattle.rules.specs.Refusals.{recordFault, potFault, scan}
 use Rattle.rules.specs.declared.Reading.the-variants.{Accepted}
 use Rattle.laws_reading.specs.Walk.{at-fault, goes-on, at-end}
-use Rattle.laws_reading.specs.Reading.{cap-most}
+use Rattle.laws_reading.specs.Reading.{gained-most}
 use Rattle.laws_reading.specs.Fault.{no-fault}
 use Rattle.records.specs.Records.{potsOf}
 use Rattle.records.proofs.Laws.{placed}
@@ -17,19 +17,20 @@ use Rattle.records.proofs.pots.pots.Statement.{statement}
 use Rattle.records.proofs.pots.pots.Tie as tie
 
 abbrev Inv-loop : tie.InvT-loop
-Inv-loop recs base done years cap n p₀ p =
-    (p ≤ n) × (p * potWidth years cap ≤ length recs)
-    × (scan (recordFault recs (potWidth years cap) (potFault years cap recs)) (potWidth years cap) base p (n - p) (Accepted done) ≡ potsOf recs base done)
+Inv-loop recs base done years gained n p₀ p =
+    let width = potWidth years gained in
+    (p ≤ n) × (p * width ≤ length recs)
+    × (scan (recordFault recs width (potFault years gained recs)) width base p (n - p) (Accepted done) ≡ potsOf recs base done)
 
 abbrev μ-loop : tie.MeasureT-loop
-μ-loop recs base done years cap n p₀ p = n - p
+μ-loop recs base done years gained n p₀ p = n - p
 
 loop-holds : tie.Need-loop-holds Inv-loop μ-loop
 unfolding potsOf
 loop-holds c = (omega arith, omega arith, rw (sub-zero (c .before .args .done .pots)))
 
 place-requires : tie.Need-place-requires Inv-loop μ-loop
-place-requires c κs = omega (arith, cap-most (c .before .before .before .before .before .pre .1 .0))
+place-requires c κs = omega (arith, gained-most (c .before .before .before .before .before .pre .1 .0))
 
 returns : tie.Need-returns Inv-loop μ-loop
 returns c =

@@ -5,10 +5,10 @@ use Rattle.refusals.proofs.broken.budget_high.Statement.{statement}
 use Rattle.refusals.proofs.broken.budget_high.Tie as tie
 
 abbrev Inv-loop : tie.InvT-loop
-Inv-loop recs years cap-width y₀ y = y ≤ years
+Inv-loop recs years gained y₀ y = y ≤ years
 
 abbrev μ-loop : tie.MeasureT-loop
-μ-loop recs years cap-width y₀ y = years - y
+μ-loop recs years gained y₀ y = years - y
 
 pub budget-high-spec : {M : Type 1} → statement M
 budget-high-spec =

@@ -5,10 +5,10 @@ use Rattle.show.proofs.tables.budgets.Statement.{statement}
 use Rattle.show.proofs.tables.budgets.Tie as tie
 
 abbrev Inv-loop : tie.InvT-loop
-Inv-loop recs years cap-width p y₀ y = y ≤ years
+Inv-loop recs years gained p y₀ y = y ≤ years
 
 abbrev μ-loop : tie.MeasureT-loop
-μ-loop recs years cap-width p y₀ y = years - y
+μ-loop recs years gained p y₀ y = years - y
 
 pub budgets-spec : {M : Type 1} → statement M
 budgets-spec =

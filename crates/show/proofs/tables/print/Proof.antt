@@ -12,7 +12,7 @@ years-requires-2 c κs = omega (arith, c .before .before .pre .sound .years-whol
 pots-requires-2 : tie.Need-pots-requires-2
 pots-requires-2 c κs =
     let sound = c .before .before .before .before .pre .sound in
-    (omega (arith, sound .pots-whole, ap length (c .pots .ensures)), sound .cap-told)
+    (omega (arith, sound .pots-whole, ap length (c .pots .ensures)), sound .gained-told)
 
 technologies-requires-2 : tie.Need-technologies-requires-2
 technologies-requires-2 c κs =
