@@ -11,22 +11,22 @@ use lib.ListN.{length, getD, set, take, drop, length-set, getD-replicate}
 use lib.Seq.{getD-drop, getD-set-same, getD-set-other}
 use lib.Dec.{eqb, ltb}
 use borrow.Author.Tests.{eqb-true, eqb-false, eq-eqb, ne-eqb, lt-ltb, le-ltb}
-use Rattle.rules.specs.Names.{mostYears, mostBids, mostApps, noCap, potWidth, pencePerPound, highestBudget}
+use Rattle.rules.specs.Names.{mostYears, mostBids, mostApps, noCap, capWidth, potWidth, pencePerPound, highestBudget}
 use Rattle.rules.specs.Lists.{pick, sift, below}
 use Rattle.rules.specs.Bytes.{part}
-use Rattle.rules.specs.File.{Round, App, Bid, appAt, bidAt, budgetAt, capAt}
-use Rattle.rules.specs.Round.{Row, blank, atAdminPrice, mine, appMine, rowFor, capOf}
+use Rattle.rules.specs.File.{Round, App, Bid, appAt, bidAt, budgetAt, capAt, drawnAt}
+use Rattle.rules.specs.Round.{Row, blank, atAdminPrice, mine, appMine, rowFor, capOf, drawnOf}
 use Rattle.laws_pot.specs.Lists.{case}
 use Rattle.laws_reading.specs.Reading.{Sound}
 use Rattle.laws_round.specs.Bids.{app-in}
 use Rattle.layout.specs.Layout.{Room}
 use Rattle.sheet.specs.Sheet.{entrantsAt, limitAt, absent, entered, rowStanding, entrantAt, entrants, inAuction, inTest, rowPlace, figurePlace, figuresPlace}
-use Rattle.sheet.specs.Sheet.{sheetLength, adminsAt, adminAt, figuresAt, places, appPlace}
+use Rattle.sheet.specs.Sheet.{sheetLength, drawnPlace, drawnIn, numberIn, adminsAt, adminAt, figuresAt, places, appPlace}
 use Rattle.rows.specs.Rows.{rowOf, adminRow, rowNumbers, figureNumbers, figuresIn}
 use Rattle.rows.proofs.Laws.{figure-blank, figure-own}
 use Rattle.fill.specs.Fill.{BlankAdmins, BlankFrom, Stands, Kept, Rest, Put, Figured, placed, RowsRight, AdminsRight, FiguresRight, AllFigures}
 use Rattle.fill.specs.Fill.{LimitsRight}
-use Rattle.fill.specs.Fill.{AdminsWritten, FiguresOf, FiguresWritten, CapWritten, Entered}
+use Rattle.fill.specs.Fill.{AdminsWritten, FiguresOf, FiguresWritten, CapWritten, DrawnWritten, Entered}
 
 -- ---- the record of a pot
 
@@ -111,10 +111,10 @@ pub budget-in : (R : Round) (p y : ℕ) {pots : List ℕ} {x : ℕ} → Sound R 
     → x ≤ highestBudget
 budget-in R p y S e h l q = rw (q, e) (S .budget-most p y h l)
 
-pub limits-more : (years cap : ℕ) (pots : List ℕ) (p y : ℕ) (s : List ℕ) {x : ℕ} → y < length s → LimitsRight years cap pots p y s
-    → x ≡ pencePerPound * budgetAt years cap pots p y → LimitsRight years cap pots p (y + 1) (set s y x)
-limits-more years cap pots p y s {x} h f e =
-    and-next (λ k. getD (set s y x) k 0 ≡ pencePerPound * budgetAt years cap pots p k) y
+pub limits-more : (years gained : ℕ) (pots : List ℕ) (p y : ℕ) (s : List ℕ) {x : ℕ} → y < length s → LimitsRight years gained pots p y s
+    → x ≡ pencePerPound * budgetAt years gained pots p y → LimitsRight years gained pots p (y + 1) (set s y x)
+limits-more years gained pots p y s {x} h f e =
+    and-next (λ k. getD (set s y x) k 0 ≡ pencePerPound * budgetAt years gained pots p k) y
     (λ j l. getD-set-other s y j x 0 (λ z. omega arith) ∙ f j l)
     (getD-set-same s y x 0 h ∙ e)
 
@@ -160,6 +160,24 @@ module _ (R : Round) (p : ℕ) (s : List ℕ) (long : length s ≡ sheetLength) 
       rest = λ j h. getD-set-other s (R .y) j x 0 (λ e. omega arith);
       long = length-set s (R .y) x ∙ long;
     }
+
+-- the drawn number of a pot: of a file without drawn numbers, and of one with them
+module _ (R : Round) (p : ℕ) (s : List ℕ) (long : length s ≡ sheetLength) where
+  drawn-written : (x : ℕ) → numberIn x ≡ drawnOf R p → DrawnWritten R p s (set s drawnPlace x)
+  unfolding drawnIn
+  drawn-written x e = record {
+    right = rw (getD-set-same s drawnPlace x 0 (omega (arith, long))) e;
+    kept = λ j h. getD-set-other s drawnPlace j x 0 (λ e. omega arith);
+    rest = λ j h. getD-set-other s drawnPlace j x 0 (λ e. omega arith);
+    long = length-set s drawnPlace x ∙ long;
+  }
+
+  pub drawn-none : R .c ≤ capWidth → DrawnWritten R p s (set s drawnPlace 0)
+  drawn-none h = drawn-written 0 (unfold numberIn drawnOf in rw (le-ltb capWidth (R .c) h))
+
+  pub drawn-some : {pots : List ℕ} {x : ℕ} → capWidth < R .c → pots ≡ R .pots → x ≡ drawnAt (R .y) (R .c) pots p → DrawnWritten R p s (set s drawnPlace (x + 1))
+  drawn-some {pots} {x} h ep ex = drawn-written (x + 1) (unfold numberIn drawnOf in
+      rw (add-one x, lt-ltb capWidth (R .c) h) (ap (λ (n : ℕ). some n) (ex ∙ ap (λ (l : List ℕ). drawnAt (R .y) (R .c) l p) ep)))
 
 pub rest-set : (n i : ℕ) (s t : List ℕ) (x : ℕ) → i < n → Rest n s t → Rest n s (set t i x)
 rest-set n i s t x h f j l = getD-set-other t i j x 0 (λ z. omega arith) ∙ f j l

@@ -15,7 +15,7 @@ use Rattle.rules.specs.Lists.{pick, sift, below}
 use Rattle.rules.specs.Bytes.{le}
 use Rattle.rules.specs.Value.{exactParts, hoursOf, penny, mostEnergy}
 use Rattle.rules.specs.File.{Round, Bid, yearAt, budgetAt}
-use Rattle.rules.specs.Round.{Row, blank, energyOf, costOf, assemble, mine, appMine, rowFor, budgetOf, capOf, potOf}
+use Rattle.rules.specs.Round.{Row, blank, energyOf, costOf, assemble, mine, appMine, rowFor, budgetOf, capOf, drawnOf, potOf}
 use Rattle.laws_pot.specs.Lists.{case, in-sift, in-below, below-in, sift-same}
 use Rattle.laws_reading.specs.Reading.{Sound}
 use Rattle.laws_reading.specs.Reading as r
@@ -23,11 +23,11 @@ use Rattle.laws_pot.specs.Mono.{Lawful}
 use Rattle.laws_round.specs.Bids.{mine-in, mine-out, app-in, app-out, lawful}
 use Rattle.sheet.specs.Sheet.{sheetLength, limitAt, entrants, absent, entered, rowStanding, rowApp, rowYear, rowPrice, rowDraw, rowAdmin, figReference}
 use Rattle.sheet.specs.Sheet.{figEnergy, figShare, partsAt, sheetCost, inAuction, inTest, adminAt, adminOf, potIn, Ready, places, appPlace, adminsAt, rowPlace}
-use Rattle.sheet.specs.Sheet.{capacityAt, figuresPlace, figurePlace}
+use Rattle.sheet.specs.Sheet.{drawnPlace, drawnIn, numberIn, capacityAt, figuresPlace, figurePlace}
 use Rattle.rows.specs.Rows.{rowOf, adminRow, rowNumbers, figureNumbers}
 use Rattle.rows.proofs.Laws.{Good, good, good-own, row-blank, energy-most, share-most}
 use Rattle.fill.specs.Fill.{placed, RowsRight, AdminsRight, AllFigures, LimitsRight, RowsWritten, AdminsWritten, FiguresWritten, LimitsWritten}
-use Rattle.fill.specs.Fill.{CapWritten, Entered, sizeOf}
+use Rattle.fill.specs.Fill.{CapWritten, DrawnWritten, Entered, sizeOf}
 use Rattle.fill.proofs.Laws.{own-test, in-test, price-none, own-place}
 
 -- what has been written
@@ -40,13 +40,15 @@ pub record Written (R : Round) (p : ℕ) (sheet : List ℕ) (m n : ℕ) : Type 0
   pub cap-right : pick (ltb (R .y) m) (some (limitAt sheet (R .y))) none ≡ capOf R p
   pub least : R .y ≤ m
   pub most : m ≤ R .y + 1
+  pub drawn-right : numberIn (drawnIn sheet) ≡ drawnOf R p
   pub entered : entrants sheet n ≡ sift (inAuction sheet) (below (R .b))
 
--- from the steps of the filling: the rows, the prices, the figures of the bids and of the applications, the limits, the cap, the entrants
-pub written : {R : Round} {p m n : ℕ} {s t u v w x y z : List ℕ} → R .y ≤ mostYears → RowsWritten R p s t → AdminsWritten R p t u
-    → FiguresWritten R p mostBids u v → FiguresWritten R p places v w → LimitsWritten R p w x → CapWritten R p x y m → Entered (R .b) y z n → Written R p z m n
-unfolding rowNumbers figureNumbers limitAt
-written {R} {p} {m} {n} {s} {t} {u} {v} {w} {x} {y} {z} hy A B C D E F G = record {
+-- from the steps of the filling: the rows, the prices, the figures of the bids and of the applications, the limits, the cap, the drawn number, the entrants
+pub written : {R : Round} {p m n : ℕ} {s t u v w x y d z : List ℕ} → R .y ≤ mostYears → RowsWritten R p s t → AdminsWritten R p t u
+    → FiguresWritten R p mostBids u v → FiguresWritten R p places v w → LimitsWritten R p w x → CapWritten R p x y m → DrawnWritten R p y d
+    → Entered (R .b) d z n → Written R p z m n
+unfolding rowNumbers figureNumbers limitAt drawnIn
+written {R} {p} {m} {n} {s} {t} {u} {v} {w} {x} {y} {d} {z} hy A B C D E F N G = record {
   length-is = G .long;
   rows-right = λ k h j g.
       after (rowPlace k + j) (omega arith) ∙ D .rest (rowPlace k + j) (omega arith)
@@ -58,18 +60,19 @@ written {R} {p} {m} {n} {s} {t} {u} {v} {w} {x} {y} {z} hy A B C D E F G = recor
     capacity = after (figuresPlace k) (omega arith) ∙ D .right k h .capacity;
     years = λ i f j g. after (figurePlace k i + j) (omega arith) ∙ D .right k h .years i f j g;
   };
-  limits-right = λ i h. G .kept i (omega arith) ∙ F .kept i h ∙ E .right i h;
-  cap-right = ap (λ (n : ℕ). pick (ltb (R .y) m) (some n) none) (G .kept (R .y) (omega arith)) ∙ F .right;
+  limits-right = λ i h. G .kept i (omega arith) ∙ N .kept i (omega arith) ∙ F .kept i h ∙ E .right i h;
+  cap-right = ap (λ (n : ℕ). pick (ltb (R .y) m) (some n) none) (G .kept (R .y) (omega arith) ∙ N .kept (R .y) (omega arith)) ∙ F .right;
   least = F .least;
   most = F .most;
-  entered = G .right ∙ sift-same (inAuction y) (inAuction z) (below (R .b)) (λ k i. sym (ap (λ (x : ℕ). eqb x entered) (same k)));
+  drawn-right = ap numberIn (G .kept drawnPlace (omega arith)) ∙ N .right;
+  entered = G .right ∙ sift-same (inAuction d) (inAuction z) (below (R .b)) (λ k i. sym (ap (λ (x : ℕ). eqb x entered) (same k)));
 }
   where
     -- what stands from the administrative prices on was not changed after the figures
     after : (j : ℕ) → adminsAt ≤ j → getD z j 0 ≡ getD w j 0
-    after j h = G .rest j h ∙ F .rest j (omega arith) ∙ E .rest j (omega arith)
+    after j h = G .rest j h ∙ N .rest j (omega arith) ∙ F .rest j (omega arith) ∙ E .rest j (omega arith)
 
-    same : (k : ℕ) → rowStanding z k ≡ rowStanding y k
+    same : (k : ℕ) → rowStanding z k ≡ rowStanding d k
     same k = unfold rowStanding in G .rest (rowPlace k) (omega arith)
 
 -- ---- products
@@ -266,6 +269,7 @@ module _ (R : Round) (S : Sound R) (p : ℕ) {sheet : List ℕ} {m n : ℕ} (W :
     admin = λ k. admin-is k i;
     capacity = λ k. bid-capacity-is k i;
     cap = W .cap-right i;
+    drawn = W .drawn-right i;
     adminPrice = λ a. admin-price-is a i;
     adminCost = λ a z. admin-cost-is a z i;
     appCapacity = λ a. app-capacity-is a i;

@@ -8,10 +8,10 @@ use lib.Dec.{ltb}
 use Rattle.rules.specs.Names.{mostBids, mostApps, pencePerPound}
 use Rattle.rules.specs.Lists.{pick, sift, below}
 use Rattle.rules.specs.File.{Round, Bid, budgetAt}
-use Rattle.rules.specs.Round.{Row, capOf}
+use Rattle.rules.specs.Round.{Row, capOf, drawnOf}
 use Rattle.sheet.specs.declared.Size.{Size}
-use Rattle.sheet.specs.Sheet.{sheetLength, entrantsAt, adminsAt, figuresAt, rowsAt, figuresWidth, rowPlace, figuresPlace, figurePlace, limitAt, entrants}
-use Rattle.sheet.specs.Sheet.{inAuction}
+use Rattle.sheet.specs.Sheet.{sheetLength, drawnPlace, entrantsAt, adminsAt, figuresAt, rowsAt, figuresWidth, rowPlace, figuresPlace, figurePlace, limitAt}
+use Rattle.sheet.specs.Sheet.{drawnIn, numberIn, entrants, inAuction}
 use Rattle.rows.specs.Rows.{rowOf, adminRow, rowNumbers, figureNumbers, figuresIn}
 
 -- the numbers v stand at a place of s
@@ -66,12 +66,12 @@ pub record FiguresRight (R : Round) (r : Row) (k : ℕ) (sheet : List ℕ) : Typ
 abbrev pub AllFigures : Round → (p n : ℕ) → List ℕ → Type 0
 AllFigures R p n sheet = (k : ℕ) → k < n → FiguresRight R (placed R p k) k sheet
 
-abbrev pub LimitsRight : (years cap : ℕ) (pots : List ℕ) (p n : ℕ) → List ℕ → Type 0
-LimitsRight years cap pots p n sheet = (y : ℕ) → y < n → getD sheet y 0 ≡ pencePerPound * budgetAt years cap pots p y
+abbrev pub LimitsRight : (years gained : ℕ) (pots : List ℕ) (p n : ℕ) → List ℕ → Type 0
+LimitsRight years gained pots p n sheet = (y : ℕ) → y < n → getD sheet y 0 ≡ pencePerPound * budgetAt years gained pots p y
 
 -- ---- from s to t: the rows of all bids were written; the administrative prices of all applications; the capacity and the figures of one bid at place k; those
--- at all places below n; the limits of the years; the cap, with which there are m limits; the first n of m bids that enter. Nothing else was changed, and t is
--- as long as a sheet
+-- at all places below n; the limits of the years; the cap, with which there are m limits; the drawn number; the first n of m bids that enter. Nothing else was
+-- changed, and t is as long as a sheet
 pub record RowsWritten (R : Round) (p : ℕ) (s t : List ℕ) : Type 0 where
   pub right : RowsRight R p mostBids t
   pub kept : Kept rowsAt s t
@@ -106,6 +106,12 @@ pub record CapWritten (R : Round) (p : ℕ) (s t : List ℕ) (m : ℕ) : Type 0 
   pub least : R .y ≤ m
   pub most : m ≤ R .y + 1
   pub kept : Kept (R .y) s t
+  pub rest : Rest entrantsAt s t
+  pub long : length t ≡ sheetLength
+
+pub record DrawnWritten (R : Round) (p : ℕ) (s t : List ℕ) : Type 0 where
+  pub right : numberIn (drawnIn t) ≡ drawnOf R p
+  pub kept : Kept drawnPlace s t
   pub rest : Rest entrantsAt s t
   pub long : length t ≡ sheetLength
 

@@ -14,7 +14,7 @@ ghost use Rattle.layout.specs.Layout.{bidShown};
 ghost use Rattle.sheet.specs.Sheet.{sheetLength, places, potIn, Ready};
 ghost use Rattle.rows.specs.Rows.{roundIn, Held};
 ghost use Rattle.fill.specs.Fill.{Blank, BlankAdmins, BlankFrom, Put, RowsRight, AdminsRight, AllFigures, RowsWritten, AdminsWritten, FiguresOf};
-ghost use Rattle.fill.specs.Fill.{FiguresWritten, LimitsWritten, CapWritten, Entered, sizeOf};
+ghost use Rattle.fill.specs.Fill.{FiguresWritten, LimitsWritten, CapWritten, DrawnWritten, Entered, sizeOf};
 
 // The numbers v at a place of the sheet.
 fn put(sheet: &mut Sheet, at: usize, v: &[u64])
@@ -70,7 +70,7 @@ fn fill_years(file: &[u8], sections: Sections, t: usize, bid: Bid, k: usize, she
         let v = rows::figure(file, sections, t, bid, y);
         put(
             sheet,
-            sheet::FIGURES_AT + k * sheet::FIGURES + 1 + y * sheet::FIGURE,
+            sheet::FIGURES_AT + k * sheet::FIGURES + sheet::CAPACITY + y * sheet::FIGURE,
             &v,
         );
         y += 1;
@@ -119,10 +119,10 @@ fn fill_limits(file: &[u8], sections: Sections, p: usize, sheet: &mut Sheet)
 {
     let recs = parts::pots(file, sections);
     let years = sections.years;
-    let cap_width = sections.cap_width;
+    let gained = sections.gained;
     let mut y: usize = 0;
     while y < years {
-        sheet[y] = value::pence(pot::budget(recs, years, cap_width, p, y));
+        sheet[y] = value::pence(pot::budget(recs, years, gained, p, y));
         y += 1;
     }
 }
@@ -133,17 +133,32 @@ fn fill_cap(file: &[u8], sections: Sections, p: usize, sheet: &mut Sheet) -> usi
     ensures { λ r. ⌜ CapWritten (roundIn (now (file .entry)) sections) p (now (sheet .entry)) (now (sheet .exit)) r ⌝ }
 {
     let years = sections.years;
-    let cap_width = sections.cap_width;
-    if cap_width == 0 {
+    let gained = sections.gained;
+    if gained == 0 {
         return years;
     }
     let recs = parts::pots(file, sections);
-    let cap = pot::cap(recs, years, cap_width, p);
+    let cap = pot::cap(recs, years, gained, p);
     if cap == names::NO_CAP {
         return years;
     }
     sheet[years] = cap;
     years + 1
+}
+
+// The drawn number of pot p, as one more than it is; 0 in a file without drawn numbers.
+fn fill_drawn(file: &[u8], sections: Sections, p: usize, sheet: &mut Sheet)
+    requires { ⌜ Held (now file) sections × (p < sections .pots) × (length (now sheet) ≡ sheetLength) ⌝ }
+    ensures { λ _. ⌜ DrawnWritten (roundIn (now (file .entry)) sections) p (now (sheet .entry)) (now (sheet .exit)) ⌝ }
+{
+    let years = sections.years;
+    let gained = sections.gained;
+    if gained <= names::CAP_WIDTH {
+        sheet[sheet::DRAWN_AT] = 0;
+        return;
+    }
+    let recs = parts::pots(file, sections);
+    sheet[sheet::DRAWN_AT] = pot::drawn(recs, years, gained, p) + 1;
 }
 
 // The bids that enter the auction, among the first m, and how many these are.
@@ -176,6 +191,7 @@ pub fn fill(file: &[u8], sections: Sections, p: usize, sheet: &mut Sheet) -> Siz
     fill_admin_figures(file, sections, p, sheet);
     fill_limits(file, sections, p, sheet);
     let columns = fill_cap(file, sections, p, sheet);
+    fill_drawn(file, sections, p, sheet);
     let bids = sections.bids;
     let entered = fill_entrants(bids, sheet);
     Size {

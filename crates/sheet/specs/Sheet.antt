@@ -1,9 +1,9 @@
--- The sheet of a pot: its limits, its bids, its applications' administrative prices, the rows of all bids, and the capacities and yearly figures of bids and
--- applications, as numbers in one list; and the pot that it shows. How much of the list is used, a size says. Assumes nothing.
+-- The sheet of a pot: its limits, its drawn number, its bids, its applications' administrative prices, the rows of all bids, and the capacities and yearly
+-- figures of bids and applications, as numbers in one list; and the pot that it shows. How much of the list is used, a size says. Assumes nothing.
 use Prim.Native.Nat.{ℕ, zero, suc, _+_, _-_, _*_, _≤_, _<_, min}
 use mathlib.Core.Bool.{Bool, true, not}
 use mathlib.Core.Path.{_≡_}
-use mathlib.Core.Option.{none, some}
+use mathlib.Core.Option.{Option, none, some}
 use mathlib.Core.List.{List, [], _∷_}
 use lib.Dec.{eqb, ltb}
 use lib.ListN.{getD}
@@ -13,22 +13,25 @@ use Rattle.rules.specs.Value.{penny, mostEnergy, mostShare}
 use Rattle.rules.specs.Pot.{Pot}
 use Rattle.sheet.specs.declared.Size.{Size}
 
--- ---- what stands where: a limit for each column, the bids of the pot, the administrative prices of its applications, the figures, and last the rows of the
--- bids: there is no number after them, so that a bid past the last has a row of zeros
+-- ---- what stands where: a limit for each column, the drawn number, the bids of the pot, the administrative prices of its applications, the figures, and last
+-- the rows of the bids: there is no number after them, so that a bid past the last has a row of zeros
 
 -- the columns of a row of totals: the years' money, and after it the capacity, where the pot has a cap on it
 abbrev pub columns : ℕ
 columns = mostYears + 1
 
--- the numbers of a bid's row; of its figures in a year, and of its capacity and those in all years
+-- the numbers of a bid's row; of a capacity, of the figures in a year, and of the capacity and those in all years
 abbrev pub rowWidth : ℕ
 rowWidth = 6
+
+abbrev pub capacityWidth : ℕ
+capacityWidth = 1
 
 abbrev pub figureWidth : ℕ
 figureWidth = 3
 
 abbrev pub figuresWidth : ℕ
-figuresWidth = 1 + mostYears * figureWidth
+figuresWidth = capacityWidth + mostYears * figureWidth
 
 -- the places for figures: those of bid k stand at place k, and after those of all bids the applications' have their places
 abbrev pub places : ℕ
@@ -37,8 +40,11 @@ places = mostBids + mostApps
 abbrev pub appPlace : (a : ℕ) → ℕ
 appPlace a = mostBids + a
 
+abbrev pub drawnPlace : ℕ
+drawnPlace = columns
+
 abbrev pub entrantsAt : ℕ
-entrantsAt = columns
+entrantsAt = drawnPlace + 1
 
 abbrev pub adminsAt : ℕ
 adminsAt = entrantsAt + mostBids
@@ -60,11 +66,19 @@ abbrev pub figuresPlace : (k : ℕ) → ℕ
 figuresPlace k = figuresAt + k * figuresWidth
 
 abbrev pub figurePlace : (k y : ℕ) → ℕ
-figurePlace k y = figuresPlace k + 1 + y * figureWidth
+figurePlace k y = figuresPlace k + capacityWidth + y * figureWidth
 
 -- the limit of column c: the budget of a year, in pence; in the column after the years the cap
 unfoldable pub limitAt : List ℕ → ℕ → ℕ
 limitAt sheet c = getD sheet c 0
+
+-- the number drawn for the pot's ties, as one more than it is; 0 where there is none
+unfoldable pub drawnIn : List ℕ → ℕ
+drawnIn sheet = getD sheet drawnPlace 0
+
+unfoldable pub numberIn : ℕ → Option ℕ
+numberIn zero = none
+numberIn (suc d) = some d
 
 -- the bids of the pot, which enter its auction, in the order of the file; the first k of them, the last first
 unfoldable pub entrantAt : List ℕ → ℕ → ℕ
@@ -152,6 +166,7 @@ potIn sheet of = record {
   admin = rowAdmin sheet;
   capacity = λ k. pick (inAuction sheet k) (capacityAt sheet k) 0;
   cap = pick (ltb (of .years) (of .columns)) (some (limitAt sheet (of .years))) none;
+  drawn = numberIn (drawnIn sheet);
   adminPrice = adminOf sheet (of .applications);
   adminCost = λ a y. pick (ltb y (of .years)) (partsAt sheet (appPlace a) (adminOf sheet (of .applications) a) y) 0;
   appCapacity = λ a. pick (ltb a (of .applications)) (pick (inTest sheet a) (capacityAt sheet (appPlace a)) 0) 0;

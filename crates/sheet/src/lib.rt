@@ -1,10 +1,11 @@
-// The sheet of a pot: its limits, its bids, its applications' administrative prices, the rows of all bids, and the capacities and yearly figures of bids and
-// applications, as numbers in one lent array, which the first test and the auction read; and its size. specs/Sheet.antt says what stands where.
+// The sheet of a pot: its limits, its drawn number, its bids, its applications' administrative prices, the rows of all bids, and the capacities and yearly
+// figures of bids and applications, as numbers in one lent array, which the first test and the auction read; and its size. specs/Sheet.antt says what stands
+// where.
 ghost use mathlib.Core.Path.{_≡_};
 ghost use Prim.Native.Nat.{_<_};
 ghost use Rattle.rules.specs.Names.{mostBids, mostApps, mostYears};
-ghost use Rattle.sheet.specs.Sheet.{columns, places, limitAt, entrantAt, adminAt, inAuction, inTest, rowApp, rowYear, rowPrice, rowDraw, rowAdmin};
-ghost use Rattle.sheet.specs.Sheet.{capacityAt, figReference, figEnergy, figShare};
+ghost use Rattle.sheet.specs.Sheet.{columns, places, limitAt, drawnIn, entrantAt, adminAt, inAuction, inTest, rowApp, rowYear, rowPrice, rowDraw};
+ghost use Rattle.sheet.specs.Sheet.{rowAdmin, capacityAt, figReference, figEnergy, figShare};
 
 // How much of a sheet is used: the years, bids and applications of the file; the columns of a row of the pot's totals; and how many of the bids are of the pot,
 // and enter its auction.
@@ -22,15 +23,19 @@ pub const COLUMNS: usize = names::YEARS + 1;
 // Places for figures: for those of the bids, by number, and after them for those of the applications.
 pub const PLACES: usize = names::BIDS + names::APPS;
 
-// Numbers to a row of a bid; to a year of its figures, and to its capacity and all years of them.
+// Numbers to a row of a bid; to a capacity, to a year of figures, and to the capacity and all years of them.
 pub const ROW: usize = 6;
+
+pub const CAPACITY: usize = 1;
 
 pub const FIGURE: usize = 3;
 
-pub const FIGURES: usize = 1 + names::YEARS * FIGURE;
+pub const FIGURES: usize = CAPACITY + names::YEARS * FIGURE;
 
-// Where the entrants, the administrative prices, the figures and the rows start, after the limits; and the whole.
-pub const ENTRANTS_AT: usize = COLUMNS;
+// Where the drawn number stands, after the limits; where the entrants, the administrative prices, the figures and the rows start after it; and the whole.
+pub const DRAWN_AT: usize = COLUMNS;
+
+pub const ENTRANTS_AT: usize = DRAWN_AT + 1;
 
 pub const ADMINS_AT: usize = ENTRANTS_AT + names::BIDS;
 
@@ -53,6 +58,13 @@ pub fn limit(sheet: &Sheet, c: usize) -> u64
     ensures { λ r. ⌜ r ≡ limitAt (now (sheet .entry)) c ⌝ }
 {
     sheet[c]
+}
+
+// One more than the number drawn for the pot's ties, and 0 where there is none.
+pub fn drawn(sheet: &Sheet) -> u64
+    ensures { λ r. ⌜ r ≡ drawnIn (now (sheet .entry)) ⌝ }
+{
+    sheet[DRAWN_AT]
 }
 
 // The bid that enters the auction at place j of their list.
@@ -135,19 +147,19 @@ pub fn reference(sheet: &Sheet, k: usize, y: usize) -> u64
     requires { ⌜ (k < places) × (y < mostYears) ⌝ }
     ensures { λ r. ⌜ r ≡ figReference (now (sheet .entry)) k y ⌝ }
 {
-    sheet[FIGURES_AT + k * FIGURES + 1 + y * FIGURE]
+    sheet[FIGURES_AT + k * FIGURES + CAPACITY + y * FIGURE]
 }
 
 pub fn energy(sheet: &Sheet, k: usize, y: usize) -> u64
     requires { ⌜ (k < places) × (y < mostYears) ⌝ }
     ensures { λ r. ⌜ r ≡ figEnergy (now (sheet .entry)) k y ⌝ }
 {
-    sheet[FIGURES_AT + k * FIGURES + 1 + y * FIGURE + 1]
+    sheet[FIGURES_AT + k * FIGURES + CAPACITY + y * FIGURE + 1]
 }
 
 pub fn share(sheet: &Sheet, k: usize, y: usize) -> u64
     requires { ⌜ (k < places) × (y < mostYears) ⌝ }
     ensures { λ r. ⌜ r ≡ figShare (now (sheet .entry)) k y ⌝ }
 {
-    sheet[FIGURES_AT + k * FIGURES + 1 + y * FIGURE + 2]
+    sheet[FIGURES_AT + k * FIGURES + CAPACITY + y * FIGURE + 2]
 }

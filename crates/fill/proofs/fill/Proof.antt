@@ -52,32 +52,39 @@ fill-cap-requires c κs =
     let pre = c .before .before .before .before .before .before .before .before .before .before .before .before .pre in
     (pre .0 .0, pre .0 .1, c .before .fill-limits .ensures .long)
 
+fill-drawn-requires : tie.Need-fill-drawn-requires
+fill-drawn-requires c κs =
+    let pre = c .before .before .before .before .before .before .before .before .before .before .before .before .before .before .pre in
+    (pre .0 .0, pre .0 .1, c .before .fill-cap .ensures .long)
+
 fill-entrants-requires : tie.Need-fill-entrants-requires
 fill-entrants-requires c κs =
-    let pre = c .before .before .before .before .before .before .before .before .before .before .before .before .before .before .pre in
-    (pre .0 .0 .sound .bids-few, c .before .fill-cap .ensures .long)
+    let pre = c .before .before .before .before .before .before .before .before .before .before .before .before .before .before .before .before .pre in
+    (pre .0 .0 .sound .bids-few, c .before .fill-drawn .ensures .long)
 
 returns : tie.Need-returns
 returns c =
-    let past = c .before .before .before .before .before .before .before .before .before .before .before .before .before .before .before in
+    let seen = c .before .before .before .before .before .before .before .before .before .before .before .before .before .before in
+    let past = seen .before .before .before in
     let a = past .args in
     let pre = past .pre in
-    let rows = c .before .before .before .before .before .before .before .before .before .before .before .before .fill-rows .ensures in
-    let admins = c .before .before .before .before .before .before .before .before .before .before .fill-admins .ensures in
-    let figures = c .before .before .before .before .before .before .before .before .fill-figures .ensures in
-    let own = c .before .before .before .before .before .before .fill-admin-figures .ensures in
-    let limits = c .before .before .before .before .fill-limits .ensures in
-    let cap = c .before .before .fill-cap .ensures in
+    let rows = seen .fill-rows .ensures in
+    let admins = c .before .before .before .before .before .before .before .before .before .before .before .before .fill-admins .ensures in
+    let figures = c .before .before .before .before .before .before .before .before .before .before .fill-figures .ensures in
+    let own = c .before .before .before .before .before .before .before .before .fill-admin-figures .ensures in
+    let limits = c .before .before .before .before .before .before .fill-limits .ensures in
+    let cap = c .before .before .before .before .fill-cap .ensures in
+    let drawn = c .before .before .fill-drawn .ensures in
     let s = now (a .file) in
     let z = a .sections in
     let R = roundIn s z in
     let S = pre .0 .0 .sound in
-    let w = written (S .years-most) rows admins figures own limits cap (c .fill-entrants .ensures) in
-    let bytes = c .before .before .before .before .before .before .before .before .before .before .before .before .before .before .shared-slice-known .given in
+    let w = written (S .years-most) rows admins figures own limits cap drawn (c .fill-entrants .ensures) in
+    let bytes = seen .before .before .shared-slice-known .given in
     let byte = part-byte s (z .«applications_at» + countWidth) (z .«bids_at») (λ i. omega (arith, bytes i)) in
     ((shows R S (a .p) w, ready R S (a .p) byte (pre .0 .1) w), refl)
 
 pub fill-spec : {M : Type 1} → statement M
 fill-spec =
     tie.close (tie.spec (λ c κs. search needs) fill-admins-requires fill-figures-requires fill-admin-figures-requires fill-limits-requires fill-cap-requires
-    fill-entrants-requires returns)
+    fill-drawn-requires fill-entrants-requires returns)

@@ -4,7 +4,7 @@ use native.Mathlib.Omega.{arith}
 use mathlib.Core.Path.{ap}
 use lib.ListN.{length}
 use denote.Ref.{now}
-use Rattle.laws_reading.specs.Reading.{whole-cap}
+use Rattle.laws_reading.specs.Reading.{whole-gained}
 use Rattle.fill.proofs.Laws.{pot-room, no-caps, cap-none, cap-some}
 use Rattle.fill.proofs.fill_cap.Statement.{statement}
 use Rattle.fill.proofs.fill_cap.Tie as tie
@@ -15,7 +15,7 @@ returns c = no-caps _ _ _ (c .before .before .pre .2) (c .if1 .taken)
 cap-requires : tie.Need-cap-requires
 cap-requires c κs =
     let pre = c .before .before .before .pre in
-    (omega (arith, pot-room _ (pre .0 .sound) _ (pre .1), ap length (c .pots .ensures)), whole-cap (pre .0 .sound .cap-told) (c .before .if1 .left))
+    (omega (arith, pot-room _ (pre .0 .sound) _ (pre .1), ap length (c .pots .ensures)), whole-gained (pre .0 .sound .gained-told) (c .before .if1 .left))
 
 returns-2 : tie.Need-returns-2
 returns-2 c =
