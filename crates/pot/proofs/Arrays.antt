@@ -65,6 +65,11 @@ module _ (sheet : List ℕ) (p : ℕ) (s : PotState) (S : Sizes s) where
   win-wide [] = refl
   win-wide (i ∷ l) = win-wide l
 
+  pub win-drawn : (l : List ℕ) → (winAll sheet p s l) .drawn ≡ s .drawn
+  unfolding winAll winOf
+  win-drawn [] = refl
+  win-drawn (i ∷ l) = win-drawn l
+
 module _ (sheet : List ℕ) (v : ℕ) (s : PotState) (S : Sizes s) where
   pub turn-sizes : (l : List ℕ) → Sizes (turnAll sheet v s l)
   unfolding turnAll turnOf

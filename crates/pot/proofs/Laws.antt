@@ -11,12 +11,14 @@ use borrow.Author.Tests.{eq-eqb, ne-eqb, lt-ltb, le-ltb}
 use Rattle.rules.specs.Names.{mostApps, mostDeliveries, noPrice, widestTie, downTied}
 use Rattle.arrays.specs.Sets.{fill, built, members, without}
 use Rattle.sheet.specs.declared.Size.{Size}
-use Rattle.sheet.specs.Sheet.{columns, Ready, inAuction, rowApp, rowYear, rowPrice}
-use Rattle.ties.specs.Ties.{basesOf, keepsOf, choiceOf}
+use Rattle.sheet.specs.Sheet.{columns, Ready, drawnIn, inAuction, rowApp, rowYear, rowPrice}
+use Rattle.ties.specs.declared.tied.Tied.{Tied}
+use Rattle.ties.specs.declared.Choice.{Choice}
+use Rattle.ties.specs.Ties.{basesOf, keepsOf, tiedOf, choiceOf}
 use Rattle.pot.specs.declared.PotState.{PotState}
 use Rattle.pot.specs.declared.Look.{Look}
 use Rattle.pot.specs.Marks.{liveOf, atOf, winOf, turnOf, winAll, turnAll, turnedOf, hungOf, shutOf, settledOf, widened, soleOf, followsOf, aloneOf}
-use Rattle.pot.specs.Marks.{sharedOf, restOf, choiceIn, tieOf, Others, Looked, noYear, sumsSize, firstMark, noMarks, startedOf, revaluedOf}
+use Rattle.pot.specs.Marks.{numberedOf, sharedOf, restOf, choiceIn, tieOf, Others, Looked, noYear, sumsSize, firstMark, noMarks, startedOf, revaluedOf}
 
 -- the bounds of a bid's application and year, at what the accessors return
 pub app-ok : {sheet : List ℕ} {of : Size} (i : ℕ) {a : ℕ} → Ready sheet of → i < of .bids → a ≡ rowApp sheet i → a < 64
@@ -48,6 +50,7 @@ module _ (sheet : List ℕ) (s : PotState) (p i : ℕ) {d : ℕ} (ed : d ≡ row
         totals = s .totals;
         hang = s .hang;
         wide = s .wide;
+        drawn = s .drawn;
       }) (winOf sheet p i s)
   unfolding winOf
   win-is ea = rw (ea, ed)
@@ -62,6 +65,7 @@ module _ (sheet : List ℕ) (s : PotState) (p i : ℕ) {d : ℕ} (ed : d ≡ row
         totals = s .totals;
         hang = s .hang;
         wide = s .wide;
+        drawn = s .drawn;
       }) (turnOf sheet p i s)
   unfolding turnOf
   turn-is = rw ed
@@ -132,11 +136,11 @@ module _ (sheet : List ℕ) (of : Size) (i : ℕ) (s : PotState) {t r : PotState
   alone-shut h er = rw (← et, ← eg, h, er, ed)
 
 -- ---- several
-pub shared-is : (sheet : List ℕ) (of : Size) (l wins : List Bool) (p : ℕ) (s : PotState) {t u r : PotState} {o : List Bool}
-    → t ≡ winAll sheet p s (members wins (of .bids)) → o ≡ built (without l wins) (of .bids)
-    → u ≡ turnAll sheet downTied t (members o (of .bids)) → r ≡ hungOf noYear u → r ≡ sharedOf sheet of l wins p s
+pub shared-is : (sheet : List ℕ) (of : Size) (l : List Bool) (c : Choice) (p : ℕ) (s : PotState) {t u v r : PotState} {o : List Bool}
+    → t ≡ winAll sheet p s (members (c .wins) (of .bids)) → o ≡ built (without l (c .wins)) (of .bids)
+    → u ≡ turnAll sheet downTied t (members o (of .bids)) → v ≡ hungOf noYear u → r ≡ numberedOf (c .drawn) v → r ≡ sharedOf sheet of l c p s
 unfolding sharedOf
-shared-is sheet of l wins p s et eo eu er = rw (er, eu, et, eo)
+shared-is sheet of l c p s et eo eu ev er = rw (er, ev, eu, et, eo)
 
 module _ (sheet : List ℕ) (of : Size) (l : List Bool) (p : ℕ) (s : PotState) {base : List ℕ} {rest : List Bool} {k : ℕ}
     (eb : base ≡ basesOf sheet of (s .marks) (s .prices) p) (es : rest ≡ built (keepsOf sheet of base p l) (of .bids))
@@ -149,11 +153,10 @@ module _ (sheet : List ℕ) (of : Size) (l : List Bool) (p : ℕ) (s : PotState)
   unfolding tieOf
   tie-wide h er = rw (← rest-is, ← ek, lt-ltb widestTie k h) er
 
-  pub tie-shared : {wins : List Bool} {t r : PotState} → k ≤ widestTie → wins ≡ choiceOf sheet of base rest k p → t ≡ sharedOf sheet of l wins p s
-      → r ≡ revaluedOf sheet of t
-      → r ≡ tieOf sheet of l p s
+  pub tie-shared : {tied : Tied} {c : Choice} {t r : PotState} → k ≤ widestTie → tied ≡ tiedOf sheet of rest k
+      → c ≡ choiceOf sheet of base tied p (s .drawn) → t ≡ sharedOf sheet of l c p s → r ≡ revaluedOf sheet of t → r ≡ tieOf sheet of l p s
   unfolding tieOf choiceIn
-  tie-shared h ew et er = rw (← rest-is, ← ek, le-ltb widestTie k h, ← eb, ← ew, ← et) er
+  tie-shared h ed ec et er = rw (← rest-is, ← ek, le-ltb widestTie k h, ← eb, ← ed, ← ec, ← et) er
 
 -- ---- the start
 pub first-yes : {t : Bool} → t ≡ true → 0 ≡ firstMark t
@@ -164,7 +167,8 @@ pub first-no : {t : Bool} → t ≡ false → 9 ≡ firstMark t
 unfolding firstMark
 first-no h = rw h
 
-pub started-done : (sheet : List ℕ) (of : Size) {l : List ℕ} {k : ℕ} → l ≡ fill noMarks (λ k. firstMark (inAuction sheet k)) k → k ≤ of .bids → of .bids ≤ k
+pub started-done : (sheet : List ℕ) (of : Size) {l : List ℕ} {k d : ℕ} → l ≡ fill noMarks (λ k. firstMark (inAuction sheet k)) k → k ≤ of .bids
+    → of .bids ≤ k → d ≡ drawnIn sheet
     → _≡_ {A = PotState} (record {
       marks = l;
       won = replicate mostApps false;
@@ -174,6 +178,7 @@ pub started-done : (sheet : List ℕ) (of : Size) {l : List ℕ} {k : ℕ} → l
       totals = replicate columns 0;
       hang = noYear;
       wide = false;
+      drawn = d;
     }) (startedOf sheet of)
 unfolding startedOf
-started-done sheet of e h g = rw (e, le-antisymm h g)
+started-done sheet of e h g ed = rw (e, le-antisymm h g, ed)

@@ -1,23 +1,24 @@
 -- From the arrays to the trace: what is live, what is taken, what fits; and an event that the arrays have followed. Assumes nothing.
-use Prim.Native.Nat.{ℕ, _≤_, _<_, min}
+use Prim.Native.Nat.{ℕ, zero, suc, _≤_, _<_, min}
 use mathlib.Core.Path.{_≡_, refl, sym, ap, _∙_}
 use mathlib.Core.Bool.{Bool, true, false, not, _&&_, _||_}
+use mathlib.Core.Option.{Option, some}
 use mathlib.Core.List.{List, [], _∷_, _++_, map}
 use native.Mathlib.Omega.{arith}
-use native.Mathlib.Nat.{mul-le-mul-right}
+use native.Mathlib.Nat.{mul-le-mul-right, div-one}
 use lib.ListN.{getD}
 use lib.Dec.{eqb, ltb}
 use borrow.Author.Tests.{eqb-true}
 use Rattle.rules.specs.Names.{mostBids, noPrice, noReason, becauseWon, highestPrice}
 use Rattle.rules.specs.Lists.{pick, memb, sift, below}
-use Rattle.rules.specs.Pot.{Pot, Event, Trace, winners, downs, seen, closed, hanging, mark, priceFrom, clearing, fits, live, least, lowest}
-use Rattle.rules.specs.Pot.{taken}
+use Rattle.rules.specs.Pot.{Pot, Event, Trace, winners, downs, seen, closed, hanging, mark, divided, goesOn, priceFrom, clearing, fits, live}
+use Rattle.rules.specs.Pot.{least, lowest, taken}
 use Rattle.laws_pot.specs.Lists.{case, clash, and-true, In, here, there, memb-in, in-memb, sift-in, sift-same, sift-both, memb-join, memb-map-join, below-in}
 use Rattle.laws_pot.specs.Mono.{Lawful}
 use Rattle.arrays.specs.Sets.{built, members}
 use Rattle.arrays.proofs.Arrays.{eqb-sym, put-is, members-built}
 use Rattle.sheet.specs.declared.Size.{Size}
-use Rattle.sheet.specs.Sheet.{potIn, Ready, inAuction, partsAt, sheetCost, rowApp, rowYear, rowPrice}
+use Rattle.sheet.specs.Sheet.{numberIn, potIn, Ready, inAuction, partsAt, sheetCost, rowApp, rowYear, rowPrice}
 use Rattle.totals.specs.Totals.{totalOf, fitsTo}
 use Rattle.totals.proofs.Link as link
 use Rattle.totals.proofs.Link.{Marked, columnTotal}
@@ -37,6 +38,16 @@ pub record Did (P : Pot) (e : Event) (s r : PotState) : Type 0 where
   pub opened : (d : ℕ) → d < 4 → getD (r .opened) d false ≡ (not (memb d (e .closes)) && getD (s .opened) d false)
   pub prices : (d : ℕ) → d < 4 → getD (r .prices) d 0 ≡ priceFrom P (getD (s .prices) d 0) (e .wins) d
   pub hang : e .hangs ≡ hangs (r .hang)
+  pub drawn : numberIn (r .drawn) ≡ divided (numberIn (s .drawn)) (e .ways)
+
+-- where there was nothing to choose, the drawn number stays
+pub same-number : {a b : ℕ} → a ≡ b → numberIn a ≡ divided (numberIn b) 1
+unfolding numberIn divided
+same-number {a} {b} e = ap numberIn e ∙ undivided b
+  where
+    undivided : (d : ℕ) → numberIn d ≡ divided (numberIn d) 1
+    undivided zero = refl
+    undivided (suc d) = ap some (sym (div-one d))
 
 not-or : (a b : Bool) → not (a || b) ≡ (not a && not b)
 not-or true b = refl
@@ -46,7 +57,7 @@ not-or false b = refl
 pub rep-did : (P : Pot) (t : Trace) (e : Event) (s r : PotState) → eqb (e .why) noReason ≡ false → eqb (e .why) becauseWon ≡ false
     → ((b : ℕ) → In b (e .downs) → memb b (winners t) ≡ false) → ((b : ℕ) → In b (e .wins) → In b (P .bids)) → ((b : ℕ) → In b (e .downs) → In b (P .bids))
     → Rep P t s → Did P e s r → Rep P (e ∷ t) r
-unfolding mark winners seen closed hanging
+unfolding mark winners seen closed hanging goesOn
 rep-did P t e s r y o un wi oi R D = record {
   sizes = D .sizes;
   other = λ b h f. D .marks b ∙ rw (outside (e .wins) wi b f, outside (e .downs) oi b f) (R .other b h f);
@@ -67,6 +78,7 @@ rep-did P t e s r y o un wi oi R D = record {
   free = λ d h. D .opened d h ∙ rw (memb-join d (e .closes) (closed t), R .free d h) (sym (not-or (memb d (e .closes)) (memb d (closed t))));
   price = λ d h. D .prices d h ∙ rw (R .price d h) (sym (price-join P noPrice (e .wins) (winners t) d));
   hang = D .hang;
+  drawn = ap (λ (x : Option ℕ). divided x (e .ways)) (R .drawn) ∙ sym (D .drawn);
 }
   where
     outside : (l : List ℕ) → ((b : ℕ) → In b l → In b (P .bids)) → (b : ℕ) → memb b (P .bids) ≡ false → memb b l ≡ false

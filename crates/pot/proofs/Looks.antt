@@ -22,9 +22,9 @@ use Rattle.totals.proofs.Link.{not-bid}
 use Rattle.pot.specs.declared.PotState.{PotState}
 use Rattle.pot.specs.Marks.{lowestOf, winAll, turnedOf, hungOf, shutOf, settledOf, takenOf, soleOf, followsOf, aloneOf}
 use Rattle.pot.specs.Rep.{hangs, Sizes, Rep}
-use Rattle.pot.proofs.Arrays.{win-sizes, win-marks, win-won, win-opened, win-hang, win-wide}
+use Rattle.pot.proofs.Arrays.{win-sizes, win-marks, win-won, win-opened, win-hang, win-wide, win-drawn}
 use Rattle.pot.proofs.Link as link
-use Rattle.pot.proofs.Link.{Did, rep-did, Holds, holds-rep}
+use Rattle.pot.proofs.Link.{Did, same-number, rep-did, Holds, holds-rep}
 
 -- `follows` by length and head
 follows-is : (P : Pot) (i : ℕ) (l : List ℕ) → follows P i l ≡ (eqb (length l) 1 && (eqb (P .app (headOr 0 l)) (P .app i) && eqb (P .yr (headOr 0 l)) (P .yr i)))
@@ -80,10 +80,10 @@ module _ (sheet : List ℕ) (of : Size) (ok : Ready sheet of) where
     trial-fits = link.fits-is sheet of ok (l ++ winners t) u won-by
 
     -- all win, and the year that hangs closes
-    won-with : (r : PotState) → r .marks ≡ u .marks → r .won ≡ u .won → r .prices ≡ u .prices → Sizes r
+    won-with : (r : PotState) → r .marks ≡ u .marks → r .won ≡ u .won → r .prices ≡ u .prices → r .drawn ≡ u .drawn → Sizes r
         → ((d : ℕ) → d < 4 → getD (r .opened) d false ≡ (not (memb d (hangs (s .hang))) && getD (s .opened) d false)) → r .hang ≡ 4 → Did P (won P t l) s r
     unfolding hangs potIn
-    won-with r er ew eq sz op hg = record {
+    won-with r er ew eq ed sz op hg = record {
       sizes = sz;
       marks = λ i. ap (λ (x : List ℕ). getD x i 0) er ∙ win-marks sheet p s (R .sizes) l i few;
       won = λ y j. ap (λ (x : List Bool). getD x y false) ew ∙ win-won sheet p s (R .sizes) l y (λ i h. ok .app i (sound i h .0));
@@ -91,6 +91,7 @@ module _ (sheet : List ℕ) (of : Size) (ok : Ready sheet of) where
       prices =
           λ d j. ap (λ (x : List ℕ). getD x d 0) eq ∙ link.win-prices sheet of ok (winners t) s (R .sizes) p l d (λ i h. let f = sound i h in (f .0, f .2));
       hang = rw hg;
+      drawn = same-number (ed ∙ win-drawn sheet p s (R .sizes) l);
     }
 
     won-did : Did P (won P t l) s (settledOf u)
@@ -98,13 +99,13 @@ module _ (sheet : List ℕ) (of : Size) (ok : Ready sheet of) where
     won-did =
         case (ltb (s .hang) 4)
         (λ h. rw (win-hang sheet p s (R .sizes) l, h)
-        (won-with (shutOf (s .hang) u) refl refl refl
+        (won-with (shutOf (s .hang) u) refl refl refl refl
         (record { marks = su .marks; won = su .won; opened = length-set (u .opened) (s .hang) false ∙ su .opened; prices = su .prices })
         (λ d j. put-is (u .opened) (s .hang) d false false (omega (arith, su .opened, ltb-true (s .hang) 4 h))
         ∙ rw (h, win-opened sheet p s (R .sizes) l) (case (eqb d (s .hang)) (λ e. rw e) (λ e. rw e)))
         refl))
         (λ h. rw (win-hang sheet p s (R .sizes) l, h)
-        (won-with (hungOf 4 u) refl refl refl
+        (won-with (hungOf 4 u) refl refl refl refl
         (record { marks = su .marks; won = su .won; opened = su .opened; prices = su .prices })
         (λ d j. rw (h, win-opened sheet p s (R .sizes) l))
         refl))
@@ -124,10 +125,10 @@ module _ (sheet : List ℕ) (of : Size) (ok : Ready sheet of) where
     module _ (i : ℕ) (h : In i l) where
       -- turned down, with the years that close and hang
       down-did : (r : PotState) (sh ha : List ℕ) → r .marks ≡ set (s .marks) i downAlone → r .won ≡ s .won → r .prices ≡ s .prices
-          → Sizes r → ((d : ℕ) → d < 4 → getD (r .opened) d false ≡ (not (memb d sh) && getD (s .opened) d false)) → ha ≡ hangs (r .hang)
+          → r .drawn ≡ s .drawn → Sizes r → ((d : ℕ) → d < 4 → getD (r .opened) d false ≡ (not (memb d sh) && getD (s .opened) d false)) → ha ≡ hangs (r .hang)
           → Did P (down P i sh ha) s r
       unfolding priceFrom
-      down-did r sh ha er ew ep sz op hg = record {
+      down-did r sh ha er ew ep ed sz op hg = record {
         sizes = sz;
         marks =
             λ k. ap (λ (x : List ℕ). getD x k 0) er ∙ put-is (s .marks) i k downAlone 0 (omega (arith, R .sizes .marks, few i h))
@@ -136,6 +137,7 @@ module _ (sheet : List ℕ) (of : Size) (ok : Ready sheet of) where
         opened = op;
         prices = λ d j. ap (λ (x : List ℕ). getD x d 0) ep;
         hang = hg;
+        drawn = same-number ed;
       }
 
       down-rep : (r : PotState) (sh ha : List ℕ) → Did P (down P i sh ha) s r → Rep P (down P i sh ha ∷ t) r
@@ -150,11 +152,11 @@ module _ (sheet : List ℕ) (of : Size) (ok : Ready sheet of) where
       -- with no year that closes or hangs
       turned-rep : Rep P (down P i [] [] ∷ t) (turnedOf i s)
       unfolding turnedOf hangs
-      turned-rep = down-rep (turnedOf i s) [] [] (down-did (turnedOf i s) [] [] refl refl refl sizes (λ d j. refl) refl)
+      turned-rep = down-rep (turnedOf i s) [] [] (down-did (turnedOf i s) [] [] refl refl refl refl sizes (λ d j. refl) refl)
 
       hung-rep : Rep P (down P i [] (P .yr i ∷ []) ∷ t) (hungOf (rowYear sheet i) (turnedOf i s))
       unfolding turnedOf hungOf hangs potIn
-      hung-rep = down-rep r [] (rowYear sheet i ∷ []) (down-did r [] (rowYear sheet i ∷ []) refl refl refl
+      hung-rep = down-rep r [] (rowYear sheet i ∷ []) (down-did r [] (rowYear sheet i ∷ []) refl refl refl refl
           (record { marks = sizes .marks; won = sizes .won; opened = sizes .opened; prices = sizes .prices }) (λ d j. refl)
           (rw (lt-ltb (rowYear sheet i) 4 (ok .year i (sound i h .0)))))
         where
@@ -164,7 +166,7 @@ module _ (sheet : List ℕ) (of : Size) (ok : Ready sheet of) where
       shut-rep : Rep P (down P i (P .yr i ∷ []) [] ∷ t) (shutOf (rowYear sheet i) (turnedOf i s))
       unfolding turnedOf shutOf hangs potIn
       shut-rep =
-          down-rep r (rowYear sheet i ∷ []) [] (down-did r (rowYear sheet i ∷ []) [] refl refl refl
+          down-rep r (rowYear sheet i ∷ []) [] (down-did r (rowYear sheet i ∷ []) [] refl refl refl refl
           (record {
             marks = sizes .marks;
             won = sizes .won;

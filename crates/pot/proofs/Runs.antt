@@ -9,14 +9,15 @@ use lib.Dec.{eqb, ltb}
 use borrow.Author.Tests.{ne-eqb, ltb-true, ltb-false}
 use Rattle.rules.specs.Names.{mostBids, noPrice, noReason, becauseWon, highestPrice}
 use Rattle.rules.specs.Lists.{pick, memb, sift, below}
-use Rattle.rules.specs.Pot.{Pot, Event, Trace, winners, seen, closed, hanging, wideEnd, mark, priceFrom, live, taken, look, run, onward, auction}
+use Rattle.rules.specs.Pot.{Pot, Event, Trace, winners, seen, closed, hanging, wideEnd, mark, goesOn, priceFrom, live, taken, drawnAfter, look, run, onward}
+use Rattle.rules.specs.Pot.{auction}
 use Rattle.laws_pot.specs.Lists.{case, clash, In, here, in-memb, in-none, in-length, sift-in, in-sift, sift-le, below-in}
 use Rattle.laws_pot.specs.Taken.{Lows, taken-lows}
 use Rattle.laws_pot.specs.Runs.{Inv, inv-none, looked-next, inv-looked, step-of, lives, fewer}
 use Rattle.arrays.specs.Sets.{fill}
 use Rattle.arrays.proofs.Arrays.{put-is, at-start, fill-length, fill-at}
 use Rattle.sheet.specs.declared.Size.{Size}
-use Rattle.sheet.specs.Sheet.{potIn, Ready, inAuction, rowPrice}
+use Rattle.sheet.specs.Sheet.{numberIn, potIn, Ready, inAuction, rowPrice}
 use Rattle.totals.proofs.Link.{not-bid}
 use Rattle.pot.specs.declared.PotState.{PotState}
 use Rattle.pot.specs.Marks.{leastOr, liveOf, lowestOf, Others, firstMark, noMarks, startedOf, notHere}
@@ -198,9 +199,13 @@ module _ (sheet : List ℕ) (of : Size) (ok : Ready sheet of) where
       free = λ d h. at-start 4 d true false h;
       price = λ d h. at-start 4 d noPrice 0 h;
       hang = refl;
+      drawn = number;
     };
   })
     where
+      number : drawnAfter P [] ≡ numberIn ((startedOf sheet of) .drawn)
+      number = unfold goesOn potIn in refl
+
       own : (i : ℕ) → In i (P .bids) → getD ((startedOf sheet of) .marks) i 0 ≡ noReason
       own i j = started-at i (link.bid-lt sheet of ok i j) ∙ rw (link.bid-in sheet of ok i j)
 

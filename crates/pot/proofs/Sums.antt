@@ -21,10 +21,11 @@ use Rattle.sheet.specs.Sheet.{columns, Ready, inAuction, rowYear}
 use Rattle.totals.specs.Totals.{worthOf, totalOf, partOn, partOf, noRow, filled, fitsTo, rowFits}
 use Rattle.totals.proofs.Laws.{fits-same, row-none}
 use Rattle.totals.proofs.Parts.{part-most, total-parts}
+use Rattle.ties.specs.declared.Choice.{Choice}
 use Rattle.pot.specs.declared.PotState.{PotState}
-use Rattle.pot.specs.Marks.{winOf, winAll, turnAll, turnOf, turnedOf, hungOf, shutOf, settledOf, widened, aloneOf, followsOf, sharedOf, choiceIn}
-use Rattle.pot.specs.Marks.{restOf, tieOf, firstMark, noMarks, startedOf, sumsSize, columnSum, mostSum, withSums, renewedRow, renewedOf, renewedTo}
-use Rattle.pot.specs.Marks.{totalledOf, revaluedOf, triedOf, trialOf, Parted, Summed}
+use Rattle.pot.specs.Marks.{winOf, winAll, turnAll, turnOf, turnedOf, hungOf, shutOf, settledOf, widened, aloneOf, followsOf, numberedOf, sharedOf}
+use Rattle.pot.specs.Marks.{restOf, choiceIn, tieOf, firstMark, noMarks, startedOf, sumsSize, columnSum, mostSum, withSums, renewedRow, renewedOf}
+use Rattle.pot.specs.Marks.{renewedTo, totalledOf, revaluedOf, triedOf, trialOf, Parted, Summed}
 use Rattle.pot.specs.Rep.{Rep, Stands}
 
 -- ---- a row of the sums is written: its own places, and those of another year
@@ -50,6 +51,7 @@ pub renewed-is : (sheet : List ℕ) (of : Size) (d : ℕ) (s : PotState) {row su
       totals = s .totals;
       hang = s .hang;
       wide = s .wide;
+      drawn = s .drawn;
     }) (renewedOf sheet of d s)
 unfolding renewedOf withSums
 renewed-is sheet of d s er es = rw (es, er)
@@ -64,6 +66,7 @@ pub totalled-is : (of : Size) (s : PotState) {row : List ℕ} → row ≡ filled
       totals = row;
       hang = s .hang;
       wide = s .wide;
+      drawn = s .drawn;
     }) (totalledOf of s)
 unfolding totalledOf withSums
 totalled-is of s er = rw er
@@ -300,9 +303,9 @@ module _ (sheet : List ℕ) (of : Size) {s : PotState} (ly : of .columns ≤ col
   summed-trial p l e = summed-revalued sheet of (winAll sheet p s (members l (of .bids))) (win-size p (members l (of .bids)) refl) ly e
 
   -- several do not fit
-  pub shared-size : (l wins : List Bool) (p : ℕ) {u : PotState} → u ≡ sharedOf sheet of l wins p s → length (u .sums) ≡ sumsSize
-  unfolding sharedOf hungOf
-  shared-size l wins p eu = ap (λ (t : PotState). length (t .sums)) eu ∙ ap length (turn-sums sheet _ _ _ ∙ win-sums sheet p s _) ∙ S .parts .size
+  pub shared-size : (l : List Bool) (c : Choice) (p : ℕ) {u : PotState} → u ≡ sharedOf sheet of l c p s → length (u .sums) ≡ sumsSize
+  unfolding sharedOf numberedOf hungOf
+  shared-size l c p eu = ap (λ (t : PotState). length (t .sums)) eu ∙ ap length (turn-sums sheet _ _ _ ∙ win-sums sheet p s _) ∙ S .parts .size
 
   pub summed-tie : (p : ℕ) (l : List Bool) {r : PotState} → r ≡ tieOf sheet of l p s → Summed sheet of r
   unfolding tieOf
@@ -376,6 +379,7 @@ rep-sums l q R = record {
   free = R .free;
   price = R .price;
   hang = R .hang;
+  drawn = R .drawn;
 }
 
 pub stands-sums : {P : Pot} {t : Trace} {s : PotState} (l q : List ℕ) → Stands P t s → Stands P t (withSums l q s)

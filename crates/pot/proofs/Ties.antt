@@ -8,16 +8,17 @@ use lib.Dec.{ltb}
 use borrow.Author.Tests.{ltb-false}
 use Rattle.rules.specs.Names.{mostBids, becauseWon, downTied, widestTie}
 use Rattle.rules.specs.Lists.{pick, memb, sift, below}
-use Rattle.rules.specs.Pot.{Pot, Trace, winners, wideEnd, live, taken, remaining, choose, others, shared, tied}
+use Rattle.rules.specs.Pot.{Pot, Trace, winners, wideEnd, divided, live, taken, remaining, choose, waysOf, drawnAfter, others, shared, tied}
 use Rattle.laws_pot.specs.Lists.{case, clash, not-is-true, In, memb-in, sift-in, sift-same, sift-both}
 use Rattle.arrays.specs.Sets.{built, members, without}
 use Rattle.arrays.proofs.Arrays.{members-built}
 use Rattle.sheet.specs.declared.Size.{Size}
-use Rattle.sheet.specs.Sheet.{potIn, Ready, rowYear, rowPrice}
-use Rattle.ties.specs.Ties.{basesOf, keepsOf, choiceOf}
+use Rattle.sheet.specs.Sheet.{numberIn, potIn, Ready, rowYear, rowPrice}
+use Rattle.ties.specs.declared.Choice.{Choice}
+use Rattle.ties.specs.Ties.{basesOf, keepsOf, tiedOf, choiceOf}
 use Rattle.ties.proofs.Link as tie
 use Rattle.pot.specs.declared.PotState.{PotState}
-use Rattle.pot.specs.Marks.{lowestOf, winAll, turnAll, hungOf, widened, takenOf, sharedOf, restOf, choiceIn, tieOf}
+use Rattle.pot.specs.Marks.{lowestOf, winAll, turnAll, hungOf, widened, takenOf, numberedOf, sharedOf, restOf, choiceIn, tieOf}
 use Rattle.pot.specs.Rep.{hangs, Sizes, Rep, Stands}
 use Rattle.pot.proofs.Arrays.{win-sizes, win-marks, win-won, win-opened, win-wide, turn-sizes, turn-marks, turn-opened, turn-won, turn-prices, turn-wide}
 use Rattle.pot.proofs.Link as link
@@ -79,29 +80,37 @@ module _ (sheet : List ℕ) (of : Size) (ok : Ready sheet of) where
 
     module _ (h : k ≤ 10) where
       abbrev ch : List ℕ
-      ch = choose P ws l
+      ch = choose P (drawnAfter P t) ws l
+
+      abbrev choice : Choice
+      choice = choiceIn sheet of a p s
 
       abbrev w : List Bool
-      w = choiceIn sheet of a p s
+      w = choice .wins
 
-      choice-is : w ≡ choiceOf sheet of base rest k p
+      choice-is : choice ≡ choiceOf sheet of base (tiedOf sheet of rest k) p (s .drawn)
       unfolding choiceIn
       choice-is = refl
 
       of-choice : members w (of .bids) ≡ ch
       of-choice =
           tie.of-choice sheet of ok ws (s .marks) (s .prices) (holds-rep R .marked) (R .sizes .prices) (R .price) p refl a l (of-set)
-          (link.taken-part sheet of ok t) at-price new rest rest-is refl h choice-is
+          (link.taken-part sheet of ok t) at-price new rest rest-is refl h (s .drawn) (R .drawn) choice-is
+
+      number-left : numberIn (choice .drawn) ≡ divided (numberIn (s .drawn)) (waysOf P ws l)
+      number-left =
+          tie.number-left sheet of ok ws (s .marks) (s .prices) (holds-rep R .marked) (R .sizes .prices) (R .price) p refl a l (of-set)
+          (link.taken-part sheet of ok t) at-price new rest rest-is refl h (s .drawn) refl choice-is
 
       in-w : (i : ℕ) → In i l → getD w i false ≡ memb i ch
       in-w i j =
           tie.choice-at sheet of ok ws (s .marks) (s .prices) (holds-rep R .marked) (R .sizes .prices) (R .price) p refl a l (of-set)
-          (link.taken-part sheet of ok t) at-price new rest rest-is refl h choice-is i (sound i j .0)
+          (link.taken-part sheet of ok t) at-price new rest rest-is refl h (s .drawn) (R .drawn) choice-is i (sound i j .0)
 
       in-choice : (i : ℕ) → In i ch → In i l
       in-choice =
           tie.chosen-among sheet of ok ws (s .marks) (s .prices) (holds-rep R .marked) (R .sizes .prices) (R .price) p refl a l (of-set)
-          (link.taken-part sheet of ok t) at-price new rest rest-is refl h
+          (link.taken-part sheet of ok t) at-price new rest rest-is refl h (drawnAfter P t)
 
       abbrev out : List ℕ
       out = others P l ch
@@ -124,13 +133,13 @@ module _ (sheet : List ℕ) (of : Size) (ok : Ready sheet of) where
       v = winAll sheet p s ch
 
       abbrev x : PotState
-      x = hungOf 4 (turnAll sheet downTied v out)
+      x = numberedOf (choice .drawn) (hungOf 4 (turnAll sheet downTied v out))
 
       sv : Sizes v
       sv = win-sizes sheet p s (R .sizes) ch
 
       shared-did : Did P (shared P t l) s x
-      unfolding hungOf hangs potIn
+      unfolding numberedOf hungOf hangs potIn
       shared-did = record {
         sizes = let f = turn-sizes sheet downTied v sv out in record { marks = f .marks; won = f .won; opened = f .opened; prices = f .prices };
         marks = λ i.
@@ -147,6 +156,7 @@ module _ (sheet : List ℕ) (of : Size) (ok : Ready sheet of) where
             ap (λ (q : List ℕ). getD q d 0) (turn-prices sheet downTied v sv out)
             ∙ link.win-prices sheet of ok ws s (R .sizes) p ch d (λ c g. let f = sound c (in-choice c g) in (f .0, f .2));
         hang = refl;
+        drawn = number-left;
       }
         where
           swap : (i : ℕ) → pick (memb i out) downTied (pick (memb i ch) becauseWon (getD (s .marks) i 0))
@@ -154,15 +164,15 @@ module _ (sheet : List ℕ) (of : Size) (ok : Ready sheet of) where
           swap i = case (memb i out) (λ e. rw (e, in-out i (memb-in i out e) .1)) (λ e. rw e)
 
       -- the arrays after a tie that is not too wide
-      shared-rep : Rep P (shared P t l ∷ t) (sharedOf sheet of a w p s)
+      shared-rep : Rep P (shared P t l ∷ t) (sharedOf sheet of a choice p s)
       unfolding sharedOf
       shared-rep =
           rw (of-choice, of-others)
           (rep-did P t (shared P t l) s x refl refl (λ i j. new i (in-out i j .0)) (λ i j. sound i (in-choice i j) .3)
           (λ i j. sound i (in-out i j .0) .3) R shared-did)
 
-      shared-wide : (sharedOf sheet of a w p s) .wide ≡ s .wide
-      unfolding sharedOf hungOf
+      shared-wide : (sharedOf sheet of a choice p s) .wide ≡ s .wide
+      unfolding sharedOf numberedOf hungOf
       shared-wide = rw (of-choice) (turn-wide sheet downTied v sv (members (built (without a w) (of .bids)) (of .bids)) ∙ win-wide sheet p s (R .sizes) ch)
 
     -- the arrays after any tie

@@ -11,9 +11,10 @@ use Rattle.rules.specs.Names.{mostBids, mostApps, mostDeliveries, noPrice, noRe
 use Rattle.rules.specs.Lists.{pick, sift, below}
 use Rattle.arrays.specs.Sets.{fill, placed, built, members, headOr, without}
 use Rattle.sheet.specs.declared.Size.{Size}
-use Rattle.sheet.specs.Sheet.{columns, rowApp, rowYear, rowPrice, inAuction, Ready}
+use Rattle.sheet.specs.Sheet.{columns, drawnIn, rowApp, rowYear, rowPrice, inAuction, Ready}
 use Rattle.totals.specs.Totals.{partOf, filled}
-use Rattle.ties.specs.Ties.{basesOf, keepsOf, choiceOf}
+use Rattle.ties.specs.declared.Choice.{Choice}
+use Rattle.ties.specs.Ties.{basesOf, keepsOf, tiedOf, choiceOf}
 use Rattle.pot.specs.declared.PotState.{PotState}
 use Rattle.pot.specs.declared.Look.{Look}
 
@@ -51,6 +52,7 @@ winOf sheet price k s = record {
   totals = s .totals;
   hang = s .hang;
   wide = s .wide;
+  drawn = s .drawn;
 }
 
 unfoldable pub turnOf : (sheet : List ℕ) (v k : ℕ) → PotState → PotState
@@ -63,6 +65,7 @@ turnOf sheet v k s = record {
   totals = s .totals;
   hang = s .hang;
   wide = s .wide;
+  drawn = s .drawn;
 }
 
 unfoldable pub winAll : (sheet : List ℕ) (price : ℕ) → PotState → List ℕ → PotState
@@ -84,6 +87,7 @@ turnedOf k s = record {
   totals = s .totals;
   hang = noYear;
   wide = s .wide;
+  drawn = s .drawn;
 }
 
 unfoldable pub hungOf : ℕ → PotState → PotState
@@ -96,6 +100,7 @@ hungOf d s = record {
   totals = s .totals;
   hang = d;
   wide = s .wide;
+  drawn = s .drawn;
 }
 
 unfoldable pub shutOf : ℕ → PotState → PotState
@@ -108,6 +113,7 @@ shutOf d s = record {
   totals = s .totals;
   hang = noYear;
   wide = s .wide;
+  drawn = s .drawn;
 }
 
 unfoldable pub settledOf : PotState → PotState
@@ -123,6 +129,7 @@ widened s = record {
   totals = s .totals;
   hang = s .hang;
   wide = true;
+  drawn = s .drawn;
 }
 
 -- the live bids at the lowest live price, as a set
@@ -166,10 +173,25 @@ followsOf sheet of k s = soleOf sheet k (members (takenOf sheet of s) (of .bids)
 unfoldable pub aloneOf : (sheet : List ℕ) (of : Size) (k : ℕ) → PotState → PotState
 aloneOf sheet of k s = pick (followsOf sheet of k (turnedOf k s)) (hungOf (rowYear sheet k) (turnedOf k s)) (shutOf (rowYear sheet k) (turnedOf k s))
 
--- those chosen of a set win, the others are turned down
-unfoldable pub sharedOf : (sheet : List ℕ) (of : Size) (l wins : List Bool) (price : ℕ) → PotState → PotState
-sharedOf sheet of l wins price s =
-    hungOf noYear (turnAll sheet downTied (winAll sheet price s (members wins (of .bids))) (members (built (without l wins) (of .bids)) (of .bids)))
+-- another number is the one that the next tie is drawn by
+unfoldable pub numberedOf : ℕ → PotState → PotState
+numberedOf d s = record {
+  marks = s .marks;
+  won = s .won;
+  opened = s .opened;
+  prices = s .prices;
+  sums = s .sums;
+  totals = s .totals;
+  hang = s .hang;
+  wide = s .wide;
+  drawn = d;
+}
+
+-- those chosen of a set win, the others are turned down, and the drawn number is what the choice left of it
+unfoldable pub sharedOf : (sheet : List ℕ) (of : Size) (l : List Bool) (c : Choice) (price : ℕ) → PotState → PotState
+sharedOf sheet of l c price s =
+    numberedOf (c .drawn)
+    (hungOf noYear (turnAll sheet downTied (winAll sheet price s (members (c .wins) (of .bids))) (members (built (without l (c .wins)) (of .bids)) (of .bids))))
 
 -- ---- the sums by delivery year
 
@@ -199,6 +221,7 @@ withSums l q s = record {
   totals = q;
   hang = s .hang;
   wide = s .wide;
+  drawn = s .drawn;
 }
 
 -- what the winners that start in year d count; they are revalued; and so in each year below n
@@ -246,10 +269,10 @@ pub record Valued (sheet : List ℕ) (of : Size) (s : PotState) : Type 0 where
 unfoldable pub restOf : (sheet : List ℕ) (of : Size) (l : List Bool) (price : ℕ) → PotState → List Bool
 restOf sheet of l price s = built (keepsOf sheet of (basesOf sheet of (s .marks) (s .prices) price) price l) (of .bids)
 
-unfoldable pub choiceIn : (sheet : List ℕ) (of : Size) (l : List Bool) (price : ℕ) → PotState → List Bool
+unfoldable pub choiceIn : (sheet : List ℕ) (of : Size) (l : List Bool) (price : ℕ) → PotState → Choice
 choiceIn sheet of l price s =
-    choiceOf sheet of (basesOf sheet of (s .marks) (s .prices) price) (restOf sheet of l price s)
-    (length (members (restOf sheet of l price s) (of .bids))) price
+    choiceOf sheet of (basesOf sheet of (s .marks) (s .prices) price)
+    (tiedOf sheet of (restOf sheet of l price s) (length (members (restOf sheet of l price s) (of .bids)))) price (s .drawn)
 
 unfoldable pub tieOf : (sheet : List ℕ) (of : Size) (l : List Bool) (price : ℕ) → PotState → PotState
 tieOf sheet of l price s =
@@ -275,4 +298,5 @@ startedOf sheet of = record {
   totals = replicate columns 0;
   hang = noYear;
   wide = false;
+  drawn = drawnIn sheet;
 }

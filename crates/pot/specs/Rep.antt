@@ -7,10 +7,10 @@ use lib.ListN.{length, getD}
 use lib.Dec.{eqb, ltb}
 use Rattle.rules.specs.Names.{mostBids, mostApps, mostDeliveries, noPrice, noReason, becauseWon}
 use Rattle.rules.specs.Lists.{pick, memb}
-use Rattle.rules.specs.Pot.{Pot, Trace, winners, seen, closed, hanging, wideEnd, mark, priceFrom, taken, look}
+use Rattle.rules.specs.Pot.{Pot, Trace, winners, seen, closed, hanging, wideEnd, mark, priceFrom, drawnAfter, taken, look}
 use Rattle.laws_pot.specs.Lists.{In}
 use Rattle.sheet.specs.declared.Size.{Size}
-use Rattle.sheet.specs.Sheet.{potIn, Ready}
+use Rattle.sheet.specs.Sheet.{numberIn, potIn, Ready}
 use Rattle.pot.specs.declared.PotState.{PotState}
 use Rattle.pot.specs.declared.Look.{Look}
 use Rattle.pot.specs.Marks.{notHere, noYear, Others, Looked, Summed}
@@ -36,6 +36,7 @@ pub record Rep (P : Pot) (t : Trace) (s : PotState) : Type 0 where
   pub free : (d : ℕ) → d < mostDeliveries → getD (s .opened) d false ≡ not (memb d (closed t))
   pub price : (d : ℕ) → d < mostDeliveries → getD (s .prices) d 0 ≡ priceFrom P noPrice (winners t) d
   pub hang : hanging t ≡ hangs (s .hang)
+  pub drawn : drawnAfter P t ≡ numberIn (s .drawn)
 
 -- .. or say that a tie was too wide, and then no more than that
 pub record Stands (P : Pot) (t : Trace) (s : PotState) : Type 0 where

@@ -39,6 +39,8 @@ pub struct PotState {
     pub hang: usize,
     // a tie was too wide
     pub wide: bool,
+    // one more than the number that the next tie is drawn by, 0 where there is none
+    pub drawn: u64,
 }
 
 // What a look at the live bids sees: the lowest price, none where no bid is live; how many bids carry it, and the last of these in the order of the file.

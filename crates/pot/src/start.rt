@@ -40,5 +40,6 @@ pub fn started(sheet: &Sheet, of: Size) -> PotState
         totals: [0; COLUMNS],
         hang: NO_YEAR,
         wide: false,
+        drawn: sheet::drawn(sheet),
     }
 }

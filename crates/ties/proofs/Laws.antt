@@ -1,29 +1,34 @@
 -- Laws of ties over plain variables: each answers one need of a proof. Assumes nothing.
 use Prim.Native.Nat.{ℕ, zero, suc, _+_, _-_, _*_, _/_, _%_, _^_, _≤_, _<_}
 use mathlib.Core.Path.{_≡_, refl, sym, ap, _∙_}
-use mathlib.Core.Bool.{Bool, true, false, _&&_}
-use mathlib.Core.List.{List}
+use mathlib.Core.Bool.{Bool, true, false, not, _&&_}
+use mathlib.Core.List.{List, [], _∷_}
 use native.Mathlib.Numerals.{add-one}
-use native.Mathlib.Nat.{le-antisymm}
+use native.Mathlib.Nat.{le-antisymm, div-zero}
 use native.Mathlib.Omega.{arith}
 use lib.ListN.{length, getD, set}
 use lib.Dec.{eqb, leb, ltb}
-use borrow.Author.Tests.{eqb-true, eqb-false, ltb-true, ltb-false, lt-ltb, le-ltb, lt-leb, le-leb}
-use Rattle.rules.specs.Lists.{pick}
-use Rattle.rules.specs.Pot.{has, best}
-use Rattle.laws_pot.specs.Lists.{case}
+use borrow.Author.Tests.{eqb-true, eqb-false, eq-eqb, ne-eqb, ltb-true, ltb-false, lt-ltb, le-ltb, lt-leb, le-leb}
+use Rattle.rules.specs.Lists.{pick, sift, below}
+use Rattle.rules.specs.Pot.{has, best, atPlace}
+use Rattle.laws_pot.specs.Lists.{case, sift-le, length-below}
 use Rattle.laws_pot.specs.Bits.{add-lt}
 use Rattle.rules.specs.Names.{mostDeliveries}
 use Rattle.arrays.specs.Sets.{fill, placed, members}
 use Rattle.arrays.proofs.Arrays.{fill-at, fill-rest, placed-fill, zeros}
+use Rattle.arrays.proofs.Laws.{done}
 use Rattle.sheet.specs.declared.Size.{Size}
 use Rattle.sheet.specs.Sheet.{columns, limitAt, rowYear, rowDraw}
 use Rattle.totals.specs.Totals.{worthOf, totalOf, noRow, filled, fitsTo}
 use Rattle.ties.specs.declared.tied.Tied.{Tied}
 use Rattle.ties.specs.declared.search.Best.{Best}
+use Rattle.ties.specs.declared.draw.Listed.{Listed}
+use Rattle.ties.specs.declared.draw.Drawn.{Drawn}
+use Rattle.ties.specs.declared.Choice.{Choice}
 use Rattle.ties.specs.Ties.{partSize, partRows, repricedTo, baseAt, noBase, aloneTotal, aloneFits, keepsOf, compactOf, listed, aboveOf, rankOf}
-use Rattle.ties.specs.Ties.{startOf, ranksOf, startsOf, tiedOf, ownAt, ownsOf, touchOf, touchedOf, bestOf, bestMask, combinationOf, combinedOf, oneAt}
-use Rattle.ties.specs.Ties.{oneYearAt, jointOf, unionOf, okBy, lastBy, betterOf, bestBy, choiceAt, choiceOf}
+use Rattle.ties.specs.Ties.{startOf, ranksOf, startsOf, tiedOf, ownAt, ownsOf, touchOf, touchedOf, bestOf, combinationOf, combinedOf, oneAt, costsOf}
+use Rattle.ties.specs.Ties.{oneYearAt, yearsOf, costsAt, datesAt, tableLength, tableAt, noTable, tableBy, jointOf, unionOf, okBy, lastBy, betterOf}
+use Rattle.ties.specs.Ties.{addableOf, fullTo, keptBy, listedOf, countedOf, topBy, waysBy, drawBy, choiceOf}
 
 -- ---- the present winners
 module _ (prices : List ℕ) (p t d : ℕ) {b : Bool} {row : List ℕ} (eb : b ≡ has t d) (er : row ≡ repricedTo prices p t d) where
@@ -183,12 +188,33 @@ pub one-year-is : (ranks starts : List ℕ) (k i : ℕ) {w r : ℕ} → w ≡ 2 
 unfolding oneYearAt
 one-year-is ranks starts k i ew er = rw (er, ew)
 
+pub base-part : (base costs dates : List ℕ) (i : ℕ) → i < costsAt → getD base i 0 ≡ tableAt base costs dates i
+unfolding tableAt
+base-part base costs dates i h = rw (lt-ltb i costsAt h)
+
+pub costs-part : (base costs dates : List ℕ) (i : ℕ) → costsAt ≤ i → i < datesAt → getD costs (i - costsAt) 0 ≡ tableAt base costs dates i
+unfolding tableAt
+costs-part base costs dates i h g = rw (le-ltb i costsAt h, lt-ltb i datesAt g)
+
+pub dates-part : (base costs dates : List ℕ) (i : ℕ) → costsAt ≤ i → datesAt ≤ i → getD dates (i - datesAt) 0 ≡ tableAt base costs dates i
+unfolding tableAt
+dates-part base costs dates i h g = rw (le-ltb i costsAt h, le-ltb i datesAt g)
+
+pub table-ends : (base own ranks starts : List ℕ) (k : ℕ) {costs dates out : List ℕ} {n : ℕ} → costs ≡ costsOf own ranks k → dates ≡ yearsOf ranks starts k
+    → out ≡ fill noTable (tableAt base costs dates) n → n ≤ tableLength → tableLength ≤ n → out ≡ tableBy base own ranks starts k
+unfolding tableBy
+table-ends base own ranks starts k {costs} {dates} {out} ec ed eo h g = rw (ec, ed) at (done (fill noTable (tableAt base costs dates)) eo h g)
+
 -- ---- the search
-pub joint-is : (base costs : List ℕ) (mask t c : ℕ) {n : ℕ} → n ≡ mask
-    → getD base (t * columns + c) 0 + getD costs (n % partSize * columns + c) 0 + getD costs (partRows + n / partSize * columns + c) 0
-    ≡ jointOf base costs mask t c
+pub joint-is : (table : List ℕ) (mask t c : ℕ) {n : ℕ} → n ≡ mask
+    → getD table (t * columns + c) 0 + getD table (costsAt + n % partSize * columns + c) 0 + getD table (costsAt + partRows + n / partSize * columns + c) 0
+    ≡ jointOf table mask t c
 unfolding jointOf
-joint-is base costs mask t c e = rw e
+joint-is table mask t c e = rw e
+
+and-none : (b : Bool) → false ≡ (b && false)
+and-none true = refl
+and-none false = refl
 
 -- a column above its limit, whatever the others
 pub fits-stops : (f : ℕ → ℕ) (sheet : List ℕ) (c n : ℕ) {x q : ℕ} → x ≡ f c → q ≡ limitAt sheet c → q < x → c < n → false ≡ fitsTo f sheet n
@@ -196,11 +222,7 @@ unfolding fitsTo
 fits-stops f sheet c zero e l h g = absurd (omega arith)
 fits-stops f sheet c (suc n) e l h g =
     case (eqb c n) (λ t. rw (← (eqb-true c n t), ← e, ← l, lt-leb _ _ h))
-    (λ u. let d = eqb-false c n u in rw (← (fits-stops f sheet c n e l h (omega arith))) (no (leb (f n) (limitAt sheet n))))
-  where
-    no : (b : Bool) → false ≡ (b && false)
-    no true = refl
-    no false = refl
+    (λ u. let d = eqb-false c n u in rw (← (fits-stops f sheet c n e l h (omega arith))) (and-none (leb (f n) (limitAt sheet n))))
 
 -- the better of two
 module _ (b : Best) (mask total : ℕ) where
@@ -212,15 +234,14 @@ module _ (b : Best) (mask total : ℕ) where
   unfolding betterOf
   better-more g = rw (le-leb (b .total) total g)
 
-pub last-is : (of : Size) (base costs dates : List ℕ) (mask : ℕ) {t w last : ℕ} → t ≡ unionOf dates mask → last ≡ of .years - 1
-    → w ≡ jointOf base costs mask t last → w ≡ lastBy of base costs dates mask
+pub last-is : (of : Size) (table : List ℕ) (mask : ℕ) {t w : ℕ} → t ≡ unionOf table mask → w ≡ jointOf table mask t (of .years - 1) → w ≡ lastBy of table mask
 unfolding lastBy
-last-is of base costs dates mask et el ew = rw (ew, et, el)
+last-is of table mask et ew = rw (ew, et)
 
-pub ok-is : (sheet : List ℕ) (of : Size) (base costs dates : List ℕ) (mask : ℕ) {t : ℕ} {f : Bool} → t ≡ unionOf dates mask
-    → f ≡ fitsTo (jointOf base costs mask t) sheet (of .columns) → f ≡ okBy sheet of base costs dates mask
+pub ok-is : (sheet : List ℕ) (of : Size) (table : List ℕ) (mask : ℕ) {t : ℕ} {f : Bool} → t ≡ unionOf table mask
+    → f ≡ fitsTo (jointOf table mask t) sheet (of .columns) → f ≡ okBy sheet of table mask
 unfolding okBy
-ok-is sheet of base costs dates mask et ef = rw (ef, et)
+ok-is sheet of table mask et ef = rw (ef, et)
 
 pub best-none : (ok : ℕ → Bool) (tot : ℕ → ℕ) {w : ℕ} → w ≡ tot 0 → _≡_ {A = Best} (record { mask = 0; total = w }) (bestOf ok tot 0)
 unfolding best
@@ -240,11 +261,105 @@ module _ (ok : ℕ → Bool) (tot : ℕ → ℕ) (n : ℕ) {b : Best} {f : Bool}
   unfolding best
   best-same h = rw (eb, add-one n, sym ef ∙ h)
 
-pub best-ends : (sheet : List ℕ) (of : Size) (base costs dates : List ℕ) (k : ℕ) {n e : ℕ} {b : Best}
-    → b ≡ bestOf (okBy sheet of base costs dates) (lastBy of base costs dates) n → n ≤ e → e ≤ n → e ≡ 2 ^ k → b .mask ≡ bestBy sheet of base costs dates k
-unfolding bestBy
-best-ends sheet of base costs dates k eb h g ee =
-    ap (λ (x : Best). x .mask) eb ∙ ap (best (okBy sheet of base costs dates) (lastBy of base costs dates)) (le-antisymm h g ∙ ee)
+-- a loop over the numbers below 2 ^ k has reached its end
+pub ends : {A : Type 0} (f : ℕ → A) (k : ℕ) {x : A} {n e : ℕ} → x ≡ f n → n ≤ e → e ≤ n → e ≡ 2 ^ k → x ≡ f (2 ^ k)
+ends f k ex h g ee = ex ∙ ap f (le-antisymm h g ∙ ee)
+
+-- ---- those kept
+module _ (ok : ℕ → Bool) (mask place : ℕ) {b : Bool} (eb : b ≡ has mask place) where
+  pub addable-in : b ≡ true → false ≡ addableOf ok mask place
+  unfolding addableOf
+  addable-in h = rw (← eb, h)
+
+  pub addable-out : {p : ℕ} {f : Bool} → b ≡ false → p ≡ 2 ^ place → f ≡ ok (mask + p) → f ≡ addableOf ok mask place
+  unfolding addableOf
+  addable-out h ep ef = rw (← eb, h, ef, ep)
+
+module _ (ok : ℕ → Bool) (ranks : List ℕ) (mask j : ℕ) {b : Bool} (eb : b ≡ addableOf ok mask (getD ranks j 0)) where
+  pub full-more : b ≡ false → true ≡ fullTo ok ranks mask j → true ≡ fullTo ok ranks mask (j + 1)
+  unfolding fullTo
+  full-more h e = rw (add-one j, ← eb, h) e
+
+  pub full-stops : (k : ℕ) → b ≡ true → j < k → false ≡ fullTo ok ranks mask k
+  unfolding fullTo
+  full-stops zero h g = absurd (omega arith)
+  full-stops (suc k) h g =
+      case (eqb j k) (λ t. rw (← (eqb-true j k t), ← eb, h))
+      (λ u. let d = eqb-false j k u in rw (← (full-stops k h (omega arith))) (and-none (not (addableOf ok mask (getD ranks k 0)))))
+
+module _ (sheet : List ℕ) (of : Size) (table : List ℕ) (tied : Tied) (most mask : ℕ) {f : Bool} (ef : f ≡ okBy sheet of table mask) where
+  pub kept-misfit : f ≡ false → false ≡ keptBy sheet of table tied most mask
+  unfolding keptBy
+  kept-misfit h = rw (← ef, h)
+
+  module _ {w : ℕ} (h : f ≡ true) (ew : w ≡ lastBy of table mask) where
+    pub kept-less : (w ≡ most → ⊥) → false ≡ keptBy sheet of table tied most mask
+    unfolding keptBy
+    kept-less g = rw (← ef, h, ← ew, ne-eqb w most g)
+
+    pub kept-full : {r : Bool} → w ≡ most → r ≡ fullTo (okBy sheet of table) (tied .ranks) mask (tied .count) → r ≡ keptBy sheet of table tied most mask
+    unfolding keptBy
+    kept-full g er = rw (← ef, h, ← ew, eq-eqb w most g) er
+
+module _ (l : Listed) (mask place : ℕ) where
+  pub counted-at : l .count ≡ place → _≡_ {A = Listed} (record { count = l .count + 1; mask = mask }) (countedOf l mask place)
+  unfolding countedOf
+  counted-at e = rw (eq-eqb (l .count) place e)
+
+  pub counted-past : (l .count ≡ place → ⊥) → _≡_ {A = Listed} (record { count = l .count + 1; mask = l .mask }) (countedOf l mask place)
+  unfolding countedOf
+  counted-past e = rw (ne-eqb (l .count) place e)
+
+module _ (f : ℕ → Bool) (place : ℕ) where
+  pub listed-none : _≡_ {A = Listed} (record { count = 0; mask = 0 }) (listedOf f place 0)
+  unfolding listedOf atPlace
+  listed-none = refl
+
+  module _ (n : ℕ) {l : Listed} (el : l ≡ listedOf f place n) where
+    pub listed-few : l .count ≤ n
+    unfolding listedOf
+    listed-few = omega (arith, ap (λ (x : Listed). x .count) el, sift-le f (below n), length-below n)
+
+    module _ {b : Bool} (eb : b ≡ f n) where
+      pub listed-more : {r : Listed} → b ≡ true → r ≡ countedOf l n place → r ≡ listedOf f place (n + 1)
+      unfolding listedOf countedOf atPlace
+      listed-more h er = rw (er, el, add-one n, sym eb ∙ h, add-one (length (sift f (below n))))
+
+      pub listed-same : b ≡ false → l ≡ listedOf f place (n + 1)
+      unfolding listedOf
+      listed-same h = rw (el, add-one n, sym eb ∙ h)
+
+-- ---- what a drawn number takes
+module _ (sheet : List ℕ) (of : Size) (table : List ℕ) (tied : Tied) {b : Best}
+    (eb : b ≡ bestOf (okBy sheet of table) (lastBy of table) (2 ^ (tied .count))) where
+  pub draw-top : {drawn : ℕ} → drawn ≡ 0 → _≡_ {A = Drawn} (record { mask = b .mask; drawn = 0 }) (drawBy sheet of table tied drawn)
+  unfolding drawBy topBy
+  draw-top e = rw (e, eb)
+
+  ways-are : (place : ℕ) {l : Listed} → l ≡ listedOf (keptBy sheet of table tied (b .total)) place (2 ^ (tied .count))
+      → l ≡ record { count = length (waysBy sheet of table tied); mask = atPlace place (waysBy sheet of table tied) }
+  unfolding listedOf waysBy topBy
+  ways-are place el = rw (el, eb)
+
+  -- d is the drawn number, and `first` has counted those kept
+  module _ (d : ℕ) {drawn : ℕ} {first : Listed} (ed : drawn ≡ suc d)
+      (ef : first ≡ listedOf (keptBy sheet of table tied (b .total)) 0 (2 ^ (tied .count))) where
+    many : first .count ≡ length (waysBy sheet of table tied)
+    many = ap (λ (x : Listed). x .count) (ways-are 0 ef)
+
+    pub draw-none : first .count ≡ 0 → _≡_ {A = Drawn} (record { mask = 0; drawn = 1 }) (drawBy sheet of table tied drawn)
+    unfolding drawBy
+    draw-none e = rw ed (go (waysBy sheet of table tied) (sym many ∙ e))
+      where
+        go : (l : List ℕ) → length l ≡ 0
+            → _≡_ {A = Drawn} (record { mask = 0; drawn = 1 }) (record { mask = atPlace (d % length l) l; drawn = suc (d / length l) })
+        go [] q = unfold atPlace in rw (div-zero d)
+        go (x ∷ l) q = absurd (omega arith)
+
+    pub draw-place : (place : ℕ) {l : Listed} → place ≡ d % first .count → l ≡ listedOf (keptBy sheet of table tied (b .total)) place (2 ^ (tied .count))
+        → _≡_ {A = Drawn} (record { mask = l .mask; drawn = d / first .count + 1 }) (drawBy sheet of table tied drawn)
+    unfolding drawBy
+    draw-place place ep el = rw (ed, ap (λ (x : Listed). x .mask) (ways-are place el), ep, many, add-one (d / length (waysBy sheet of table tied)))
 
 -- the parts of a choice
 pub tied-is : (sheet : List ℕ) (of : Size) (l : List Bool) (k : ℕ) {list ranks starts : List ℕ} → list ≡ compactOf l (of .bids) → ranks ≡ ranksOf sheet list k
@@ -252,9 +367,9 @@ pub tied-is : (sheet : List ℕ) (of : Size) (l : List Bool) (k : ℕ) {list ran
 unfolding tiedOf
 tied-is sheet of l k el er es = rw (es, er, el)
 
-pub choice-is : (sheet : List ℕ) (of : Size) (base : List ℕ) (l : List Bool) (k p : ℕ) {tied : Tied} {own : List ℕ} {mask : ℕ} {r : List Bool}
-    → tied ≡ tiedOf sheet of l k → own ≡ ownsOf sheet of (tied .bids) p (tied .count)
-    → mask ≡ bestMask sheet of base own (tied .ranks) (tied .starts) (tied .count)
-    → r ≡ combinationOf (tied .bids) (tied .ranks) mask (tied .count) → r ≡ choiceOf sheet of base l k p
-unfolding choiceOf choiceAt tiedOf
-choice-is sheet of base l k p et eo em er = rw (er, em, eo, et)
+pub choice-is : (sheet : List ℕ) (of : Size) (base : List ℕ) (tied : Tied) (p drawn : ℕ) {own table : List ℕ} {found : Drawn} {w : List Bool}
+    → own ≡ ownsOf sheet of (tied .bids) p (tied .count) → table ≡ tableBy base own (tied .ranks) (tied .starts) (tied .count)
+    → found ≡ drawBy sheet of table tied drawn → w ≡ combinationOf (tied .bids) (tied .ranks) (found .mask) (tied .count)
+    → _≡_ {A = Choice} (record { wins = w; drawn = found .drawn }) (choiceOf sheet of base tied p drawn)
+unfolding choiceOf
+choice-is sheet of base tied p drawn eo et ef ew = rw (ew, ef, et, eo)

@@ -1,33 +1,38 @@
 -- From the arrays of a tie to the rules: what fits alone, what a combination comes to, and which is chosen. Assumes nothing.
 use Prim.Native.Nat.{ℕ, zero, suc, _+_, _-_, _*_, _/_, _%_, _^_, _≤_, _<_}
 use mathlib.Core.Path.{_≡_, refl, sym, ap, ap₂, _∙_}
-use mathlib.Core.Bool.{Bool, true, false, _&&_, _||_}
+use mathlib.Core.Bool.{Bool, true, false, not, _&&_, _||_}
+use mathlib.Core.Logic.{⊎-elim}
+use mathlib.Core.Option.{Option, some}
 use mathlib.Core.List.{List, [], _∷_, _++_, map}
 use native.Mathlib.Omega.{arith}
+use lib.Pow.{pow-pos, pow-mono}
 use lib.ListN.{length, getD, length-set}
 use lib.Dec.{eqb, ltb}
 use borrow.Author.Tests.{eqb-true, eqb-false, eq-eqb, ne-eqb, lt-ltb}
 use Rattle.rules.specs.Names.{mostBids, noPrice}
 use Rattle.rules.specs.Lists.{pick, memb, sift, below, sum}
-use Rattle.rules.specs.Pot.{Pot, has, best, priceFrom, clearing, tally, total, fits, remaining, rank, combination, chosen, choose}
-use Rattle.laws_pot.specs.Lists.{case, In, memb-in, in-memb, in-one, in-map, sift-in, sift-same, sift-both, memb-join, below-in}
-use Rattle.laws_pot.specs.Bits.{has-none, add-adds, add-other}
-use Rattle.laws_pot.specs.Tie.{tally-same, best-same, combination-in}
+use Rattle.rules.specs.Pot.{Pot, has, best, all, atPlace, divided, priceFrom, clearing, tally, fits, remaining, rank, combination, fitsAt, lastAt, topNumber}
+use Rattle.rules.specs.Pot.{full, keeps, kept, number, chosen, choose, waysOf}
+use Rattle.laws_pot.specs.Lists.{case, In, memb-in, in-memb, in-one, in-tail, in-map, sift-in, sift-same, sift-both, memb-join, below-in}
+use Rattle.laws_pot.specs.Bits.{has-none, add-adds, add-other, add-lt}
+use Rattle.laws_pot.specs.Tie.{tally-same, combination-in, rank-lt, with-one, fits-alike}
 use Rattle.arrays.specs.Sets.{none, built, members}
 use Rattle.arrays.proofs.Arrays.{put-is, at-start, fill-at, members-built}
 use Rattle.sheet.specs.declared.Size.{Size}
 use Rattle.sheet.proofs.Columns.{columns-few}
-use Rattle.sheet.specs.Sheet.{columns, potIn, Ready, inAuction, rowYear, rowDraw}
+use Rattle.sheet.specs.Sheet.{columns, potIn, Ready, inAuction, numberIn, rowYear, rowPrice, rowDraw}
 use Rattle.totals.specs.Totals.{worthOf, totalOf}
 use Rattle.totals.proofs.Link as link
 use Rattle.totals.proofs.Link.{Marked, columnOf, columnTotal}
-use Rattle.ties.specs.Ties.{yearSets, repricedTo, baseAt, noBase, basesOf, aloneTotal, aloneFits, keepsOf, compactOf, listed, aboveOf, rankOf, ranksOf}
-use Rattle.ties.specs.Ties.{startOf, startsOf, ownAt, noOwn, ownsOf, Numbers, touchOf, touchedOf, maskTotal, figure, okMask, lastMask, bestMask}
-use Rattle.ties.specs.Ties.{combinationOf, choiceAt, choiceOf}
+use Rattle.ties.specs.declared.Choice.{Choice}
+use Rattle.ties.specs.Ties.{yearSets, combinations, repricedTo, baseAt, noBase, basesOf, aloneTotal, aloneFits, keepsOf, compactOf, listed, aboveOf}
+use Rattle.ties.specs.Ties.{rankOf, ranksOf, startOf, startsOf, tiedOf, ownAt, noOwn, ownsOf, Numbers, touchOf, touchedOf, combinationOf, combinedOf}
+use Rattle.ties.specs.Ties.{tableBy, jointOf, unionOf, okBy, lastBy, addableOf, fullTo, keptBy, topBy, waysBy, drawBy, choiceOf}
 use Rattle.ties.proofs.Laws.{pow-low}
-use Rattle.ties.proofs.Parts.{touch-low}
-use Rattle.ties.proofs.Lists.{listed-is, numbers, rank-at, start-at}
-use Rattle.ties.proofs.Sums.{sum-same, price-won, price-one, tally-split, tally-sum, Part, part-sift, part-in}
+use Rattle.ties.proofs.Parts.{touch-low, joint-total, best-less, best-alike}
+use Rattle.ties.proofs.Lists.{in-listed, listed-is, numbers, rank-at, start-at}
+use Rattle.ties.proofs.Sums.{sum-same, memb-sift, price-won, price-one, tally-split, tally-sum, Part, part-sift, part-in}
 
 -- ---- a row of prices, some of them anew
 repriced-length : (prices : List ℕ) (p t n : ℕ) → length (repricedTo prices p t n) ≡ length prices
@@ -263,6 +268,9 @@ module _ (sheet : List ℕ) (of : Size) (ok : Ready sheet of) where
           abbrev own : List ℕ
           own = ownsOf sheet of list p k
 
+          abbrev table : List ℕ
+          table = tableBy base own ranks starts k
+
           in-list : listed list k ≡ r
           in-list = listed-is s (of .bids) ek few refl ∙ of-rest
 
@@ -277,6 +285,12 @@ module _ (sheet : List ℕ) (of : Size) (ok : Ready sheet of) where
           start-is : (j : ℕ) → j < k → getD starts j 0 ≡ P .yr (getD list j 0)
           unfolding startOf potIn
           start-is j g = start-at sheet of list k ok N j g
+
+          start-low : (j : ℕ) → j < k → getD starts j 0 < 4
+          start-low j g = rw (start-is j g) (low j g)
+            where
+              low : (j : ℕ) → j < k → P .yr (getD list j 0) < 4
+              low j g = unfold potIn in ok .year (getD list j 0) (N .small j g)
 
           own-is : (j c : ℕ) → j < k → c < of .columns → getD own (j * columns + c) 0 ≡ worthOf sheet of (getD list j 0) p c
           unfolding noOwn ownAt
@@ -305,20 +319,16 @@ module _ (sheet : List ℕ) (of : Size) (ok : Ready sheet of) where
                 let ih = touched-is n (omega arith) in
                 case (sel (getD list n 0))
                 (λ u. rw (sel-is n h ∙ u, u) (
-                  touch-low (touchedOf ranks starts mask n) (getD starts n 0) (ih .0) (rw (start-is n h) (low n h)),
+                  touch-low (touchedOf ranks starts mask n) (getD starts n 0) (ih .0) (start-low n h),
                   λ d g. touch-has (touchedOf ranks starts mask n) (getD starts n 0) d ∙ rw (start-is n h, ih .1 d g),
                 ))
                 (λ u. rw (sel-is n h ∙ u, u) ih)
-              where
-                low : (n : ℕ) → n < k → P .yr (getD list n 0) < 4
-                low n g = unfold potIn in ok .year (getD list n 0) (N .small n g)
 
-            sum-is : (t c n : ℕ) → n ≤ k → c < of .columns
-                → maskTotal base own ranks mask t c n ≡ getD base (t * columns + c) 0 + sum (λ i. worthOf sheet of i p c) (sift sel (listed list n))
-            unfolding maskTotal listed sum
-            sum-is t c zero h g = omega arith
-            sum-is t c (suc n) h g =
-                let ih = sum-is t c n (omega arith) g in
+            sum-is : (c n : ℕ) → n ≤ k → c < of .columns → combinedOf own ranks mask c n ≡ sum (λ i. worthOf sheet of i p c) (sift sel (listed list n))
+            unfolding combinedOf listed sum
+            sum-is c zero h g = refl
+            sum-is c (suc n) h g =
+                let ih = sum-is c n (omega arith) g in
                 case (sel (getD list n 0))
                 (λ u. rw (sel-is n h ∙ u, u, own-is n c h g, ih) (omega arith))
                 (λ u. rw (sel-is n h ∙ u, u, ih) (omega arith))
@@ -370,50 +380,159 @@ module _ (sheet : List ℕ) (of : Size) (ok : Ready sheet of) where
                   years = λ d g. f .1 d g ∙ ap (λ (x : List ℕ). memb d (map (P .yr) x)) of-com;
                 }
 
-            figure-is : (c : ℕ) → c < of .columns → figure base own ranks k mask years c ≡ columnTotal P (cs ++ ws) c
-            unfolding figure
-            figure-is c g =
-                sum-is years c k (omega arith) g ∙ ap (λ (x : List ℕ). getD base (years * columns + c) 0 + sum (λ i. worthOf sheet of i p c) x) of-com
-                ∙ joined cs years c tried g
+            -- what the table says of it
+            module _ (low : mask < combinations) where
+              total-is : (c : ℕ) → c < of .columns → jointOf table mask (unionOf table mask) c ≡ columnTotal P (cs ++ ws) c
+              total-is c g =
+                  joint-total base own ranks starts k start-low mask c low (omega (arith, columns-few ok))
+                  ∙ ap (λ (x : ℕ). getD base (years * columns + c) 0 + x) (sum-is c k (omega arith) g ∙ ap (sum (λ i. worthOf sheet of i p c)) of-com)
+                  ∙ joined cs years c tried g
 
-            ok-is : okMask sheet of base own ranks starts k mask ≡ fits P (cs ++ ws)
-            unfolding okMask
-            ok-is = link.fits-is sheet of ok (figure base own ranks k mask years) (cs ++ ws) figure-is
+              ok-is : okBy sheet of table mask ≡ fitsAt P ws r mask
+              unfolding okBy
+              ok-is = link.fits-is sheet of ok (jointOf table mask (unionOf table mask)) (cs ++ ws) total-is
 
-            last-is : lastMask of base own ranks starts k mask ≡ total P (cs ++ ws) (P .years - 1)
-            unfolding lastMask
-            last-is = figure-is (of .years - 1) (omega (arith, ok .some, ok .columns-least)) ∙ opened ∙ link.total-column P (cs ++ ws) (P .years - 1) year
-              where
-                opened : columnTotal P (cs ++ ws) (of .years - 1) ≡ columnTotal P (cs ++ ws) (P .years - 1)
-                opened = unfold potIn in refl
+              last-is : lastBy of table mask ≡ lastAt P ws r mask
+              unfolding lastBy
+              last-is = total-is (of .years - 1) (omega (arith, ok .some, ok .columns-least)) ∙ opened ∙ link.total-column P (cs ++ ws) (P .years - 1) year
+                where
+                  opened : columnTotal P (cs ++ ws) (of .years - 1) ≡ columnTotal P (cs ++ ws) (P .years - 1)
+                  opened = unfold potIn in refl
 
-                year : P .years - 1 < P .years
-                year = unfold potIn in omega (arith, ok .some)
+                  year : P .years - 1 < P .years
+                  year = unfold potIn in omega (arith, ok .some)
 
             of-set-com : members (combinationOf list ranks mask k) (of .bids) ≡ cs
             of-set-com = part-members cs (combinationOf list ranks mask k) part-com (λ i g. set-is k i (omega arith) g ∙ ap (memb i) of-com)
 
-          -- the number of the best combination
-          best-is : bestMask sheet of base own ranks starts k
-              ≡ best (λ x. fits P (combination P r x ++ ws)) (λ x. total P (combination P r x ++ ws) (P .years - 1)) (2 ^ length r)
-          unfolding bestMask
-          best-is =
-              best-same (okMask sheet of base own ranks starts k) (λ x. fits P (combination P r x ++ ws)) (lastMask of base own ranks starts k)
-              (λ x. total P (combination P r x ++ ws) (P .years - 1)) (2 ^ k) ok-is last-is
-              ∙ ap (λ (n : ℕ). best (λ x. fits P (combination P r x ++ ws)) (λ x. total P (combination P r x ++ ws) (P .years - 1)) (2 ^ n))
-              (ek ∙ ap length of-rest)
+          -- ---- those kept
+          few-numbers : 2 ^ k ≤ combinations
+          few-numbers = pow-mono {j = 10} few
 
-          pub of-choice : {w : List Bool} → w ≡ choiceOf sheet of base s k p → members w (of .bids) ≡ choose P ws l
-          unfolding choiceOf choiceAt choose chosen
-          of-choice ew = ap (λ (x : List Bool). members x (of .bids)) ew ∙ of-set-com (bestMask sheet of base own ranks starts k) ∙ ap (combination P r) best-is
+          remains : (j : ℕ) → j < k → In (getD list j 0) r
+          remains j g = rw in-list at (in-listed list j k g)
 
-          -- the chosen bids as a set
-          pub choice-at : {w : List Bool} → w ≡ choiceOf sheet of base s k p → (i : ℕ) → i < of .bids → getD w i false ≡ memb i (choose P ws l)
-          unfolding choiceOf choiceAt choose chosen
-          choice-at ew i g =
-              ap (λ (x : List Bool). getD x i false) ew ∙ set-is (bestMask sheet of base own ranks starts k) k i (omega arith) g
-              ∙ ap (memb i) (of-com (bestMask sheet of base own ranks starts k) ∙ ap (combination P r) best-is)
+          price-is : (i : ℕ) → In i r → P .price i ≡ p
+          price-is i j = pl i (among i j)
 
-          pub chosen-among : (i : ℕ) → In i (choose P ws l) → In i l
+          apart : (c d : ℕ) → In c r → In d r → P .draw c ≡ P .draw d → c ≡ d
+          apart c d i j e =
+              ok .apart c d (link.bid-lt sheet of ok c (of-pot c i)) (link.bid-lt sheet of ok d (of-pot d j)) (link.bid-in sheet of ok c (of-pot c i))
+              (link.bid-in sheet of ok d (of-pot d j)) (one-price (price-is c i ∙ sym (price-is d j))) (one-draw e)
+            where
+              of-pot : (x : ℕ) → In x r → In x (P .bids)
+              of-pot x h = part-in P x Q (among x h)
+
+              one-price : P .price c ≡ P .price d → rowPrice sheet c ≡ rowPrice sheet d
+              one-price q = unfold potIn in q
+
+              one-draw : P .draw c ≡ P .draw d → rowDraw sheet c ≡ rowDraw sheet d
+              one-draw q = unfold potIn in q
+
+          -- one bid more
+          added-is : (mask c : ℕ) → In c r → memb c (combination P r mask) ≡ false → mask + 2 ^ rank P r c < combinations
+              → okBy sheet of table (mask + 2 ^ rank P r c) ≡ fits P (c ∷ (combination P r mask ++ ws))
+          added-is mask c i f low =
+              ok-is (mask + 2 ^ rank P r c) low
+              ∙ fits-alike P p (combination P r (mask + 2 ^ rank P r c)) (c ∷ combination P r mask) ws (with-one P r mask c (λ d j e. apart d c j i e) i f)
+              (λ x j. ⊎-elim (λ e. rw e (price-is c i)) (λ h. price-is x (combination-in P x mask r h)) (in-tail j))
+
+          rank-low : (c : ℕ) → In c r → rank P r c < 10
+          rank-low c i = omega (arith, rank-lt P r c i, ek, ap length of-rest)
+
+          full-at : (mask j : ℕ) → mask < combinations → j < k → not (addableOf (okBy sheet of table) mask (getD ranks j 0))
+              ≡ (memb (getD list j 0) (combination P r mask) || not (fits P (getD list j 0 ∷ (combination P r mask ++ ws))))
+          unfolding addableOf
+          full-at mask j h g =
+              let c = getD list j 0 in
+              let i = remains j g in
+              let e : memb c (combination P r mask) ≡ has mask (rank P r c) = in-com mask c i in
+              rw (rank-is j g)
+              (case (has mask (rank P r c)) (λ t. rw (t, e ∙ t))
+              (λ f. rw (f, e ∙ f) (ap not (added-is mask c i (e ∙ f) (add-lt mask (rank P r c) 10 f (rank-low c i) h)))))
+            where
+              in-com : (mask c : ℕ) → In c r → memb c (combination P r mask) ≡ has mask (rank P r c)
+              in-com mask c i = unfold combination in memb-sift (λ b. has mask (rank P r b)) c r ∙ rw (in-memb i)
+
+          full-is : (mask n : ℕ) → mask < combinations → n ≤ k → fullTo (okBy sheet of table) ranks mask n
+              ≡ all (λ c. memb c (combination P r mask) || not (fits P (c ∷ (combination P r mask ++ ws)))) (listed list n)
+          unfolding fullTo all listed
+          full-is mask zero h g = refl
+          full-is mask (suc n) h g = ap₂ _&&_ (full-at mask n h g) (full-is mask n h (omega arith))
+
+          keeps-is : (mask most : ℕ) → mask < combinations → keptBy sheet of table (tiedOf sheet of s k) most mask ≡ keeps P ws r most mask
+          unfolding keptBy tiedOf keeps full
+          keeps-is mask most h =
+              ap₂ _&&_ (ok-is mask h)
+              (ap₂ _&&_ (ap (λ (x : ℕ). eqb x most) (last-is mask h))
+              (full-is mask k h (omega arith) ∙ ap (all (λ c. memb c (combination P r mask) || not (fits P (c ∷ (combination P r mask ++ ws))))) in-list))
+
+          many : 2 ^ k ≡ 2 ^ length r
+          many = ap (λ (n : ℕ). 2 ^ n) (ek ∙ ap length of-rest)
+
+          -- the number of the best combination, and the most that there is
+          top-is : topBy sheet of table k ≡ topNumber P ws r
+          unfolding topBy topNumber
+          top-is =
+              best-alike (okBy sheet of table) (fitsAt P ws r) (lastBy of table) (lastAt P ws r) combinations (2 ^ k) few-numbers ok-is last-is
+              ∙ ap (best (fitsAt P ws r) (lastAt P ws r)) many
+
+          most-is : lastBy of table (topBy sheet of table k) ≡ lastAt P ws r (topNumber P ws r)
+          most-is = last-is (topBy sheet of table k) (low few-numbers) ∙ ap (lastAt P ws r) top-is
+            where
+              low : 2 ^ k ≤ combinations → topBy sheet of table k < combinations
+              low h = unfold topBy in omega (arith, best-less (okBy sheet of table) (lastBy of table) (2 ^ k) (pow-pos k))
+
+          ways-is : waysBy sheet of table (tiedOf sheet of s k) ≡ kept P ws r
+          unfolding waysBy tiedOf kept
+          ways-is =
+              ap (λ (q : ℕ). sift (keptBy sheet of table (tiedOf sheet of s k) q) (below (2 ^ k))) most-is
+              ∙ sift-same (keptBy sheet of table (tiedOf sheet of s k) most) (keeps P ws r most) (below (2 ^ k))
+              (λ m i. keeps-is m most (omega (arith, below-in m (2 ^ k) i, few-numbers)))
+              ∙ ap (λ (n : ℕ). sift (keeps P ws r most) (below n)) many
+            where
+              most : ℕ
+              most = lastAt P ws r (topNumber P ws r)
+
+          -- ---- what a drawn number takes, and what it leaves
+          number-is : (drawn : ℕ) → (drawBy sheet of table (tiedOf sheet of s k) drawn) .mask ≡ number P (numberIn drawn) ws r
+          unfolding drawBy tiedOf number numberIn
+          number-is zero = top-is
+          number-is (suc d) = ap (λ (x : List ℕ). atPlace (d % length x) x) ways-is
+
+          left-is : (drawn : ℕ) → numberIn ((drawBy sheet of table (tiedOf sheet of s k) drawn) .drawn) ≡ divided (numberIn drawn) (waysOf P ws l)
+          unfolding drawBy numberIn divided waysOf
+          left-is zero = refl
+          left-is (suc d) = ap (λ (x : List ℕ). some (d / length x)) ways-is
+
+          module _ (drawn : ℕ) {d : Option ℕ} (ed : d ≡ numberIn drawn) {w : Choice}
+              (ew : w ≡ choiceOf sheet of base (tiedOf sheet of s k) p drawn) where
+            abbrev mask : ℕ
+            mask = (drawBy sheet of table (tiedOf sheet of s k) drawn) .mask
+
+            number-taken : mask ≡ number P d ws r
+            number-taken = number-is drawn ∙ ap (λ (x : Option ℕ). number P x ws r) (sym ed)
+
+            wins-are : w .wins ≡ combinationOf list ranks mask k
+            unfolding choiceOf tiedOf
+            wins-are = ap (λ (x : Choice). x .wins) ew
+
+            pub of-choice : members (w .wins) (of .bids) ≡ choose P d ws l
+            unfolding choose chosen
+            of-choice = ap (λ (x : List Bool). members x (of .bids)) wins-are ∙ of-set-com mask ∙ ap (combination P r) number-taken
+
+            -- the chosen bids as a set
+            pub choice-at : (i : ℕ) → i < of .bids → getD (w .wins) i false ≡ memb i (choose P d ws l)
+            unfolding choose chosen
+            choice-at i g =
+                ap (λ (x : List Bool). getD x i false) wins-are ∙ set-is mask k i (omega arith) g
+                ∙ ap (memb i) (of-com mask ∙ ap (combination P r) number-taken)
+
+            -- what is left of the drawn number
+            pub number-left : numberIn (w .drawn) ≡ divided d (waysOf P ws l)
+            unfolding choiceOf tiedOf
+            number-left = ap (λ (x : Choice). numberIn (x .drawn)) ew ∙ left-is drawn ∙ ap (λ (x : Option ℕ). divided x (waysOf P ws l)) (sym ed)
+
+          pub chosen-among : (d : Option ℕ) (i : ℕ) → In i (choose P d ws l) → In i l
           unfolding choose chosen
-          chosen-among i j = in-com (best (λ x. fits P (combination P r x ++ ws)) (λ x. total P (combination P r x ++ ws) (P .years - 1)) (2 ^ length r)) i j
+          chosen-among d i j = in-com (number P d ws r) i j

@@ -6,11 +6,11 @@ use mathlib.Core.List.{List, _∷_}
 use native.Mathlib.Omega.{arith}
 use lib.ListN.{length, getD, set, length-set}
 use lib.Dec.{eqb, ltb}
-use borrow.Author.Tests.{eqb-true, eqb-false, eq-eqb, ne-eqb}
+use borrow.Author.Tests.{eqb-true, eqb-false, eq-eqb, ne-eqb, le-ltb}
 use Rattle.rules.specs.Names.{widestTie}
 use Rattle.rules.specs.Value.{dearest}
 use Rattle.rules.specs.Lists.{sift, below}
-use Rattle.laws_pot.specs.Lists.{case, In, here, there, sift-in, sift-le, below-in}
+use Rattle.laws_pot.specs.Lists.{case, In, here, there, sift-in, sift-le, sift-less, below-in}
 use Rattle.arrays.specs.Sets.{members}
 use Rattle.arrays.proofs.Arrays.{fill-at, fill-le, zeros, members-less, put-is}
 use Rattle.sheet.specs.declared.Size.{Size}
@@ -18,7 +18,7 @@ use Rattle.sheet.specs.Sheet.{columns, rowDraw, Ready}
 use Rattle.totals.proofs.Laws.{worth-le, total-le}
 use Rattle.ties.specs.declared.tied.Tied.{Tied}
 use Rattle.ties.specs.Ties.{yearSets, Bounded, repricedTo, baseAt, noBase, basesOf, mostBase, listed, noList, compactOf, aboveOf, rankOf, ranksOf}
-use Rattle.ties.specs.Ties.{startOf, startsOf, tiedOf, Few, Numbers, Placed, ownAt, noOwn, ownsOf, Owned}
+use Rattle.ties.specs.Ties.{startOf, startsOf, tiedOf, Few, Numbers, Gathered, ownAt, noOwn, ownsOf, Owned}
 
 -- ---- the list of a set is its members
 compact-length : (l : List Bool) (n : ℕ) → length (compactOf l n) ≡ 10
@@ -44,7 +44,7 @@ unfolding listed
 listed-length a zero = refl
 listed-length a (suc k) = ap suc (listed-length a k)
 
-in-listed : (a : List ℕ) (j k : ℕ) → j < k → In (getD a j 0) (listed a k)
+pub in-listed : (a : List ℕ) (j k : ℕ) → j < k → In (getD a j 0) (listed a k)
 unfolding listed
 in-listed a j zero h = absurd (omega arith)
 in-listed a j (suc k) h = case (eqb j k) (λ t. rw (eqb-true j k t) (here refl)) (λ f. let d = eqb-false j k f in there (in-listed a j k (omega arith)))
@@ -124,33 +124,42 @@ module _ (sheet : List ℕ) (of : Size) (list : List ℕ) (k : ℕ) (v : Ready s
   pub start-at : (j : ℕ) → j < k → getD (startsOf sheet list k) j 0 ≡ startOf sheet list j
   start-at j g = fill-at noList (startOf sheet list) k j 0 (omega (arith, N .few, ten)) g
 
-  rank-low : (j : ℕ) → rankOf sheet list k j ≤ k
+  -- a bid has no higher draw than its own
+  rank-low : (j : ℕ) → j < k → rankOf sheet list k j < k
   unfolding rankOf aboveOf
-  rank-low j = omega (arith, sift-le (λ c. ltb (rowDraw sheet (getD list j 0)) (rowDraw sheet c)) (listed list k), listed-length list k)
+  rank-low j g =
+      let x = rowDraw sheet (getD list j 0) in
+      omega (
+        arith,
+        sift-less (λ c. true) (λ c. ltb x (rowDraw sheet c)) (λ c t. refl) (in-listed list j k g) refl (le-ltb x x (omega arith)),
+        sift-le (λ c. true) (listed list k),
+        listed-length list k,
+      )
 
   start-low : (j : ℕ) → j < k → startOf sheet list j < 4
   unfolding startOf
   start-low j g = v .year (getD list j 0) (N .small j g)
 
--- the bids of a set, with their places and years; and what they cost
-module _ (sheet : List ℕ) (of : Size) (l : List Bool) (k : ℕ) {tied : Tied} (v : Ready sheet of) (F : Few of l k) (et : tied ≡ tiedOf sheet of l k) where
-  N : Numbers (compactOf l (of .bids)) k (of .bids)
-  N = numbers l (of .bids) (F .counted) (F .few) refl
-
-  pub tied-numbers : Numbers (tied .bids) (tied .count) (of .bids)
-  unfolding tiedOf
-  tied-numbers = rw et N
-
-  pub tied-placed : Placed tied
-  unfolding tiedOf
-  tied-placed = rw et (record {
+-- the bids of a set, with their places and years
+pub tied-gathered : (sheet : List ℕ) (of : Size) (l : List Bool) (k : ℕ) {tied : Tied} → Ready sheet of → Few of l k → tied ≡ tiedOf sheet of l k
+    → Gathered of tied
+unfolding tiedOf
+tied-gathered sheet of l k v F et = rw et (record {
+  numbers = N;
+  placed = record {
     few = F .few;
-    ranks = λ j g. omega (arith, F .few, rank-at sheet of (compactOf l (of .bids)) k v N j g, rank-low sheet of (compactOf l (of .bids)) k v N j);
+    ranks = λ j g. omega (arith, F .few, rank-at sheet of (compactOf l (of .bids)) k v N j g, rank-low sheet of (compactOf l (of .bids)) k v N j g);
     starts = λ j g. rw (start-at sheet of (compactOf l (of .bids)) k v N j g) (start-low sheet of (compactOf l (of .bids)) k v N j g);
-  })
+  };
+})
+  where
+    N : Numbers (compactOf l (of .bids)) k (of .bids)
+    N = numbers l (of .bids) (F .counted) (F .few) refl
 
-  pub tied-owned : (p : ℕ) {own : List ℕ} → own ≡ ownsOf sheet of (tied .bids) p (tied .count) → Owned own tied
-  tied-owned p eo = record {
-    bids = rw eo (record { small = own-ok sheet of (tied .bids) (tied .count) v tied-numbers p });
-    placed = tied-placed;
-  }
+-- and what they cost
+pub gathered-owned : (sheet : List ℕ) (of : Size) (p : ℕ) {tied : Tied} {own : List ℕ} → Ready sheet of → Gathered of tied
+    → own ≡ ownsOf sheet of (tied .bids) p (tied .count) → Owned own tied
+gathered-owned sheet of p {tied} v G eo = record {
+  bids = rw eo (record { small = own-ok sheet of (tied .bids) (tied .count) v (G .numbers) p });
+  placed = G .placed;
+}

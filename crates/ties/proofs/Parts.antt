@@ -9,23 +9,20 @@ use native.Mathlib.Omega.{arith}
 use lib.Bits.{bitOr, or-step, or-comm, or-lt}
 use lib.Pow.{pow-pos, pow-add, pow-mono}
 use lib.ListN.{length, getD}
-use lib.Dec.{eqb, leb}
-use borrow.Author.Tests.{eqb-true, eqb-false, ne-eqb}
+use lib.Dec.{eqb, leb, ltb}
+use borrow.Author.Tests.{eqb-true, eqb-false, ne-eqb, le-ltb}
 use Rattle.rules.specs.Names.{widestTie}
 use Rattle.rules.specs.Value.{dearest}
 use Rattle.rules.specs.Pot.{has, best}
-use Rattle.laws_pot.specs.Lists.{case, clash}
+use Rattle.laws_pot.specs.Lists.{case, clash, pick-all}
 use Rattle.laws_pot.specs.Bits.{has-suc, has-none, add-lt}
 use Rattle.arrays.specs.Sets.{fill}
-use Rattle.arrays.proofs.Arrays.{zeros, fill-at, fill-le, fill-stays}
-use Rattle.totals.proofs.Laws.{fits-same}
-use Rattle.sheet.specs.declared.Size.{Size}
-use Rattle.sheet.specs.Sheet.{columns, Ready}
-use Rattle.sheet.proofs.Columns.{columns-few}
-use Rattle.ties.specs.Ties.{yearSets, combinations, parts, partRows, Bounded, mostBase, noList, noOwn, touchOf, touchedOf, combinedOf, oneAt}
-use Rattle.ties.specs.Ties.{onesOf, costAt, noCosts}
-use Rattle.ties.specs.Ties.{costsOf, oneYearAt, oneYearsOf, yearAt, noYears, yearsOf, maskTotal, figure, okMask, lastMask, bestMask, jointOf, unionOf}
-use Rattle.ties.specs.Ties.{okBy, lastBy, bestBy, Tabled, Dated}
+use Rattle.arrays.proofs.Arrays.{zeros, fill-at, fill-each, fill-le, fill-stays}
+use Rattle.sheet.specs.Sheet.{columns}
+use Rattle.ties.specs.Ties.{yearSets, combinations, parts, partSize, partRows, Bounded, mostBase, noList, noOwn, touchOf, touchedOf, combinedOf, oneAt}
+use Rattle.ties.specs.Ties.{onesOf, costAt, noCosts, costsOf, oneYearAt, oneYearsOf, yearAt, noYears, yearsOf, costsAt, datesAt, tableLength, tableAt}
+use Rattle.ties.specs.Ties.{noTable, tableBy, jointOf, unionOf, Tabled}
+use Rattle.ties.proofs.Laws.{base-part, costs-part, dates-part}
 
 -- ---- binary places
 or-none : (b : Bool) → (b || false) ≡ b
@@ -298,15 +295,16 @@ module _ (ranks starts : List ℕ) (k : ℕ) where
 pub mask-low : {k e mask : ℕ} → k ≤ widestTie → e ≡ 2 ^ k → mask < e → mask < combinations
 mask-low {k} {e} {mask} h q g = let m : 2 ^ k ≤ 1024 = pow-mono {j = 10} h in omega arith
 
-pub union-low : {dates : List ℕ} → Dated dates → (v u : ℕ) → bitOr (getD dates v 0) (getD dates u 0) < yearSets
-union-low {dates} D v u = or-lt 4 (getD dates v 0) (getD dates u 0) (low v) (low u)
-  where
-    low : (i : ℕ) → getD dates i 0 < 16
-    low i = let h = D .small i in omega arith
+pub add-low : {mask i p : ℕ} {b : Bool} → mask < combinations → b ≡ has mask i → b ≡ false → i < widestTie → p ≡ 2 ^ i → mask + p < combinations
+add-low {mask} {i} h eb f l ep = rw ep (add-lt mask i widestTie (sym eb ∙ f) l h)
 
-pub union-is : (dates : List ℕ) (mask : ℕ) {n : ℕ} → n ≡ mask → bitOr (getD dates (n % 32) 0) (getD dates (32 + n / 32) 0) ≡ unionOf dates mask
+pub union-low : {table : List ℕ} → Tabled table → (v u : ℕ) → datesAt ≤ v → datesAt ≤ u → bitOr (getD table v 0) (getD table u 0) < yearSets
+union-low {table} T v u h g = or-lt 4 (getD table v 0) (getD table u 0) (T .years v h) (T .years u g)
+
+pub union-is : (table : List ℕ) (mask : ℕ) {n : ℕ} → n ≡ mask
+    → bitOr (getD table (datesAt + n % partSize) 0) (getD table (datesAt + partSize + n / partSize) 0) ≡ unionOf table mask
 unfolding unionOf
-union-is dates mask e = rw e
+union-is table mask e = rw e
 
 -- the number of a combination by its two parts
 low-part : (mask : ℕ) → mask % 32 * 1 ≡ mask % 32
@@ -337,29 +335,11 @@ module _ (own ranks : List ℕ) (k : ℕ) where
       ap₂ (λ (x w : ℕ). combinedOf own ranks x c k + combinedOf own ranks w c k) (low-part mask) (high-part mask)
       ∙ sym (combined-join own ranks c 5 (mask % 32) (mask / 32) k (omega arith)) ∙ ap (λ (x : ℕ). combinedOf own ranks x c k) (both-parts mask)
 
-  figure-is : (base : List ℕ) (mask t c n : ℕ) → maskTotal base own ranks mask t c n ≡ getD base (t * columns + c) 0 + combinedOf own ranks mask c n
-  unfolding maskTotal combinedOf
-  figure-is base mask t c zero = omega arith
-  figure-is base mask t c (suc n) = omega (arith, figure-is base mask t c n)
-
-  joint-figure : (base : List ℕ) (mask t c : ℕ) {costs : List ℕ} → costs ≡ costsOf own ranks k → mask < 1024 → c < columns
-      → jointOf base costs mask t c ≡ figure base own ranks k mask t c
-  unfolding jointOf figure
-  joint-figure base mask t c {costs} e h g =
-      let l : getD costs (mask % 32 * columns + c) 0 ≡ combinedOf own ranks (mask % 32 * 1) c k =
-      cost-at 0 (mask % 32) c (mask % 32 * columns + c) e (omega arith) (omega arith) (omega arith) g in
-      let u : getD costs (partRows + mask / 32 * columns + c) 0 ≡ combinedOf own ranks (mask / 32 * 32) c k =
-      cost-at 1 (mask / 32) c (partRows + mask / 32 * columns + c) e (omega arith) (omega arith) (omega arith) g in
-      omega (arith, l, u, whole mask c, figure-is base mask t c k)
-
-  pub tabled : {base costs : List ℕ} → k ≤ widestTie → Bounded base mostBase → Bounded own dearest → costs ≡ costsOf own ranks k → Tabled base costs
-  tabled h B O e = rw e (record { winners = B; bids = record { small = small } })
-    where
-      small : (i : ℕ) → getD (costsOf own ranks k) i 0 ≤ dearest * widestTie
-      small i =
-          unfold noCosts in
-          fill-le noCosts (costAt own ranks k) (dearest * widestTie) (parts * partRows) i (omega arith) (λ j g. cost-le own ranks k j h O)
-          (λ j. rw (zeros (parts * partRows) j) (omega arith))
+  costs-small : k ≤ widestTie → Bounded own dearest → (i : ℕ) → getD (costsOf own ranks k) i 0 ≤ dearest * widestTie
+  unfolding noCosts
+  costs-small h O i =
+      fill-le noCosts (costAt own ranks k) (dearest * widestTie) (parts * partRows) i (omega arith) (λ j g. cost-le own ranks k j h O)
+      (λ j. rw (zeros (parts * partRows) j) (omega arith))
 
 module _ (ranks starts : List ℕ) (k : ℕ) where
   year-at : (s v i : ℕ) {dates : List ℕ} → dates ≡ yearsOf ranks starts k → i ≡ s * 32 + v → s < 2 → v < 32
@@ -372,50 +352,102 @@ module _ (ranks starts : List ℕ) (k : ℕ) where
       ∙ fill-at noYears (yearAt ranks starts k) 64 (s * 32 + v) 0 (omega arith) (omega arith)
       ∙ ap₂ (λ (x w : ℕ). touchedOf ranks starts (x * 2 ^ (w * 5)) k) q p
 
-  union-touched : (mask : ℕ) {dates : List ℕ} → dates ≡ yearsOf ranks starts k → mask < 1024 → unionOf dates mask ≡ touchedOf ranks starts mask k
-  unfolding unionOf
-  union-touched mask {dates} e h =
-      let l : getD dates (mask % 32) 0 ≡ touchedOf ranks starts (mask % 32 * 1) k =
-      year-at 0 (mask % 32) (mask % 32) e (omega arith) (omega arith) (omega arith) in
-      let u : getD dates (32 + mask / 32) 0 ≡ touchedOf ranks starts (mask / 32 * 32) k =
-      year-at 1 (mask / 32) (32 + mask / 32) e (omega arith) (omega arith) (omega arith) in
-      ap₂ bitOr (l ∙ ap (λ (x : ℕ). touchedOf ranks starts x k) (low-part mask)) (u ∙ ap (λ (x : ℕ). touchedOf ranks starts x k) (high-part mask))
-      ∙ sym (touched-join ranks starts 5 (mask % 32) (mask / 32) k (omega arith)) ∙ ap (λ (x : ℕ). touchedOf ranks starts x k) (both-parts mask)
-
-  pub dated : {dates : List ℕ} → ((j : ℕ) → j < k → getD starts j 0 < 4) → dates ≡ yearsOf ranks starts k → Dated dates
-  dated Q e = rw e (record { small = small })
+  dates-small : ((j : ℕ) → j < k → getD starts j 0 < 4) → (v : ℕ) → getD (yearsOf ranks starts k) v 0 ≤ 15
+  unfolding noYears
+  dates-small Q v = fill-le noYears (yearAt ranks starts k) 15 64 v (omega arith) (λ j g. low j) (λ j. rw (zeros 64 j) (omega arith))
     where
       low : (j : ℕ) → yearAt ranks starts k j ≤ 15
       low j = unfold yearAt in let h = touched-low ranks starts (j % 32 * 2 ^ (j / 32 * 5)) k Q in omega arith
 
-      small : (v : ℕ) → getD (yearsOf ranks starts k) v 0 ≤ 15
-      small v = unfold noYears in fill-le noYears (yearAt ranks starts k) 15 64 v (omega arith) (λ j g. low j) (λ j. rw (zeros 64 j) (omega arith))
+  touched-whole : (mask : ℕ) → bitOr (touchedOf ranks starts (mask % 32 * 1) k) (touchedOf ranks starts (mask / 32 * 32) k) ≡ touchedOf ranks starts mask k
+  touched-whole mask =
+      ap₂ bitOr (ap (λ (x : ℕ). touchedOf ranks starts x k) (low-part mask)) (ap (λ (x : ℕ). touchedOf ranks starts x k) (high-part mask))
+      ∙ sym (touched-join ranks starts 5 (mask % 32) (mask / 32) k (omega arith)) ∙ ap (λ (x : ℕ). touchedOf ranks starts x k) (both-parts mask)
+
+-- ---- the one table of them
+module _ (base own ranks starts : List ℕ) (k : ℕ) where
+  abbrev table : List ℕ
+  table = tableBy base own ranks starts k
+
+  abbrev at : ℕ → ℕ
+  at = tableAt base (costsOf own ranks k) (yearsOf ranks starts k)
+
+  table-at : (i : ℕ) → i < tableLength → getD table i 0 ≡ at i
+  unfolding tableBy noTable
+  table-at i h = fill-at noTable at tableLength i 0 (omega arith) h
+
+  base-at : (i : ℕ) → i < costsAt → getD table i 0 ≡ getD base i 0
+  base-at i h = table-at i (omega arith) ∙ sym (base-part base (costsOf own ranks k) (yearsOf ranks starts k) i h)
+
+  sum-at : (s v c i : ℕ) → i ≡ costsAt + s * partRows + v * columns + c → s < 2 → v < 32 → c < columns
+      → getD table i 0 ≡ combinedOf own ranks (v * 2 ^ (s * 5)) c k
+  sum-at s v c i e l h g =
+      table-at i (omega arith) ∙ sym (costs-part base (costsOf own ranks k) (yearsOf ranks starts k) i (omega arith) (omega arith))
+      ∙ cost-at own ranks k s v c (i - costsAt) refl (omega arith) l h g
+
+  touched-at : (s v i : ℕ) → i ≡ datesAt + s * 32 + v → s < 2 → v < 32 → getD table i 0 ≡ touchedOf ranks starts (v * 2 ^ (s * 5)) k
+  touched-at s v i e l h =
+      table-at i (omega arith) ∙ sym (dates-part base (costsOf own ranks k) (yearsOf ranks starts k) i (omega arith) (omega arith))
+      ∙ year-at ranks starts k s v (i - datesAt) refl (omega arith) l h
+
+  union-touched : (mask : ℕ) → mask < combinations → unionOf table mask ≡ touchedOf ranks starts mask k
+  unfolding unionOf
+  union-touched mask h =
+      let l = touched-at 0 (mask % 32) (datesAt + mask % 32) (omega arith) (omega arith) (omega arith) in
+      let u = touched-at 1 (mask / 32) (datesAt + partSize + mask / 32) (omega arith) (omega arith) (omega arith) in
+      ap₂ bitOr l u ∙ touched-whole ranks starts k mask
+
+  module _ (Q : (j : ℕ) → j < k → getD starts j 0 < 4) where
+    -- the total of a combination, off the table
+    pub joint-total : (mask c : ℕ) → mask < combinations → c < columns
+        → jointOf table mask (unionOf table mask) c ≡ getD base (touchedOf ranks starts mask k * columns + c) 0 + combinedOf own ranks mask c k
+    unfolding jointOf
+    joint-total mask c h g =
+        let t = touchedOf ranks starts mask k in
+        let low : t < yearSets = touched-low ranks starts mask k Q in
+        let b : getD table (unionOf table mask * columns + c) 0 ≡ getD base (t * columns + c) 0
+        = ap (λ (x : ℕ). getD table (x * columns + c) 0) (union-touched mask h) ∙ base-at (t * columns + c) (omega arith) in
+        let l : getD table (costsAt + mask % partSize * columns + c) 0 ≡ combinedOf own ranks (mask % 32 * 1) c k
+        = sum-at 0 (mask % 32) c (costsAt + mask % partSize * columns + c) (omega arith) (omega arith) (omega arith) g in
+        let u : getD table (costsAt + partRows + mask / partSize * columns + c) 0 ≡ combinedOf own ranks (mask / 32 * 32) c k
+        = sum-at 1 (mask / 32) c (costsAt + partRows + mask / partSize * columns + c) (omega arith) (omega arith) (omega arith) g in
+        omega (arith, b, l, u, whole own ranks k mask c)
+
+    pub tabled : {r : List ℕ} → k ≤ widestTie → Bounded base mostBase → Bounded own dearest → r ≡ table → Tabled r
+    unfolding tableBy tableAt noTable
+    tabled h B O e = rw e (record {
+      small = record {
+        small = λ i. fill-le noTable at mostBase tableLength i (omega arith)
+            (λ j g. pick-all (λ x. x ≤ mostBase) (ltb j costsAt) _ _ (λ t. B .small j)
+            (λ t. pick-all (λ x. x ≤ mostBase) (ltb j datesAt) _ _ (λ u. omega (arith, costs-small own ranks k h O (j - costsAt)))
+            (λ u. omega (arith, dates-small ranks starts k Q (j - datesAt)))))
+            (λ j. rw (zeros tableLength j) (omega arith));
+      };
+      years = λ i g.
+          rw (
+            fill-each noTable at at tableLength 0 (omega arith) (zeros tableLength) (λ j l. refl) i,
+            le-ltb i costsAt (omega arith),
+            le-ltb i datesAt g,
+          )
+          (pick-all (λ x. x < yearSets) (ltb i tableLength) _ _ (λ t. omega (arith, dates-small ranks starts k Q (i - datesAt))) (λ t. omega arith));
+    })
 
 -- ---- the best of them: equal tests and figures below a number, the same best
-best-le : (f : ℕ → Bool) (t : ℕ → ℕ) (n : ℕ) → best f t n ≤ n
+pub best-less : (f : ℕ → Bool) (t : ℕ → ℕ) (n : ℕ) → 0 < n → best f t n < n
 unfolding best
-best-le f t zero = omega arith
-best-le f t (suc n) =
-    let r = best-le f t n in
-    case (f n && leb (t (best f t n)) (t n)) (λ e. rw e (omega arith)) (λ e. rw e (omega arith))
+best-less f t zero h = absurd (omega arith)
+best-less f t (suc zero) h = case (f 0 && leb (t 0) (t 0)) (λ e. rw e (omega arith)) (λ e. rw e (omega arith))
+best-less f t (suc (suc n)) h =
+    let r = best-less f t (suc n) (omega arith) in
+    case (f (suc n) && leb (t (best f t (suc n))) (t (suc n))) (λ e. rw e (omega arith)) (λ e. rw e (omega arith))
 
-best-alike : (f g : ℕ → Bool) (t u : ℕ → ℕ) (most n : ℕ) → n ≤ most
+pub best-alike : (f g : ℕ → Bool) (t u : ℕ → ℕ) (most n : ℕ) → n ≤ most
     → ((x : ℕ) → x < most → f x ≡ g x) → ((x : ℕ) → x < most → t x ≡ u x) → best f t n ≡ best g u n
 unfolding best
 best-alike f g t u most zero l h k = refl
 best-alike f g t u most (suc n) l h k =
-    rw (h n l, k n l, best-alike f g t u most n (omega arith) h k, k (best g u n) (omega (arith, best-le g u n)))
-
-pub best-is : (sheet : List ℕ) (of : Size) (base own ranks starts : List ℕ) (k : ℕ) {costs dates : List ℕ} {r : ℕ} → k ≤ widestTie → Ready sheet of
-    → costs ≡ costsOf own ranks k → dates ≡ yearsOf ranks starts k → r ≡ bestBy sheet of base costs dates k → r ≡ bestMask sheet of base own ranks starts k
-unfolding bestBy bestMask okBy okMask lastBy lastMask
-best-is sheet of base own ranks starts k {costs} {dates} hk ok ec ed er =
-    er
-    ∙ best-alike (okBy sheet of base costs dates) (okMask sheet of base own ranks starts k) (lastBy of base costs dates)
-    (lastMask of base own ranks starts k) 1024 (2 ^ k) (pow-mono {j = 10} hk)
-    (λ x h. fits-same _ _ sheet (of .columns) (λ c g. total x c h (omega (arith, columns-few ok))))
-    (λ x h. total x (of .years - 1) h (omega (arith, ok .some, ok .years)))
+    rw (h n l, k n l, best-alike f g t u most n (omega arith) h k, k (best g u n) (small n l))
   where
-    total : (x c : ℕ) → x < 1024 → c < columns → jointOf base costs x (unionOf dates x) c ≡ figure base own ranks k x (touchedOf ranks starts x k) c
-    total x c h g =
-        ap (λ (t : ℕ). jointOf base costs x t c) (union-touched ranks starts k x ed h) ∙ joint-figure own ranks k base x (touchedOf ranks starts x k) c ec h g
+    small : (n : ℕ) → n < most → best g u n < most
+    small zero l = unfold best in l
+    small (suc n) l = omega (arith, best-less g u (suc n) (omega arith))

@@ -1,21 +1,24 @@
 -- What the functions of `ties` compute from a sheet and rows of numbers, and what they need. No rule of document 01 is stated here. Assumes nothing.
 use Prim.Native.Nat.{ℕ, zero, suc, _+_, _-_, _*_, _/_, _%_, _^_, _≤_, _<_}
 use mathlib.Core.Path.{_≡_}
-use mathlib.Core.Bool.{Bool, true, false, _&&_}
+use mathlib.Core.Bool.{Bool, true, false, not, _&&_}
 use mathlib.Core.List.{List, [], _∷_}
 use lib.Bits.{bitOr}
 use lib.ListN.{length, getD, set, replicate}
-use lib.Dec.{leb, ltb}
+use lib.Dec.{eqb, leb, ltb}
 use Rattle.rules.specs.Names.{mostBids, mostDeliveries, widestTie}
 use Rattle.rules.specs.Value.{dearest}
-use Rattle.rules.specs.Lists.{pick, sift}
-use Rattle.rules.specs.Pot.{has, best}
+use Rattle.rules.specs.Lists.{pick, sift, below}
+use Rattle.rules.specs.Pot.{has, best, atPlace}
 use Rattle.arrays.specs.Sets.{fill, none, members}
 use Rattle.sheet.specs.declared.Size.{Size}
 use Rattle.sheet.specs.Sheet.{columns, rowYear, rowDraw, Ready}
 use Rattle.totals.specs.Totals.{worthOf, totalOf, fitsTo}
 use Rattle.ties.specs.declared.tied.Tied.{Tied}
 use Rattle.ties.specs.declared.search.Best.{Best}
+use Rattle.ties.specs.declared.draw.Listed.{Listed}
+use Rattle.ties.specs.declared.draw.Drawn.{Drawn}
+use Rattle.ties.specs.declared.Choice.{Choice}
 
 -- ---- numbers as sets, by their binary places
 
@@ -137,8 +140,13 @@ pub record Numbers (list : List ℕ) (count m : ℕ) : Type 0 where
 
 pub record Placed (tied : Tied) : Type 0 where
   pub few : tied .count ≤ widestTie
-  pub ranks : (j : ℕ) → j < tied .count → getD (tied .ranks) j 0 < 32
+  pub ranks : (j : ℕ) → j < tied .count → getD (tied .ranks) j 0 < widestTie
   pub starts : (j : ℕ) → j < tied .count → getD (tied .starts) j 0 < mostDeliveries
+
+-- what is gathered of a set of few bids
+pub record Gathered (of : Size) (tied : Tied) : Type 0 where
+  pub numbers : Numbers (tied .bids) (tied .count) (of .bids)
+  pub placed : Placed tied
 
 -- what the bids count at a price: a row of columns to a bid
 unfoldable pub ownAt : (sheet : List ℕ) (of : Size) (list : List ℕ) (price i : ℕ) → ℕ
@@ -161,27 +169,9 @@ touchedOf ranks starts mask zero = 0
 touchedOf ranks starts mask (suc j) =
     pick (has mask (getD ranks j 0)) (touchOf (touchedOf ranks starts mask j) (getD starts j 0)) (touchedOf ranks starts mask j)
 
--- the total in column c with the combination added to the winners, whose years are t
-unfoldable pub maskTotal : (base own ranks : List ℕ) (mask t c count : ℕ) → ℕ
-maskTotal base own ranks mask t c zero = getD base (t * columns + c) 0
-maskTotal base own ranks mask t c (suc j) =
-    maskTotal base own ranks mask t c j + pick (has mask (getD ranks j 0)) (getD own (j * columns + c) 0) 0
-
-unfoldable pub figure : (base own ranks : List ℕ) (count mask t c : ℕ) → ℕ
-figure base own ranks count mask t c = maskTotal base own ranks mask t c count
-
-unfoldable pub okMask : (sheet : List ℕ) (of : Size) (base own ranks starts : List ℕ) (count mask : ℕ) → Bool
-okMask sheet of base own ranks starts count mask = fitsTo (figure base own ranks count mask (touchedOf ranks starts mask count)) sheet (of .columns)
-
-unfoldable pub lastMask : (of : Size) (base own ranks starts : List ℕ) (count mask : ℕ) → ℕ
-lastMask of base own ranks starts count mask = figure base own ranks count mask (touchedOf ranks starts mask count) (of .years - 1)
-
 -- the best combination so far, with its figure
 abbrev pub bestOf : (ℕ → Bool) → (ℕ → ℕ) → ℕ → Best
 bestOf ok tot n = record { mask = best ok tot n; total = tot (best ok tot n) }
-
-unfoldable pub bestMask : (sheet : List ℕ) (of : Size) (base own ranks starts : List ℕ) (count : ℕ) → ℕ
-bestMask sheet of base own ranks starts count = best (okMask sheet of base own ranks starts count) (lastMask of base own ranks starts count) (2 ^ count)
 
 -- the bids of a combination, as a set
 unfoldable pub combinationOf : (list ranks : List ℕ) (mask count : ℕ) → List Bool
@@ -233,52 +223,98 @@ noYears = replicate (parts * partSize) 0
 abbrev pub yearsOf : (ranks starts : List ℕ) (count : ℕ) → List ℕ
 yearsOf ranks starts count = fill noYears (yearAt ranks starts count) (parts * partSize)
 
--- by the tables: the total of a combination, the years that it touches, whether it fits, and its total in the last year
-unfoldable pub jointOf : (base costs : List ℕ) (mask t c : ℕ) → ℕ
-jointOf base costs mask t c =
-    getD base (t * columns + c) 0 + getD costs (mask % partSize * columns + c) 0 + getD costs (partRows + mask / partSize * columns + c) 0
+-- ---- by one table: what the winners count for each set of delivery years, and then of each number of each part what its bids count and which years they touch
+abbrev pub costsAt : ℕ
+costsAt = yearSets * columns
 
-unfoldable pub unionOf : (dates : List ℕ) (mask : ℕ) → ℕ
-unionOf dates mask = bitOr (getD dates (mask % partSize) 0) (getD dates (partSize + mask / partSize) 0)
+abbrev pub datesAt : ℕ
+datesAt = costsAt + parts * partRows
 
-unfoldable pub okBy : (sheet : List ℕ) (of : Size) (base costs dates : List ℕ) (mask : ℕ) → Bool
-okBy sheet of base costs dates mask = fitsTo (jointOf base costs mask (unionOf dates mask)) sheet (of .columns)
+abbrev pub tableLength : ℕ
+tableLength = datesAt + parts * partSize
 
-unfoldable pub lastBy : (of : Size) (base costs dates : List ℕ) (mask : ℕ) → ℕ
-lastBy of base costs dates mask = jointOf base costs mask (unionOf dates mask) (of .years - 1)
+unfoldable pub tableAt : (base costs dates : List ℕ) (i : ℕ) → ℕ
+tableAt base costs dates i = pick (ltb i costsAt) (getD base i 0) (pick (ltb i datesAt) (getD costs (i - costsAt) 0) (getD dates (i - datesAt) 0))
 
--- the better of the best so far and a combination that fits; and the best of those of so many bids
+unfoldable pub noTable : List ℕ
+noTable = replicate tableLength 0
+
+unfoldable pub tableBy : (base own ranks starts : List ℕ) (count : ℕ) → List ℕ
+tableBy base own ranks starts count = fill noTable (tableAt base (costsOf own ranks count) (yearsOf ranks starts count)) tableLength
+
+-- the total of a combination, the years that it touches, whether it fits, and its total in the last year
+unfoldable pub jointOf : (table : List ℕ) (mask t c : ℕ) → ℕ
+jointOf table mask t c =
+    getD table (t * columns + c) 0 + getD table (costsAt + mask % partSize * columns + c) 0 + getD table (costsAt + partRows + mask / partSize * columns + c) 0
+
+unfoldable pub unionOf : (table : List ℕ) (mask : ℕ) → ℕ
+unionOf table mask = bitOr (getD table (datesAt + mask % partSize) 0) (getD table (datesAt + partSize + mask / partSize) 0)
+
+unfoldable pub okBy : (sheet : List ℕ) (of : Size) (table : List ℕ) (mask : ℕ) → Bool
+okBy sheet of table mask = fitsTo (jointOf table mask (unionOf table mask)) sheet (of .columns)
+
+unfoldable pub lastBy : (of : Size) (table : List ℕ) (mask : ℕ) → ℕ
+lastBy of table mask = jointOf table mask (unionOf table mask) (of .years - 1)
+
+-- the better of the best so far and a combination that fits
 unfoldable pub betterOf : Best → (mask total : ℕ) → Best
 betterOf b mask total = pick (leb (b .total) total) (record { mask = mask; total = total }) b
 
-unfoldable pub bestBy : (sheet : List ℕ) (of : Size) (base costs dates : List ℕ) (count : ℕ) → ℕ
-bestBy sheet of base costs dates count = best (okBy sheet of base costs dates) (lastBy of base costs dates) (2 ^ count)
+-- what the table holds: no number above the dearest winners, and there are four delivery years
+pub record Tabled (table : List ℕ) : Type 0 where
+  pub small : Bounded table mostBase
+  pub years : (i : ℕ) → datesAt ≤ i → getD table i 0 < yearSets
 
--- what the tables hold: no combination is dearer than its bids, and there are four delivery years
-pub record Tabled (base costs : List ℕ) : Type 0 where
-  pub winners : Bounded base mostBase
-  pub bids : Bounded costs (dearest * widestTie)
-
-abbrev pub Dated : (dates : List ℕ) → Type 0
-Dated dates = Bounded dates (yearSets - 1)
-
--- what is read of the combination `mask`, which touches the years t; and of all those of so many bids
-pub record Joining (base costs : List ℕ) (mask t : ℕ) : Type 0 where
-  pub tables : Tabled base costs
+-- what is read of the combination `mask`, which touches the years t; of any; and of those of the gathered bids
+pub record Joining (table : List ℕ) (mask t : ℕ) : Type 0 where
+  pub tables : Tabled table
   pub number : mask < combinations
   pub years : t < yearSets
 
-pub record Searching (sheet : List ℕ) (of : Size) (base costs dates : List ℕ) (count : ℕ) : Type 0 where
+pub record Searching (sheet : List ℕ) (of : Size) (table : List ℕ) : Type 0 where
   pub ready : Ready sheet of
-  pub tables : Tabled base costs
-  pub touched : Dated dates
-  pub few : count ≤ widestTie
+  pub tables : Tabled table
 
--- ---- the combination that is chosen among the bids of a set
-unfoldable pub choiceAt : (sheet : List ℕ) (of : Size) (base list : List ℕ) (price count : ℕ) → List Bool
-choiceAt sheet of base list price count =
-    combinationOf list (ranksOf sheet list count)
-    (bestMask sheet of base (ownsOf sheet of list price count) (ranksOf sheet list count) (startsOf sheet list count) count) count
+pub record Drawing (sheet : List ℕ) (of : Size) (table : List ℕ) (tied : Tied) : Type 0 where
+  pub searching : Searching sheet of table
+  pub placed : Placed tied
 
-unfoldable pub choiceOf : (sheet : List ℕ) (of : Size) (base : List ℕ) (l : List Bool) (count price : ℕ) → List Bool
-choiceOf sheet of base l count price = choiceAt sheet of base (compactOf l (of .bids)) price count
+-- ---- those of the best combinations to which no other of the bids can be added
+
+-- the bid at a binary place can be added to the combination; and none of the first bids can be
+unfoldable pub addableOf : (ok : ℕ → Bool) (mask place : ℕ) → Bool
+addableOf ok mask place = not (has mask place) && ok (mask + 2 ^ place)
+
+unfoldable pub fullTo : (ok : ℕ → Bool) (ranks : List ℕ) (mask count : ℕ) → Bool
+fullTo ok ranks mask zero = true
+fullTo ok ranks mask (suc j) = not (addableOf ok mask (getD ranks j 0)) && fullTo ok ranks mask j
+
+unfoldable pub keptBy : (sheet : List ℕ) (of : Size) (table : List ℕ) (tied : Tied) (most mask : ℕ) → Bool
+keptBy sheet of table tied most mask =
+    okBy sheet of table mask && (eqb (lastBy of table mask) most && fullTo (okBy sheet of table) (tied .ranks) mask (tied .count))
+
+-- of the numbers below n that pass a test, how many there are and the one at a place; and one more than such a number
+unfoldable pub listedOf : (ℕ → Bool) → (place n : ℕ) → Listed
+listedOf f place n = record { count = length (sift f (below n)); mask = atPlace place (sift f (below n)) }
+
+unfoldable pub countedOf : Listed → (mask place : ℕ) → Listed
+countedOf l mask place = record { count = l .count + 1; mask = pick (eqb (l .count) place) mask (l .mask) }
+
+-- the number of the best combination; those kept; and what a drawn number takes, and what it leaves
+unfoldable pub topBy : (sheet : List ℕ) (of : Size) (table : List ℕ) (count : ℕ) → ℕ
+topBy sheet of table count = best (okBy sheet of table) (lastBy of table) (2 ^ count)
+
+unfoldable pub waysBy : (sheet : List ℕ) (of : Size) (table : List ℕ) (tied : Tied) → List ℕ
+waysBy sheet of table tied = sift (keptBy sheet of table tied (lastBy of table (topBy sheet of table (tied .count)))) (below (2 ^ (tied .count)))
+
+unfoldable pub drawBy : (sheet : List ℕ) (of : Size) (table : List ℕ) (tied : Tied) (drawn : ℕ) → Drawn
+drawBy sheet of table tied zero = record { mask = topBy sheet of table (tied .count); drawn = 0 }
+drawBy sheet of table tied (suc d) =
+    let l = waysBy sheet of table tied in
+    record { mask = atPlace (d % length l) l; drawn = suc (d / length l) }
+
+-- ---- the combination that is chosen among the gathered bids, and what is left of the drawn number
+unfoldable pub choiceOf : (sheet : List ℕ) (of : Size) (base : List ℕ) (tied : Tied) (price drawn : ℕ) → Choice
+choiceOf sheet of base tied price drawn =
+    let d = drawBy sheet of (tableBy base (ownsOf sheet of (tied .bids) price (tied .count)) (tied .ranks) (tied .starts) (tied .count)) tied drawn in
+    record { wins = combinationOf (tied .bids) (tied .ranks) (d .mask) (tied .count); drawn = d .drawn }

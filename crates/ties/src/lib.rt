@@ -1,15 +1,16 @@
 // Ties: several bids at one price that do not fit together. A trial of some of them changes the clearing price of the years in which these start, and of
 // no other; so the totals of the present winners are taken once for each set of delivery years, and a combination adds what its own bids cost,
-// which a table has for each part of its number. specs/Ties.antt says what each function computes.
+// which a table has for each part of its number. By a drawn number one of the best combinations is taken. specs/Ties.antt says what each function computes.
 ghost use mathlib.Core.Path.{_≡_};
 ghost use Rattle.rules.specs.Names.{mostBids};
-ghost use Rattle.ties.specs.Ties.{Based, Few, Numbers, Placed, combinationOf, choiceOf};
+ghost use Rattle.ties.specs.Ties.{Based, Gathered, Numbers, Placed, combinationOf, choiceOf};
 
 pub mod alone;
+mod draw;
 mod places;
 mod search;
 mod tables;
-mod tied;
+pub mod tied;
 pub mod winners;
 
 use names::BIDS;
@@ -18,6 +19,12 @@ use sheet::Sheet;
 use sheet::Size;
 use tied::Tied;
 use winners::Base;
+
+// The chosen bids, as a set; and one more than the number that the pot's next tie is drawn by, 0 where there is none.
+pub struct Choice {
+    pub wins: [bool; BIDS],
+    pub drawn: u64,
+}
 
 // The bids of a combination, as a set.
 fn combination(tied: Tied, mask: u32) -> [bool; BIDS]
@@ -36,20 +43,15 @@ fn combination(tied: Tied, mask: u32) -> [bool; BIDS]
     out
 }
 
-// The combination that is chosen among the bids of a set, of which there are `count`.
-pub fn choose(
-    sheet: &Sheet,
-    of: Size,
-    base: &Base,
-    set: [bool; BIDS],
-    count: usize,
-    price: u64,
-) -> [bool; BIDS]
-    requires { ⌜ Based (now sheet) of (now base) × Few of set count ⌝ }
-    ensures { λ r. ⌜ r ≡ choiceOf (now (sheet .entry)) of (now (base .entry)) set count price ⌝ }
+// The combination that is chosen among the gathered bids, at a price and by the pot's drawn number: one more than it, and 0 where there is none.
+pub fn choose(sheet: &Sheet, of: Size, base: &Base, tied: Tied, price: u64, drawn: u64) -> Choice
+    requires { ⌜ Based (now sheet) of (now base) × Gathered of tied ⌝ }
+    ensures { λ r. ⌜ r ≡ choiceOf (now (sheet .entry)) of (now (base .entry)) tied price drawn ⌝ }
 {
-    let tied = tied::gathered(sheet, of, set, count);
     let own = tables::owns(sheet, of, tied, price);
-    let mask = search::best_mask(sheet, of, base, &own, tied);
-    combination(tied, mask)
+    let table = tables::table(base, &own, tied);
+    let found = draw::draw(sheet, of, &table, tied, drawn);
+    let wins = combination(tied, found.mask);
+    let left = found.drawn;
+    Choice { wins, drawn: left }
 }

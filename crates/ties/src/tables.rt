@@ -1,17 +1,20 @@
 // What the bids of a tie count in each column, and in which delivery years they start: of each bid, and of each combination of the places of one part of its
-// number.
+// number; and beside what the present winners count, in one table.
 ghost use mathlib.Core.Path.{_≡_};
 ghost use Prim.Native.Nat.{_*_, _/_, _<_};
 ghost use Rattle.sheet.specs.Sheet.{columns, Ready};
-ghost use Rattle.ties.specs.Ties.{yearSets, Numbers, Placed, Owned, ownAt, ownsOf, touchedOf, combinedOf, onesOf, costsOf, oneYearsOf, yearsOf};
+ghost use Rattle.ties.specs.Ties.{yearSets, tableLength, Numbers, Placed, Owned, ownAt, ownsOf, touchedOf, combinedOf, onesOf, costsOf, oneYearsOf};
+ghost use Rattle.ties.specs.Ties.{yearsOf, tableAt, tableBy};
 use super::places::PART;
 use super::places::PART_PLACES;
 use super::places::PARTS;
+use super::places::SETS;
 use super::places::member;
 use super::places::power;
 use super::places::top;
 use super::places::touch;
 use super::tied::Tied;
+use super::winners::Base;
 use names::WIDEST_TIE;
 use sheet::COLUMNS;
 use sheet::Sheet;
@@ -26,7 +29,14 @@ pub const ROWS: usize = PART * COLUMNS;
 // A row of columns, and the delivery years, of each number of each part.
 pub type Costs = [u64; PARTS * ROWS];
 
-pub type Dates = [u32; PARTS * PART];
+pub type Dates = [u64; PARTS * PART];
+
+// Where these stand in a table, after what the winners count for each set of delivery years; and the whole.
+pub const COSTS_AT: usize = SETS * COLUMNS;
+
+pub const DATES_AT: usize = COSTS_AT + PARTS * ROWS;
+
+pub type Table = [u64; DATES_AT + PARTS * PART];
 
 // One place of `owns`.
 fn own_at(sheet: &Sheet, of: Size, tied: Tied, price: u64, i: usize) -> u64
@@ -126,14 +136,14 @@ pub fn costs(own: &Owns, tied: Tied) -> Costs
 }
 
 // The delivery years that each binary place touches.
-fn one_years(tied: Tied) -> [u32; WIDEST_TIE]
+fn one_years(tied: Tied) -> [u64; WIDEST_TIE]
     requires { ⌜ Placed tied ⌝ }
     ensures { λ r. ⌜ r ≡ oneYearsOf (tied .ranks) (tied .starts) (tied .count) ⌝ }
 {
-    let mut out = [0u32; WIDEST_TIE];
+    let mut out = [0u64; WIDEST_TIE];
     let mut i: usize = 0;
     while i < WIDEST_TIE {
-        out[i] = touched(tied, power(i as u32));
+        out[i] = touched(tied, power(i as u32)) as u64;
         i += 1;
     }
     out
@@ -145,7 +155,7 @@ pub fn years(tied: Tied) -> Dates
     ensures { λ r. ⌜ r ≡ yearsOf (tied .ranks) (tied .starts) (tied .count) ⌝ }
 {
     let one = one_years(tied);
-    let mut out = [0u32; PARTS * PART];
+    let mut out = [0u64; PARTS * PART];
     let mut i: usize = 0;
     while i < PARTS * PART {
         let v = i % PART;
@@ -154,6 +164,36 @@ pub fn years(tied: Tied) -> Dates
             let less = power(r as u32) as usize;
             out[i] = out[i - less] | one[i / PART * PART_PLACES + r];
         }
+        i += 1;
+    }
+    out
+}
+
+// One place of `table`.
+fn table_at(base: &Base, costs: &Costs, dates: &Dates, i: usize) -> u64
+    requires { ⌜ i < tableLength ⌝ }
+    ensures { λ r. ⌜ r ≡ tableAt (now (base .entry)) (now (costs .entry)) (now (dates .entry)) i ⌝ }
+{
+    if i < COSTS_AT {
+        return base[i];
+    }
+    if i < DATES_AT {
+        return costs[i - COSTS_AT];
+    }
+    dates[i - DATES_AT]
+}
+
+// All that the totals of combinations are read off.
+pub fn table(base: &Base, own: &Owns, tied: Tied) -> Table
+    requires { ⌜ Owned (now own) tied ⌝ }
+    ensures { λ r. ⌜ r ≡ tableBy (now (base .entry)) (now (own .entry)) (tied .ranks) (tied .starts) (tied .count) ⌝ }
+{
+    let costs = costs(own, tied);
+    let dates = years(tied);
+    let mut out = [0u64; DATES_AT + PARTS * PART];
+    let mut i: usize = 0;
+    while i < DATES_AT + PARTS * PART {
+        out[i] = table_at(base, &costs, &dates, i);
         i += 1;
     }
     out

@@ -1,6 +1,5 @@
 -- `pot::auction` meets its contract.
 use borrow.Author.Needs.{needs}
-use Rattle.totals.proofs.Link as link
 use Rattle.sheet.proofs.Columns.{columns-few}
 use Rattle.pot.proofs.Sums.{summed-started}
 use Rattle.pot.proofs.Runs.{started-stands}

@@ -3,7 +3,6 @@ use native.Mathlib.Omega.{arith}
 use mathlib.Core.Bool.{false}
 use mathlib.Core.Path.{_≡_}
 use Rattle.sheet.specs.Sheet.{potIn}
-use Rattle.totals.proofs.Link as link
 use Rattle.pot.specs.Marks.{Looked, Summed}
 use Rattle.pot.proofs.Runs.{Going, start, start-narrow, unlooked, run-others, run-less, run-again, run-wide, run-ends}
 use Rattle.pot.proofs.PotState.run.Statement.{statement}

@@ -1,7 +1,6 @@
 -- `pot::PotState::several` meets its contract.
 use borrow.Author.Needs.{needs}
 use mathlib.Core.Path.{_∙_}
-use Rattle.totals.proofs.Link as link
 use Rattle.sheet.proofs.Columns.{columns-few}
 use Rattle.pot.proofs.Sums.{summed-settled, summed-trial, summed-tie}
 use Rattle.pot.proofs.Steps.{taken-is, many-tried, step-fits, step-tie}

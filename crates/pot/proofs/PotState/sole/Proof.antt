@@ -1,6 +1,5 @@
 -- `pot::PotState::sole` meets its contract.
 use borrow.Author.Needs.{needs}
-use Rattle.totals.proofs.Link as link
 use Rattle.sheet.proofs.Columns.{columns-few}
 use Rattle.pot.proofs.Seen.{sole-small, sole-fresh}
 use Rattle.pot.proofs.Sums.{summed-settled, summed-one, summed-alone}

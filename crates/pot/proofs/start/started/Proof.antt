@@ -25,9 +25,10 @@ loop-again : tie.Need-loop-again Inv-loop μ-loop
 loop-again c = (omega arith, fill-next _ _ _ (c .before .before .before .loop .inv .1) (c .first-mark .ensures ∙ ap firstMark (c .before .in-auction .ensures)))
 
 returns : tie.Need-returns Inv-loop μ-loop
-returns c = started-done _ _ (c .before .loop .inv .1) (c .before .loop .inv .0) (c .loop-test .left)
+returns c =
+    started-done _ _ (c .before .before .loop .inv .1) (c .before .before .loop .inv .0) (c .before .loop-test .left) (c .drawn .ensures)
 
 pub started-spec : {M : Type 1} → statement M
 started-spec =
     tie.close (tie.spec Inv-loop μ-loop loop-holds (λ c κs. search needs) (λ c κs. search needs) (λ c. search needs) (λ c. search needs) (λ c. omega arith)
-    (λ c. omega arith) loop-again returns)
+    (λ c. omega arith) loop-again (λ c κs. search needs) returns)

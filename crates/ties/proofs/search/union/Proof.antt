@@ -1,13 +1,15 @@
 -- `ties::search::union` meets its contract.
 use borrow.Author.Needs.{needs}
+use native.Mathlib.Omega.{arith}
 use mathlib.Core.Path.{refl}
 use Rattle.ties.proofs.Parts.{union-is, union-low}
 use Rattle.ties.proofs.search.union.Statement.{statement}
 use Rattle.ties.proofs.search.union.Tie as tie
 
 returns : tie.Need-returns
-returns c = (union-is _ _ refl, union-low (c .before .before .pre .0) _ _)
+returns c = (union-is _ _ refl, union-low (c .before .before .pre .0) _ _ (omega arith) (omega arith))
 
 pub union-spec : {M : Type 1} → statement M
 union-spec =
-    tie.close (tie.spec (λ c. search needs) (λ c. search needs) (λ c. search needs) (λ c. search needs) (λ c. search needs) returns)
+    tie.close (tie.spec (λ c. search needs) (λ c. search needs) (λ c. search needs) (λ c. search needs) (λ c. search needs) (λ c. search needs)
+    (λ c. search needs) returns)

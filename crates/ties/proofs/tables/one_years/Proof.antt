@@ -24,6 +24,9 @@ loop-holds c = search needs
 touched-requires : tie.Need-touched-requires Inv-loop μ-loop
 touched-requires c κs = c .before .before .before .pre
 
+cast-out : tie.Need-cast-out Inv-loop μ-loop
+cast-out c = omega (arith, c .touched .ensures .1)
+
 loop-again : tie.Need-loop-again Inv-loop μ-loop
 loop-again c =
     (omega arith, fill-next _ _ _ (c .before .before .before .loop .inv .1) (one-year-is _ _ _ _ (c .before .power .ensures) (c .touched .ensures .0)))
@@ -33,5 +36,5 @@ returns c = done (fill noList (oneYearAt _ _ _)) (c .before .loop .inv .1) (c .b
 
 pub one-years-spec : {M : Type 1} → statement M
 one-years-spec =
-    tie.close (tie.spec Inv-loop μ-loop loop-holds (λ c. search needs) (λ c κs. search needs) touched-requires (λ c. omega arith) (λ c. search needs)
-    (λ c. omega arith) (λ c. omega arith) loop-again returns)
+    tie.close (tie.spec Inv-loop μ-loop loop-holds (λ c. search needs) (λ c κs. search needs) touched-requires cast-out (λ c. omega arith)
+    (λ c. search needs) (λ c. omega arith) (λ c. omega arith) loop-again returns)
