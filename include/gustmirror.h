@@ -14,7 +14,7 @@ extern "C" {
 
 /* The longest file that is accepted, and the longest result. Of a longer file only its first GUSTMIRROR_LONGEST_FILE + 1 bytes matter: it is
  * refused, and for these bytes the refusal is the same. */
-#define GUSTMIRROR_LONGEST_FILE 7882
+#define GUSTMIRROR_LONGEST_FILE 7898
 #define GUSTMIRROR_LONGEST_RESULT 1486
 
 /* How many bytes the result of a file needs: 6 + P(2 + 4D + 8Y) + 10N + 2B for P pots, D delivery years, Y years, N applications and B bids, or
