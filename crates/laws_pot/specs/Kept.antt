@@ -111,10 +111,10 @@ module _ (P : Pot) (ws r : List ℕ) where
         full = λ c j f. ⊎-elim (λ t. clash t f) (λ t. not-is-true _ t) (or-cases (memb c (combination P r m)) _ (true-all _ r (b .1) c j));
       }
 
-  -- every kept combination is chosen by some drawn number
-  pub each-drawn : (m : ℕ) → In m (kept P ws r) → (d : ℕ) × (number P (some d) ws r ≡ m)
+  -- every kept combination is chosen by some drawn number, and by one below their count, which the four bytes of a file hold
+  pub each-drawn : (m : ℕ) → In m (kept P ws r) → (d : ℕ) × (d < length (kept P ws r)) × (number P (some d) ws r ≡ m)
   unfolding number
-  each-drawn m i = let z = place-of m (kept P ws r) i in (z .0, ap (λ (k : ℕ). atPlace k (kept P ws r)) (mod-eq-of-lt (z .1)) ∙ z .2)
+  each-drawn m i = let z = place-of m (kept P ws r) i in (z .0, z .1, ap (λ (k : ℕ). atPlace k (kept P ws r)) (mod-eq-of-lt (z .1)) ∙ z .2)
 
   -- which is chosen depends on the drawn number by its place alone
   pub by-place : (d e : ℕ) → d % length (kept P ws r) ≡ e % length (kept P ws r) → number P (some d) ws r ≡ number P (some e) ws r
