@@ -2,9 +2,13 @@
 kit=$(dirname "$(dirname "$(rt doc)")")/on/$(uname -m)
 tools=$kit/toolchain
 
-# library: proves and writes target/staticlib/libcapi.a
+# library: proves and writes target/staticlib/libcapi.a, unless it stands there and no source is newer than its mark, which is as old as those it was made of
 library() {
+    mark=target/library.mark
+    if [ -f target/staticlib/libcapi.a ] && [ -f $mark ] && [ -z "$(find crates crates.txt -newer $mark -print | head -n 1)" ]; then return; fi
+    touch $mark.new
     rt staticlib capi >target/library.log 2>&1 || { cat target/library.log; return 1; }
+    mv $mark.new $mark
 }
 
 # compile OBJECT FILE [WORDS...]
@@ -19,8 +23,8 @@ compile() {
 link() {
     program=$1
     shift
-    "$kit/bin/rattle-link" --target x86_64-unknown-linux-gnu --toolchain "$tools" -o "$program" "$@" target/staticlib/libcapi.a 2>target/link.log \
-        || { cat target/link.log; return 1; }
+    "$kit/bin/rattle-link" --target x86_64-unknown-linux-gnu --toolchain "$tools" -o "$program" "$@" target/staticlib/libcapi.a 2>"$program.log" \
+        || { cat "$program.log"; return 1; }
 }
 
 # run PROGRAM [WORDS...]. The emulator is told to be a processor without ERMS: the C library clears memory by `rep stosb` on one that has it, and the

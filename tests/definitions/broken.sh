@@ -1,10 +1,10 @@
 #!/bin/sh
-# broken.sh: each edit of a definition under crates/rules/must-fail that names what it breaks is made in a copy, and the crates of laws must be refused at
-# each law named. The worked cases are set aside there, so that no edit is refused by them. `small-pots.K` is row K of that theorem, where the law
-# comes out false by computation. Works in target/broken.
+# broken.sh [FOLDER]: each edit of a definition under crates/rules/must-fail that names what it breaks is made in a copy, and the crates of laws must be
+# refused at each law named. The worked cases are set aside there, so that no edit is refused by them. `small-pots.K` is row K of that theorem, where the
+# law comes out false by computation. Works in the folder, which it makes anew: target/broken, where none is named.
 set -eu
 root=$(cd "$(dirname "$0")/../.." && pwd)
-d=$root/target/broken
+d=${1:-$root/target/broken}
 edits=$root/crates/rules/must-fail
 
 # copy: the definitions and their laws, without the worked cases
@@ -62,7 +62,7 @@ rooms() {
 }
 
 copy
-(cd "$d" && rt check) >"$root/target/broken.log" 2>&1 || { tail -n 5 "$root/target/broken.log"; echo 'without an edit the laws are not proved'; exit 1; }
+(cd "$d" && rt check) >"$d/log" 2>&1 || { tail -n 5 "$d/log"; echo 'without an edit the laws are not proved'; exit 1; }
 tried=0
 for edit in "$edits"/*.edit; do
     breaks=$(sed -n 's/^breaks: //p' "$edit")
