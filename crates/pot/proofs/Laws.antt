@@ -12,9 +12,10 @@ use Rattle.rules.specs.Names.{mostApps, mostDeliveries, noPrice, widestTie, dow
 use Rattle.arrays.specs.Sets.{fill, built, members, without}
 use Rattle.sheet.specs.declared.Size.{Size}
 use Rattle.sheet.specs.Sheet.{columns, Ready, drawnIn, inAuction, rowApp, rowYear, rowPrice}
-use Rattle.ties.specs.declared.tied.Tied.{Tied}
+use Rattle.combinations.specs.declared.Tied.{Tied}
 use Rattle.ties.specs.declared.Choice.{Choice}
-use Rattle.ties.specs.Ties.{basesOf, keepsOf, tiedOf, choiceOf}
+use Rattle.combinations.specs.Combinations.{basesOf, tiedOf}
+use Rattle.ties.specs.Ties.{keepsOf, choiceOf}
 use Rattle.pot.specs.declared.PotState.{PotState}
 use Rattle.pot.specs.declared.Look.{Look}
 use Rattle.pot.specs.Marks.{liveOf, atOf, winOf, turnOf, winAll, turnAll, turnedOf, hungOf, shutOf, settledOf, widened, soleOf, followsOf, aloneOf}

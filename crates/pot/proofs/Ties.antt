@@ -15,7 +15,8 @@ use Rattle.arrays.proofs.Arrays.{members-built}
 use Rattle.sheet.specs.declared.Size.{Size}
 use Rattle.sheet.specs.Sheet.{numberIn, potIn, Ready, rowYear, rowPrice}
 use Rattle.ties.specs.declared.Choice.{Choice}
-use Rattle.ties.specs.Ties.{basesOf, keepsOf, tiedOf, choiceOf}
+use Rattle.combinations.specs.Combinations.{basesOf, tiedOf}
+use Rattle.ties.specs.Ties.{keepsOf, choiceOf}
 use Rattle.ties.proofs.Link as tie
 use Rattle.pot.specs.declared.PotState.{PotState}
 use Rattle.pot.specs.Marks.{lowestOf, winAll, turnAll, hungOf, widened, takenOf, numberedOf, sharedOf, restOf, choiceIn, tieOf}

@@ -14,7 +14,8 @@ use Rattle.sheet.specs.declared.Size.{Size}
 use Rattle.sheet.specs.Sheet.{columns, drawnIn, rowApp, rowYear, rowPrice, inAuction, Ready}
 use Rattle.totals.specs.Totals.{partOf, filled}
 use Rattle.ties.specs.declared.Choice.{Choice}
-use Rattle.ties.specs.Ties.{basesOf, keepsOf, tiedOf, choiceOf}
+use Rattle.combinations.specs.Combinations.{basesOf, tiedOf}
+use Rattle.ties.specs.Ties.{keepsOf, choiceOf}
 use Rattle.pot.specs.declared.PotState.{PotState}
 use Rattle.pot.specs.declared.Look.{Look}
 

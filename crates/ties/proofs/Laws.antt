@@ -7,73 +7,25 @@ use native.Mathlib.Numerals.{add-one}
 use native.Mathlib.Nat.{le-antisymm, div-zero}
 use native.Mathlib.Omega.{arith}
 use lib.ListN.{length, getD, set}
-use lib.Dec.{eqb, leb, ltb}
-use borrow.Author.Tests.{eqb-true, eqb-false, eq-eqb, ne-eqb, ltb-true, ltb-false, lt-ltb, le-ltb, lt-leb, le-leb}
+use lib.Dec.{eqb, leb}
+use lib.Pow.{pow-mono}
+use borrow.Author.Tests.{eqb-true, eqb-false, eq-eqb, ne-eqb, lt-leb, le-leb}
+use Rattle.rules.specs.Names.{widestTie}
 use Rattle.rules.specs.Lists.{pick, sift, below}
 use Rattle.rules.specs.Pot.{has, best, atPlace}
 use Rattle.laws_pot.specs.Lists.{case, sift-le, length-below}
 use Rattle.laws_pot.specs.Bits.{add-lt}
-use Rattle.rules.specs.Names.{mostDeliveries}
-use Rattle.arrays.specs.Sets.{fill, placed, members}
-use Rattle.arrays.proofs.Arrays.{fill-at, fill-rest, placed-fill, zeros}
-use Rattle.arrays.proofs.Laws.{done}
 use Rattle.sheet.specs.declared.Size.{Size}
-use Rattle.sheet.specs.Sheet.{columns, limitAt, rowYear, rowDraw}
-use Rattle.totals.specs.Totals.{worthOf, totalOf, noRow, filled, fitsTo}
-use Rattle.ties.specs.declared.tied.Tied.{Tied}
+use Rattle.sheet.specs.Sheet.{columns, limitAt, rowYear}
+use Rattle.totals.specs.Totals.{worthOf, fitsTo}
+use Rattle.combinations.specs.declared.Tied.{Tied}
+use Rattle.combinations.specs.Combinations.{combinations, ownsOf, tableBy, jointOf, unionOf}
 use Rattle.ties.specs.declared.search.Best.{Best}
 use Rattle.ties.specs.declared.draw.Listed.{Listed}
 use Rattle.ties.specs.declared.draw.Drawn.{Drawn}
 use Rattle.ties.specs.declared.Choice.{Choice}
-use Rattle.ties.specs.Ties.{partSize, partRows, repricedTo, baseAt, noBase, aloneTotal, aloneFits, keepsOf, compactOf, listed, aboveOf, rankOf}
-use Rattle.ties.specs.Ties.{startOf, ranksOf, startsOf, tiedOf, ownAt, ownsOf, touchOf, touchedOf, bestOf, combinationOf, combinedOf, oneAt, costsOf}
-use Rattle.ties.specs.Ties.{oneYearAt, yearsOf, costsAt, datesAt, tableLength, tableAt, noTable, tableBy, jointOf, unionOf, okBy, lastBy, betterOf}
-use Rattle.ties.specs.Ties.{addableOf, fullTo, keptBy, listedOf, countedOf, topBy, waysBy, drawBy, choiceOf}
-
--- ---- the present winners
-module _ (prices : List ℕ) (p t d : ℕ) {b : Bool} {row : List ℕ} (eb : b ≡ has t d) (er : row ≡ repricedTo prices p t d) where
-  pub repriced-hit : b ≡ true → set row d p ≡ repricedTo prices p t (d + 1)
-  unfolding repricedTo
-  repriced-hit h = rw (add-one d, er, sym eb ∙ h)
-
-  pub repriced-miss : b ≡ false → row ≡ repricedTo prices p t (d + 1)
-  unfolding repricedTo
-  repriced-miss h = rw (add-one d, er, sym eb ∙ h)
-
--- a row of totals at the prices of the set t is that set's row of the table
-row-is : (sheet : List ℕ) (of : Size) (marks prices : List ℕ) (p t c : ℕ) → of .columns ≤ columns → c < columns
-    → getD (filled (λ c. totalOf sheet of marks (repricedTo prices p t 4) c (of .bids)) (of .columns)) c 0 ≡ baseAt sheet of marks prices p (t * columns + c)
-unfolding baseAt noRow
-row-is sheet of marks prices p t c h g =
-    rw (q, w)
-    (case (ltb c (of .columns))
-    (λ u. rw u (fill-at noRow f (of .columns) c 0 h (ltb-true c (of .columns) u)))
-    (λ u. rw u (fill-rest noRow f (of .columns) c 0 (ltb-false c (of .columns) u) ∙ zeros columns c)))
-  where
-    f : ℕ → ℕ
-    f c = totalOf sheet of marks (repricedTo prices p t 4) c (of .bids)
-
-    q : (t * columns + c) / columns ≡ t
-    q = omega arith
-
-    w : (t * columns + c) % columns ≡ c
-    w = omega arith
-
-pub bases-next : (sheet : List ℕ) (of : Size) (marks prices : List ℕ) (p t : ℕ) {trial row base r : List ℕ} → of .columns ≤ columns
-    → trial ≡ repricedTo prices p t mostDeliveries → row ≡ filled (λ c. totalOf sheet of marks trial c (of .bids)) (of .columns)
-    → base ≡ fill noBase (baseAt sheet of marks prices p) (t * columns) → r ≡ placed (λ c. getD row c 0) base (t * columns) columns
-    → r ≡ fill noBase (baseAt sheet of marks prices p) ((t + 1) * columns)
-bases-next sheet of marks prices p t {trial} {row} {base} {r} h et ew eb er =
-    er ∙ ap (λ (l : List ℕ). placed (λ c. getD row c 0) l (t * columns) columns) eb
-    ∙ placed-fill noBase (baseAt sheet of marks prices p) (λ c. getD row c 0) (t * columns) columns
-    (λ c g. ap (λ (l : List ℕ). getD l c 0) ew′ ∙ row-is sheet of marks prices p t c h g)
-    ∙ ap (fill noBase (baseAt sheet of marks prices p)) next
-  where
-    ew′ : row ≡ filled (λ c. totalOf sheet of marks (repricedTo prices p t 4) c (of .bids)) (of .columns)
-    ew′ = ew ∙ ap (λ (u : List ℕ). filled (λ c. totalOf sheet of marks u c (of .bids)) (of .columns)) et
-
-    next : t * columns + columns ≡ (t + 1) * columns
-    next = omega arith
+use Rattle.ties.specs.Ties.{aloneTotal, aloneFits, keepsOf, bestOf, combinationOf, okBy, lastBy, betterOf, addableOf, fullTo, keptBy, listedOf}
+use Rattle.ties.specs.Ties.{countedOf, topBy, waysBy, drawBy, choiceOf}
 
 -- ---- a bid alone
 pub pow-low : (d : ℕ) → d < 4 → 2 ^ d ≤ 8
@@ -102,116 +54,18 @@ pub keeps-is : (sheet : List ℕ) (of : Size) (base : List ℕ) (p : ℕ) (l : L
 unfolding keepsOf
 keeps-is sheet of base p l k e = e
 
--- ---- the list
-module _ (l : List Bool) (i : ℕ) {a : List ℕ} (ea : a ≡ compactOf l i) where
-  pub compact-hit : {c : ℕ} → getD l i false ≡ true → c ≡ length (members l i) → set a c i ≡ compactOf l (i + 1)
-  unfolding compactOf
-  compact-hit h ec = rw (add-one i, ea, ec, h)
+-- ---- the bids of a combination
+module _ (ranks : List ℕ) (mask j : ℕ) {b : Bool} (eb : b ≡ has mask (getD ranks j 0)) (list : List ℕ) {a : List Bool}
+    (ea : a ≡ combinationOf list ranks mask j) where
+  pub combination-hit : b ≡ true → set a (getD list j 0) true ≡ combinationOf list ranks mask (j + 1)
+  unfolding combinationOf
+  combination-hit h = rw (add-one j, sym eb ∙ h, ea)
 
-  pub compact-miss : getD l i false ≡ false → a ≡ compactOf l (i + 1)
-  unfolding compactOf
-  compact-miss h = rw (add-one i, ea, h)
-
-module _ (sheet list : List ℕ) (x j : ℕ) {n d : ℕ} (en : n ≡ aboveOf sheet list x j) (ed : d ≡ rowDraw sheet (getD list j 0)) where
-  pub above-hit : x < d → n + 1 ≡ aboveOf sheet list x (j + 1)
-  unfolding aboveOf listed
-  above-hit h = rw (add-one j, ← ed, lt-ltb x d h, en) (add-one _)
-
-  pub above-miss : d ≤ x → n ≡ aboveOf sheet list x (j + 1)
-  unfolding aboveOf listed
-  above-miss h = rw (add-one j, ← ed, le-ltb x d h, en)
-
-pub rank-is : (sheet list : List ℕ) (k j : ℕ) {x r : ℕ} → x ≡ rowDraw sheet (getD list j 0) → r ≡ aboveOf sheet list x k → r ≡ rankOf sheet list k j
-unfolding rankOf
-rank-is sheet list k j ex er = rw (er, ex)
-
-pub start-is : (sheet list : List ℕ) (j : ℕ) {r : ℕ} → r ≡ rowYear sheet (getD list j 0) → r ≡ startOf sheet list j
-unfolding startOf
-start-is sheet list j er = er
-
-module _ (sheet : List ℕ) (of : Size) (list : List ℕ) (p i : ℕ) where
-  pub own-in : {r : ℕ} → i % columns < of .columns → r ≡ worthOf sheet of (getD list (i / columns) 0) p (i % columns) → r ≡ ownAt sheet of list p i
-  unfolding ownAt
-  own-in h e = rw (e, lt-ltb (i % columns) (of .columns) h)
-
-  pub own-out : of .columns ≤ i % columns → 0 ≡ ownAt sheet of list p i
-  unfolding ownAt
-  own-out h = rw (le-ltb (i % columns) (of .columns) h)
-
--- ---- combinations
-module _ (t d : ℕ) {b : Bool} (eb : b ≡ has t d) where
-  pub touch-old : b ≡ true → t ≡ touchOf t d
-  unfolding touchOf
-  touch-old h = rw (sym eb ∙ h)
-
-  pub touch-new : {w : ℕ} → b ≡ false → w ≡ 2 ^ d → t + w ≡ touchOf t d
-  unfolding touchOf
-  touch-new h ew = rw (sym eb ∙ h, ew)
-
-  pub touch-low : {w : ℕ} → b ≡ false → w ≡ 2 ^ d → t < 16 → d < 4 → t + w < 16
-  touch-low h ew ht hd = rw ew (add-lt t d 4 (sym eb ∙ h) hd ht)
-
-module _ (ranks : List ℕ) (mask j : ℕ) {b : Bool} (eb : b ≡ has mask (getD ranks j 0)) where
-  module _ (starts : List ℕ) {t : ℕ} (et : t ≡ touchedOf ranks starts mask j) where
-    pub touched-hit : {r : ℕ} → b ≡ true → r ≡ touchOf t (getD starts j 0) → r ≡ touchedOf ranks starts mask (j + 1)
-    unfolding touchedOf
-    touched-hit h er = rw (add-one j, sym eb ∙ h, er, et)
-
-    pub touched-miss : b ≡ false → t ≡ touchedOf ranks starts mask (j + 1)
-    unfolding touchedOf
-    touched-miss h = rw (add-one j, sym eb ∙ h, et)
-
-  module _ (own : List ℕ) (c : ℕ) {s : ℕ} (es : s ≡ combinedOf own ranks mask c j) where
-    pub combined-hit : b ≡ true → s + getD own (j * columns + c) 0 ≡ combinedOf own ranks mask c (j + 1)
-    unfolding combinedOf
-    combined-hit h = rw (add-one j, sym eb ∙ h, es)
-
-    pub combined-miss : b ≡ false → s ≡ combinedOf own ranks mask c (j + 1)
-    unfolding combinedOf
-    combined-miss h = rw (add-one j, sym eb ∙ h, es) (omega arith)
-
-  module _ (list : List ℕ) {a : List Bool} (ea : a ≡ combinationOf list ranks mask j) where
-    pub combination-hit : b ≡ true → set a (getD list j 0) true ≡ combinationOf list ranks mask (j + 1)
-    unfolding combinationOf
-    combination-hit h = rw (add-one j, sym eb ∙ h, ea)
-
-    pub combination-miss : b ≡ false → a ≡ combinationOf list ranks mask (j + 1)
-    unfolding combinationOf
-    combination-miss h = rw (add-one j, sym eb ∙ h, ea)
-
--- ---- the tables
-pub one-is : (own ranks : List ℕ) (k i : ℕ) {w r : ℕ} → w ≡ 2 ^ (i / columns) → r ≡ combinedOf own ranks w (i % columns) k → r ≡ oneAt own ranks k i
-unfolding oneAt
-one-is own ranks k i ew er = rw (er, ew)
-
-pub one-year-is : (ranks starts : List ℕ) (k i : ℕ) {w r : ℕ} → w ≡ 2 ^ i → r ≡ touchedOf ranks starts w k → r ≡ oneYearAt ranks starts k i
-unfolding oneYearAt
-one-year-is ranks starts k i ew er = rw (er, ew)
-
-pub base-part : (base costs dates : List ℕ) (i : ℕ) → i < costsAt → getD base i 0 ≡ tableAt base costs dates i
-unfolding tableAt
-base-part base costs dates i h = rw (lt-ltb i costsAt h)
-
-pub costs-part : (base costs dates : List ℕ) (i : ℕ) → costsAt ≤ i → i < datesAt → getD costs (i - costsAt) 0 ≡ tableAt base costs dates i
-unfolding tableAt
-costs-part base costs dates i h g = rw (le-ltb i costsAt h, lt-ltb i datesAt g)
-
-pub dates-part : (base costs dates : List ℕ) (i : ℕ) → costsAt ≤ i → datesAt ≤ i → getD dates (i - datesAt) 0 ≡ tableAt base costs dates i
-unfolding tableAt
-dates-part base costs dates i h g = rw (le-ltb i costsAt h, le-ltb i datesAt g)
-
-pub table-ends : (base own ranks starts : List ℕ) (k : ℕ) {costs dates out : List ℕ} {n : ℕ} → costs ≡ costsOf own ranks k → dates ≡ yearsOf ranks starts k
-    → out ≡ fill noTable (tableAt base costs dates) n → n ≤ tableLength → tableLength ≤ n → out ≡ tableBy base own ranks starts k
-unfolding tableBy
-table-ends base own ranks starts k {costs} {dates} {out} ec ed eo h g = rw (ec, ed) at (done (fill noTable (tableAt base costs dates)) eo h g)
+  pub combination-miss : b ≡ false → a ≡ combinationOf list ranks mask (j + 1)
+  unfolding combinationOf
+  combination-miss h = rw (add-one j, sym eb ∙ h, ea)
 
 -- ---- the search
-pub joint-is : (table : List ℕ) (mask t c : ℕ) {n : ℕ} → n ≡ mask
-    → getD table (t * columns + c) 0 + getD table (costsAt + n % partSize * columns + c) 0 + getD table (costsAt + partRows + n / partSize * columns + c) 0
-    ≡ jointOf table mask t c
-unfolding jointOf
-joint-is table mask t c e = rw e
-
 and-none : (b : Bool) → false ≡ (b && false)
 and-none true = refl
 and-none false = refl
@@ -260,6 +114,33 @@ module _ (ok : ℕ → Bool) (tot : ℕ → ℕ) (n : ℕ) {b : Best} {f : Bool}
   pub best-same : f ≡ false → b ≡ bestOf ok tot (n + 1)
   unfolding best
   best-same h = rw (eb, add-one n, sym ef ∙ h)
+
+-- equal tests and figures below a number, the same best
+pub best-less : (f : ℕ → Bool) (t : ℕ → ℕ) (n : ℕ) → 0 < n → best f t n < n
+unfolding best
+best-less f t zero h = absurd (omega arith)
+best-less f t (suc zero) h = case (f 0 && leb (t 0) (t 0)) (λ e. rw e (omega arith)) (λ e. rw e (omega arith))
+best-less f t (suc (suc n)) h =
+    let r = best-less f t (suc n) (omega arith) in
+    case (f (suc n) && leb (t (best f t (suc n))) (t (suc n))) (λ e. rw e (omega arith)) (λ e. rw e (omega arith))
+
+pub best-alike : (f g : ℕ → Bool) (t u : ℕ → ℕ) (most n : ℕ) → n ≤ most
+    → ((x : ℕ) → x < most → f x ≡ g x) → ((x : ℕ) → x < most → t x ≡ u x) → best f t n ≡ best g u n
+unfolding best
+best-alike f g t u most zero l h k = refl
+best-alike f g t u most (suc n) l h k =
+    rw (h n l, k n l, best-alike f g t u most n (omega arith) h k, k (best g u n) (small n l))
+  where
+    small : (n : ℕ) → n < most → best g u n < most
+    small zero l = unfold best in l
+    small (suc n) l = omega (arith, best-less g u (suc n) (omega arith))
+
+-- numbers of combinations
+pub mask-low : {k e mask : ℕ} → k ≤ widestTie → e ≡ 2 ^ k → mask < e → mask < combinations
+mask-low {k} {e} {mask} h q g = let m : 2 ^ k ≤ 1024 = pow-mono {j = 10} h in omega arith
+
+pub add-low : {mask i p : ℕ} {b : Bool} → mask < combinations → b ≡ has mask i → b ≡ false → i < widestTie → p ≡ 2 ^ i → mask + p < combinations
+add-low {mask} {i} h eb f l ep = rw ep (add-lt mask i widestTie (sym eb ∙ f) l h)
 
 -- a loop over the numbers below 2 ^ k has reached its end
 pub ends : {A : Type 0} (f : ℕ → A) (k : ℕ) {x : A} {n e : ℕ} → x ≡ f n → n ≤ e → e ≤ n → e ≡ 2 ^ k → x ≡ f (2 ^ k)
@@ -362,11 +243,6 @@ module _ (sheet : List ℕ) (of : Size) (table : List ℕ) (tied : Tied) {b : Be
     draw-place place ep el = rw (ed, ap (λ (x : Listed). x .mask) (ways-are place el), ep, many, add-one (d / length (waysBy sheet of table tied)))
 
 -- the parts of a choice
-pub tied-is : (sheet : List ℕ) (of : Size) (l : List Bool) (k : ℕ) {list ranks starts : List ℕ} → list ≡ compactOf l (of .bids) → ranks ≡ ranksOf sheet list k
-    → starts ≡ startsOf sheet list k → _≡_ {A = Tied} (record { count = k; bids = list; ranks = ranks; starts = starts }) (tiedOf sheet of l k)
-unfolding tiedOf
-tied-is sheet of l k el er es = rw (es, er, el)
-
 pub choice-is : (sheet : List ℕ) (of : Size) (base : List ℕ) (tied : Tied) (p drawn : ℕ) {own table : List ℕ} {found : Drawn} {w : List Bool}
     → own ≡ ownsOf sheet of (tied .bids) p (tied .count) → table ≡ tableBy base own (tied .ranks) (tied .starts) (tied .count)
     → found ≡ drawBy sheet of table tied drawn → w ≡ combinationOf (tied .bids) (tied .ranks) (found .mask) (tied .count)

@@ -26,12 +26,13 @@ use Rattle.totals.specs.Totals.{worthOf, totalOf}
 use Rattle.totals.proofs.Link as link
 use Rattle.totals.proofs.Link.{Marked, columnOf, columnTotal}
 use Rattle.ties.specs.declared.Choice.{Choice}
-use Rattle.ties.specs.Ties.{yearSets, combinations, repricedTo, baseAt, noBase, basesOf, aloneTotal, aloneFits, keepsOf, compactOf, listed, aboveOf}
-use Rattle.ties.specs.Ties.{rankOf, ranksOf, startOf, startsOf, tiedOf, ownAt, noOwn, ownsOf, Numbers, touchOf, touchedOf, combinationOf, combinedOf}
-use Rattle.ties.specs.Ties.{tableBy, jointOf, unionOf, okBy, lastBy, addableOf, fullTo, keptBy, topBy, waysBy, drawBy, choiceOf}
-use Rattle.ties.proofs.Laws.{pow-low}
-use Rattle.ties.proofs.Parts.{touch-low, joint-total, best-less, best-alike}
-use Rattle.ties.proofs.Lists.{in-listed, listed-is, numbers, rank-at, start-at}
+use Rattle.combinations.specs.Combinations.{yearSets, combinations, repricedTo, baseAt, noBase, basesOf, compactOf, listed, aboveOf, rankOf, ranksOf}
+use Rattle.combinations.specs.Combinations.{startOf, startsOf, tiedOf, ownAt, noOwn, ownsOf, Numbers, touchOf, touchedOf, combinedOf, tableBy, jointOf}
+use Rattle.combinations.specs.Combinations.{unionOf}
+use Rattle.ties.specs.Ties.{aloneTotal, aloneFits, keepsOf, combinationOf, okBy, lastBy, addableOf, fullTo, keptBy, topBy, waysBy, drawBy, choiceOf}
+use Rattle.combinations.proofs.Parts.{touch-low, joint-total}
+use Rattle.combinations.proofs.Lists.{in-listed, listed-is, numbers, rank-at, start-at}
+use Rattle.ties.proofs.Laws.{pow-low, best-less, best-alike}
 use Rattle.ties.proofs.Sums.{sum-same, memb-sift, price-won, price-one, tally-split, tally-sum, Part, part-sift, part-in}
 
 -- ---- a row of prices, some of them anew

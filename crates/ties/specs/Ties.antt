@@ -1,72 +1,21 @@
 -- What the functions of `ties` compute from a sheet and rows of numbers, and what they need. No rule of document 01 is stated here. Assumes nothing.
-use Prim.Native.Nat.{ℕ, zero, suc, _+_, _-_, _*_, _/_, _%_, _^_, _≤_, _<_}
-use mathlib.Core.Path.{_≡_}
+use Prim.Native.Nat.{ℕ, zero, suc, _+_, _-_, _*_, _/_, _%_, _^_, _<_}
 use mathlib.Core.Bool.{Bool, true, false, not, _&&_}
-use mathlib.Core.List.{List, [], _∷_}
-use lib.Bits.{bitOr}
-use lib.ListN.{length, getD, set, replicate}
-use lib.Dec.{eqb, leb, ltb}
-use Rattle.rules.specs.Names.{mostBids, mostDeliveries, widestTie}
-use Rattle.rules.specs.Value.{dearest}
+use mathlib.Core.List.{List}
+use lib.ListN.{length, getD, set}
+use lib.Dec.{eqb, leb}
 use Rattle.rules.specs.Lists.{pick, sift, below}
 use Rattle.rules.specs.Pot.{has, best, atPlace}
-use Rattle.arrays.specs.Sets.{fill, none, members}
+use Rattle.arrays.specs.Sets.{none}
 use Rattle.sheet.specs.declared.Size.{Size}
-use Rattle.sheet.specs.Sheet.{columns, rowYear, rowDraw, Ready}
-use Rattle.totals.specs.Totals.{worthOf, totalOf, fitsTo}
-use Rattle.ties.specs.declared.tied.Tied.{Tied}
+use Rattle.sheet.specs.Sheet.{columns, rowYear, Ready}
+use Rattle.totals.specs.Totals.{worthOf, fitsTo}
+use Rattle.combinations.specs.declared.Tied.{Tied}
+use Rattle.combinations.specs.Combinations.{Bounded, mostBase, Placed, ownsOf, tableBy, jointOf, unionOf, Tabled}
 use Rattle.ties.specs.declared.search.Best.{Best}
 use Rattle.ties.specs.declared.draw.Listed.{Listed}
 use Rattle.ties.specs.declared.draw.Drawn.{Drawn}
 use Rattle.ties.specs.declared.Choice.{Choice}
-
--- ---- numbers as sets, by their binary places
-
--- the sets of delivery years; the combinations of as many bids as a tie may have; the places of one part of a combination's number, the numbers of a
--- part, and these with a row of columns for each
-abbrev pub yearSets : ℕ
-yearSets = 16
-
-abbrev pub combinations : ℕ
-combinations = 1024
-
-abbrev pub parts : ℕ
-parts = 2
-
-abbrev pub partPlaces : ℕ
-partPlaces = 5
-
-abbrev pub partSize : ℕ
-partSize = 32
-
-abbrev pub partRows : ℕ
-partRows = partSize * columns
-
--- no number of a list is above so much
-pub record Bounded (l : List ℕ) (most : ℕ) : Type 0 where
-  pub small : (i : ℕ) → getD l i 0 ≤ most
-
--- ---- the present winners, for each set t of delivery years, a number with one binary place for each
-
--- the clearing prices of a trial: one price in the years below n of the set
-unfoldable pub repricedTo : (prices : List ℕ) (price t : ℕ) → ℕ → List ℕ
-repricedTo prices price t zero = prices
-repricedTo prices price t (suc d) = pick (has t d) (set (repricedTo prices price t d) d price) (repricedTo prices price t d)
-
--- what the winners count: a row of columns to a set
-unfoldable pub baseAt : (sheet : List ℕ) (of : Size) (marks prices : List ℕ) (price i : ℕ) → ℕ
-baseAt sheet of marks prices price i =
-    pick (ltb (i % columns) (of .columns)) (totalOf sheet of marks (repricedTo prices price (i / columns) mostDeliveries) (i % columns) (of .bids)) 0
-
-unfoldable pub noBase : List ℕ
-noBase = replicate (yearSets * columns) 0
-
-abbrev pub basesOf : (sheet : List ℕ) (of : Size) (marks prices : List ℕ) (price : ℕ) → List ℕ
-basesOf sheet of marks prices price = fill noBase (baseAt sheet of marks prices price) (yearSets * columns)
-
--- no winner is dearer than the dearest
-abbrev pub mostBase : ℕ
-mostBase = dearest * mostBids
 
 -- ---- a bid alone
 
@@ -90,84 +39,16 @@ pub record Trying (sheet : List ℕ) (of : Size) (base : List ℕ) (k : ℕ) : T
   pub bid : k < of .bids
   pub winners : Bounded base mostBase
 
--- ---- the bids that remain, as a list of numbers
+-- ---- a combination, by the table: whether it fits, and its total in the last year
+unfoldable pub okBy : (sheet : List ℕ) (of : Size) (table : List ℕ) (mask : ℕ) → Bool
+okBy sheet of table mask = fitsTo (jointOf table mask (unionOf table mask)) sheet (of .columns)
 
--- the first n of an array, the last first
-unfoldable pub listed : List ℕ → ℕ → List ℕ
-listed a zero = []
-listed a (suc n) = getD a n 0 ∷ listed a n
+unfoldable pub lastBy : (of : Size) (table : List ℕ) (mask : ℕ) → ℕ
+lastBy of table mask = jointOf table mask (unionOf table mask) (of .years - 1)
 
-unfoldable pub noList : List ℕ
-noList = replicate widestTie 0
-
--- the members of a set below n, written one after the other
-unfoldable pub compactOf : List Bool → ℕ → List ℕ
-compactOf l zero = noList
-compactOf l (suc k) = pick (getD l k false) (set (compactOf l k) (length (members l k)) k) (compactOf l k)
-
--- how many of the first have a draw above x; the binary place, the start year of the bid at place j
-unfoldable pub aboveOf : (sheet list : List ℕ) (x count : ℕ) → ℕ
-aboveOf sheet list x count = length (sift (λ k. ltb x (rowDraw sheet k)) (listed list count))
-
-unfoldable pub rankOf : (sheet list : List ℕ) (count j : ℕ) → ℕ
-rankOf sheet list count j = aboveOf sheet list (rowDraw sheet (getD list j 0)) count
-
-unfoldable pub startOf : (sheet list : List ℕ) (j : ℕ) → ℕ
-startOf sheet list j = rowYear sheet (getD list j 0)
-
-abbrev pub ranksOf : (sheet list : List ℕ) (count : ℕ) → List ℕ
-ranksOf sheet list count = fill noList (rankOf sheet list count) count
-
-abbrev pub startsOf : (sheet list : List ℕ) (count : ℕ) → List ℕ
-startsOf sheet list count = fill noList (startOf sheet list) count
-
-unfoldable pub tiedOf : (sheet : List ℕ) (of : Size) (l : List Bool) (count : ℕ) → Tied
-tiedOf sheet of l count = record {
-  count = count;
-  bids = compactOf l (of .bids);
-  ranks = ranksOf sheet (compactOf l (of .bids)) count;
-  starts = startsOf sheet (compactOf l (of .bids)) count;
-}
-
--- a set of few bids; few numbers of bids, below m; and their binary places and start years
-pub record Few (of : Size) (l : List Bool) (count : ℕ) : Type 0 where
-  pub counted : count ≡ length (members l (of .bids))
-  pub few : count ≤ widestTie
-
-pub record Numbers (list : List ℕ) (count m : ℕ) : Type 0 where
-  pub few : count ≤ widestTie
-  pub small : (j : ℕ) → j < count → getD list j 0 < m
-
-pub record Placed (tied : Tied) : Type 0 where
-  pub few : tied .count ≤ widestTie
-  pub ranks : (j : ℕ) → j < tied .count → getD (tied .ranks) j 0 < widestTie
-  pub starts : (j : ℕ) → j < tied .count → getD (tied .starts) j 0 < mostDeliveries
-
--- what is gathered of a set of few bids
-pub record Gathered (of : Size) (tied : Tied) : Type 0 where
-  pub numbers : Numbers (tied .bids) (tied .count) (of .bids)
-  pub placed : Placed tied
-
--- what the bids count at a price: a row of columns to a bid
-unfoldable pub ownAt : (sheet : List ℕ) (of : Size) (list : List ℕ) (price i : ℕ) → ℕ
-ownAt sheet of list price i = pick (ltb (i % columns) (of .columns)) (worthOf sheet of (getD list (i / columns) 0) price (i % columns)) 0
-
-unfoldable pub noOwn : List ℕ
-noOwn = replicate (widestTie * columns) 0
-
-abbrev pub ownsOf : (sheet : List ℕ) (of : Size) (list : List ℕ) (price count : ℕ) → List ℕ
-ownsOf sheet of list price count = fill noOwn (ownAt sheet of list price) (count * columns)
-
--- ---- combinations: the j-th bid is in the combination number `mask` where that has its binary place
-
--- a set of years with one more; the years in which the bids start that are in the combination
-unfoldable pub touchOf : (t d : ℕ) → ℕ
-touchOf t d = pick (has t d) t (t + 2 ^ d)
-
-unfoldable pub touchedOf : (ranks starts : List ℕ) (mask count : ℕ) → ℕ
-touchedOf ranks starts mask zero = 0
-touchedOf ranks starts mask (suc j) =
-    pick (has mask (getD ranks j 0)) (touchOf (touchedOf ranks starts mask j) (getD starts j 0)) (touchedOf ranks starts mask j)
+-- the better of the best so far and a combination that fits
+unfoldable pub betterOf : Best → (mask total : ℕ) → Best
+betterOf b mask total = pick (leb (b .total) total) (record { mask = mask; total = total }) b
 
 -- the best combination so far, with its figure
 abbrev pub bestOf : (ℕ → Bool) → (ℕ → ℕ) → ℕ → Best
@@ -179,98 +60,7 @@ combinationOf list ranks mask zero = none
 combinationOf list ranks mask (suc j) =
     pick (has mask (getD ranks j 0)) (set (combinationOf list ranks mask j) (getD list j 0) true) (combinationOf list ranks mask j)
 
--- what the bids of a tie count, and where these stand
-pub record Owned (own : List ℕ) (tied : Tied) : Type 0 where
-  pub bids : Bounded own dearest
-  pub placed : Placed tied
-
--- ---- the same by the two parts of its number: v + 32 * u is that of its five low places and that of its five high ones
-
--- what the bids of a combination count in column c
-unfoldable pub combinedOf : (own ranks : List ℕ) (mask c count : ℕ) → ℕ
-combinedOf own ranks mask c zero = 0
-combinedOf own ranks mask c (suc j) = combinedOf own ranks mask c j + pick (has mask (getD ranks j 0)) (getD own (j * columns + c) 0) 0
-
--- of the combination of one place alone, and of each combination of the places of one part: a row of columns to each
-unfoldable pub oneAt : (own ranks : List ℕ) (count i : ℕ) → ℕ
-oneAt own ranks count i = combinedOf own ranks (2 ^ (i / columns)) (i % columns) count
-
-abbrev pub onesOf : (own ranks : List ℕ) (count : ℕ) → List ℕ
-onesOf own ranks count = fill noOwn (oneAt own ranks count) (widestTie * columns)
-
-unfoldable pub costAt : (own ranks : List ℕ) (count i : ℕ) → ℕ
-costAt own ranks count i = combinedOf own ranks (i / columns % partSize * 2 ^ (i / partRows * partPlaces)) (i % columns) count
-
-unfoldable pub noCosts : List ℕ
-noCosts = replicate (parts * partRows) 0
-
-abbrev pub costsOf : (own ranks : List ℕ) (count : ℕ) → List ℕ
-costsOf own ranks count = fill noCosts (costAt own ranks count) (parts * partRows)
-
--- and the years that they touch
-unfoldable pub oneYearAt : (ranks starts : List ℕ) (count i : ℕ) → ℕ
-oneYearAt ranks starts count i = touchedOf ranks starts (2 ^ i) count
-
-abbrev pub oneYearsOf : (ranks starts : List ℕ) (count : ℕ) → List ℕ
-oneYearsOf ranks starts count = fill noList (oneYearAt ranks starts count) widestTie
-
-unfoldable pub yearAt : (ranks starts : List ℕ) (count i : ℕ) → ℕ
-yearAt ranks starts count i = touchedOf ranks starts (i % partSize * 2 ^ (i / partSize * partPlaces)) count
-
-unfoldable pub noYears : List ℕ
-noYears = replicate (parts * partSize) 0
-
-abbrev pub yearsOf : (ranks starts : List ℕ) (count : ℕ) → List ℕ
-yearsOf ranks starts count = fill noYears (yearAt ranks starts count) (parts * partSize)
-
--- ---- by one table: what the winners count for each set of delivery years, and then of each number of each part what its bids count and which years they touch
-abbrev pub costsAt : ℕ
-costsAt = yearSets * columns
-
-abbrev pub datesAt : ℕ
-datesAt = costsAt + parts * partRows
-
-abbrev pub tableLength : ℕ
-tableLength = datesAt + parts * partSize
-
-unfoldable pub tableAt : (base costs dates : List ℕ) (i : ℕ) → ℕ
-tableAt base costs dates i = pick (ltb i costsAt) (getD base i 0) (pick (ltb i datesAt) (getD costs (i - costsAt) 0) (getD dates (i - datesAt) 0))
-
-unfoldable pub noTable : List ℕ
-noTable = replicate tableLength 0
-
-unfoldable pub tableBy : (base own ranks starts : List ℕ) (count : ℕ) → List ℕ
-tableBy base own ranks starts count = fill noTable (tableAt base (costsOf own ranks count) (yearsOf ranks starts count)) tableLength
-
--- the total of a combination, the years that it touches, whether it fits, and its total in the last year
-unfoldable pub jointOf : (table : List ℕ) (mask t c : ℕ) → ℕ
-jointOf table mask t c =
-    getD table (t * columns + c) 0 + getD table (costsAt + mask % partSize * columns + c) 0 + getD table (costsAt + partRows + mask / partSize * columns + c) 0
-
-unfoldable pub unionOf : (table : List ℕ) (mask : ℕ) → ℕ
-unionOf table mask = bitOr (getD table (datesAt + mask % partSize) 0) (getD table (datesAt + partSize + mask / partSize) 0)
-
-unfoldable pub okBy : (sheet : List ℕ) (of : Size) (table : List ℕ) (mask : ℕ) → Bool
-okBy sheet of table mask = fitsTo (jointOf table mask (unionOf table mask)) sheet (of .columns)
-
-unfoldable pub lastBy : (of : Size) (table : List ℕ) (mask : ℕ) → ℕ
-lastBy of table mask = jointOf table mask (unionOf table mask) (of .years - 1)
-
--- the better of the best so far and a combination that fits
-unfoldable pub betterOf : Best → (mask total : ℕ) → Best
-betterOf b mask total = pick (leb (b .total) total) (record { mask = mask; total = total }) b
-
--- what the table holds: no number above the dearest winners, and there are four delivery years
-pub record Tabled (table : List ℕ) : Type 0 where
-  pub small : Bounded table mostBase
-  pub years : (i : ℕ) → datesAt ≤ i → getD table i 0 < yearSets
-
--- what is read of the combination `mask`, which touches the years t; of any; and of those of the gathered bids
-pub record Joining (table : List ℕ) (mask t : ℕ) : Type 0 where
-  pub tables : Tabled table
-  pub number : mask < combinations
-  pub years : t < yearSets
-
+-- what is read of any combination; and of those of the gathered bids
 pub record Searching (sheet : List ℕ) (of : Size) (table : List ℕ) : Type 0 where
   pub ready : Ready sheet of
   pub tables : Tabled table

@@ -2,14 +2,15 @@
 ghost use mathlib.Core.Path.{_≡_};
 ghost use Prim.Native.Nat.{_^_, _<_};
 ghost use Rattle.rules.specs.Names.{widestTie};
-ghost use Rattle.ties.specs.Ties.{combinations, Searching, Drawing, okBy, addableOf, fullTo, keptBy, countedOf, listedOf, drawBy};
-use super::places::member;
-use super::places::power;
+ghost use Rattle.combinations.specs.Combinations.{combinations};
+ghost use Rattle.ties.specs.Ties.{Searching, Drawing, okBy, addableOf, fullTo, keptBy, countedOf, listedOf, drawBy};
 use super::search::fitting;
 use super::search::last;
 use super::search::search;
-use super::tables::Table;
-use super::tied::Tied;
+use combinations::Tied;
+use combinations::places::member;
+use combinations::places::power;
+use combinations::tables::Table;
 use sheet::Sheet;
 use sheet::Size;
 

@@ -1,24 +1,21 @@
-// Ties: several bids at one price that do not fit together. A trial of some of them changes the clearing price of the years in which these start, and of
-// no other; so the totals of the present winners are taken once for each set of delivery years, and a combination adds what its own bids cost,
-// which a table has for each part of its number. By a drawn number one of the best combinations is taken. specs/Ties.antt says what each function computes.
+// Ties: several bids at one price that do not fit together. Those that do not fit alone are dropped; of those that remain the best combination is taken, or by
+// a drawn number one of the best. specs/Ties.antt says what each function computes.
 ghost use mathlib.Core.Path.{_≡_};
 ghost use Rattle.rules.specs.Names.{mostBids};
-ghost use Rattle.ties.specs.Ties.{Based, Gathered, Numbers, Placed, combinationOf, choiceOf};
+ghost use Rattle.combinations.specs.Combinations.{Gathered, Numbers, Placed};
+ghost use Rattle.ties.specs.Ties.{Based, combinationOf, choiceOf};
 
 pub mod alone;
 mod draw;
-mod places;
 mod search;
-mod tables;
-pub mod tied;
-pub mod winners;
 
+use combinations::Tied;
+use combinations::places::member;
+use combinations::tables;
+use combinations::winners::Base;
 use names::BIDS;
-use places::member;
 use sheet::Sheet;
 use sheet::Size;
-use tied::Tied;
-use winners::Base;
 
 // The chosen bids, as a set; and one more than the number that the pot's next tie is drawn by, 0 where there is none.
 pub struct Choice {

@@ -2,15 +2,12 @@
 ghost use mathlib.Core.Path.{_≡_};
 ghost use Prim.Native.Nat.{_^_, _≤_, _<_};
 ghost use Rattle.rules.specs.Names.{mostYears, widestTie};
-ghost use Rattle.sheet.specs.Sheet.{columns};
-ghost use Rattle.ties.specs.Ties.{yearSets, combinations, Tabled, Joining, Searching, jointOf, unionOf, okBy, lastBy, betterOf, bestOf};
-use super::places::PART;
-use super::places::power;
-use super::tables::COSTS_AT;
-use super::tables::DATES_AT;
-use super::tables::ROWS;
-use super::tables::Table;
-use sheet::COLUMNS;
+ghost use Rattle.combinations.specs.Combinations.{combinations, Tabled};
+ghost use Rattle.ties.specs.Ties.{Searching, okBy, lastBy, betterOf, bestOf};
+use combinations::places::power;
+use combinations::tables::Table;
+use combinations::tables::joint;
+use combinations::tables::union;
 use sheet::Sheet;
 use sheet::Size;
 
@@ -18,26 +15,6 @@ use sheet::Size;
 pub struct Best {
     pub mask: u32,
     pub total: u64,
-}
-
-// The delivery years that a combination touches.
-fn union(table: &Table, mask: u32) -> usize
-    requires { ⌜ Tabled (now table) × (mask < combinations) ⌝ }
-    ensures { λ r. ⌜ (r ≡ unionOf (now (table .entry)) mask) × (r < yearSets) ⌝ }
-{
-    let n = mask as usize;
-    (table[DATES_AT + n % PART] | table[DATES_AT + PART + n / PART]) as usize
-}
-
-// The total in column c where a combination, which touches the years t, is added to the winners.
-fn joint(table: &Table, mask: u32, t: usize, c: usize) -> u64
-    requires { ⌜ Joining (now table) mask t × (c < columns) ⌝ }
-    ensures { λ r. ⌜ r ≡ jointOf (now (table .entry)) mask t c ⌝ }
-{
-    let n = mask as usize;
-    let low = table[COSTS_AT + n % PART * COLUMNS + c];
-    let high = table[COSTS_AT + ROWS + n / PART * COLUMNS + c];
-    table[t * COLUMNS + c] + low + high
 }
 
 // Does a combination fit?

@@ -1,8 +1,8 @@
 -- `ties::choose` meets its contract.
 use Rattle.rules.specs.Names.{mostBids}
 use Rattle.ties.proofs.Laws.{choice-is}
-use Rattle.ties.proofs.Lists.{numbers-more, gathered-owned}
-use Rattle.ties.proofs.Parts.{tabled}
+use Rattle.combinations.proofs.Lists.{numbers-more, gathered-owned}
+use Rattle.combinations.proofs.Parts.{tabled}
 use Rattle.ties.proofs.choose.Statement.{statement}
 use Rattle.ties.proofs.choose.Tie as tie
 

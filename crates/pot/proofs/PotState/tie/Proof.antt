@@ -1,6 +1,6 @@
 -- `pot::PotState::tie` meets its contract.
 use borrow.Author.Needs.{needs}
-use Rattle.ties.proofs.Lists.{base-ok, tied-gathered}
+use Rattle.combinations.proofs.Lists.{base-ok, tied-gathered}
 use Rattle.sheet.proofs.Columns.{columns-few}
 use Rattle.pot.proofs.Laws.{tie-wide, tie-shared}
 use Rattle.pot.proofs.Sums.{shared-size}

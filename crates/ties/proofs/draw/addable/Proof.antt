@@ -1,7 +1,7 @@
 -- `ties::draw::addable` meets its contract.
 use native.Mathlib.Omega.{arith}
 use Rattle.ties.proofs.Laws.{addable-in, addable-out}
-use Rattle.ties.proofs.Parts.{add-low}
+use Rattle.ties.proofs.Laws.{add-low}
 use Rattle.ties.proofs.draw.addable.Statement.{statement}
 use Rattle.ties.proofs.draw.addable.Tie as tie
 

@@ -5,7 +5,7 @@ use mathlib.Core.Path.{_≡_, _∙_}
 use mathlib.Core.Logic.{⊎-elim}
 use Rattle.ties.specs.Ties.{keptBy, listedOf}
 use Rattle.ties.proofs.Laws.{ends, listed-none, listed-few, listed-more, listed-same}
-use Rattle.ties.proofs.Parts.{mask-low}
+use Rattle.ties.proofs.Laws.{mask-low}
 use Rattle.ties.proofs.draw.listing.Statement.{statement}
 use Rattle.ties.proofs.draw.listing.Tie as tie
 

@@ -8,7 +8,7 @@ use Rattle.arrays.proofs.Laws.{done}
 use Rattle.sheet.proofs.Columns.{columns-few}
 use Rattle.totals.specs.Totals.{fitsTo}
 use Rattle.totals.proofs.Laws.{fits-more}
-use Rattle.ties.specs.Ties.{jointOf}
+use Rattle.combinations.specs.Combinations.{jointOf}
 use Rattle.ties.proofs.Laws.{fits-stops, ok-is}
 use Rattle.ties.proofs.search.fitting.Statement.{statement}
 use Rattle.ties.proofs.search.fitting.Tie as tie

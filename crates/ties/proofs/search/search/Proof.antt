@@ -6,7 +6,7 @@ use mathlib.Core.Path.{_≡_, _∙_}
 use mathlib.Core.Logic.{⊎-elim}
 use Rattle.ties.specs.Ties.{okBy, lastBy, bestOf}
 use Rattle.ties.proofs.Laws.{best-none, best-more, best-same, ends}
-use Rattle.ties.proofs.Parts.{mask-low}
+use Rattle.ties.proofs.Laws.{mask-low}
 use Rattle.ties.proofs.search.search.Statement.{statement}
 use Rattle.ties.proofs.search.search.Tie as tie
 
