@@ -69,6 +69,11 @@ refuses() { # LINE WHOSE: every command on the file that was made
     done
 }
 
+says() { # WORDS: which part of the rule the last refusal names
+    grep -q -F -- "$1" "$room/err"
+    check "a refusal that says: $1" $?
+}
+
 # ---- the examples
 
 # On first use the programs are proved and built, which is said on standard error.
@@ -169,9 +174,15 @@ check 'clear, called from another folder' $?
     refuses 'refused 1 at 16' 'pot 0'
     round $years 5
     refuses 'refused 2 at 14' 'the count of pots'
-    for pots_added in 16384 16385 16388 32768 32773 49152 49157; do
+    for pots_added in 16384 16389 32768 32773 49152 49157; do
         round $years $pots_added 8:100000 8:100000 4:100 $technologies $applications 0
         refuses 'refused 2 at 14' 'the count of pots'
+        says ': count outside its range'
+    done
+    for pots_added in 16385 16388; do
+        round $years $pots_added 8:100000 8:100000 4:100 $technologies $applications 0
+        refuses 'refused 2 at 14' 'the count of pots'
+        says ': 16,384 added without 32,768'
     done
     round $years 32769 8:100000 8:100000 100
     refuses 'refused 1 at 16' 'pot 0'
@@ -187,10 +198,13 @@ check 'clear, called from another folder' $?
     refuses 'refused 3 at 8' 'year 1'
     round $years 1 8:0 8:1000000000001 $technologies $applications 0
     refuses 'refused 4 at 16' 'pot 0'
+    says ': a budget above '
     round $years 32769 8:0 8:0 4:20000001 $technologies $applications 0
     refuses 'refused 4 at 16' 'pot 0'
+    says ': a cap above '
     round $years 49153 8:0 8:0 4:20000001 4:0 $technologies $applications 0
     refuses 'refused 4 at 16' 'pot 0'
+    says ': a cap above '
     round $years $pots 2 0 10000 4:20000 4:0 10000 4:0 4:0 10000 1 10000 4:20000 4:0 10000 4:0 4:0 10000
     refuses 'refused 5 at 58' 'technology 1'
     round $years $pots $technologies 2 0 0 365 0 4:100 8:0 0 0 365 0 4:100 8:0 0
