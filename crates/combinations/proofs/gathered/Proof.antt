@@ -1,4 +1,4 @@
--- `ties::tied::gathered` meets its contract.
+-- `combinations::gathered` meets its contract.
 use native.Mathlib.Omega.{arith}
 use Rattle.combinations.proofs.Laws.{tied-is}
 use Rattle.combinations.proofs.Lists.{numbers}

@@ -1,4 +1,4 @@
--- `ties::places::power` meets its contract.
+-- `combinations::places::power` meets its contract.
 use borrow.Author.Needs.{needs}
 use native.Mathlib.Nat.{one-mul, mod-eq-of-lt}
 use lib.Pow.{pow-lt}

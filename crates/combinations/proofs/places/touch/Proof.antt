@@ -1,4 +1,4 @@
--- `ties::places::touch` meets its contract.
+-- `combinations::places::touch` meets its contract.
 use borrow.Author.Needs.{needs}
 use native.Mathlib.Omega.{arith}
 use Rattle.combinations.proofs.Laws.{touch-old, touch-new, touch-low}

@@ -1,4 +1,4 @@
--- `ties::search::joint` meets its contract.
+-- `combinations::tables::joint` meets its contract.
 use borrow.Author.Needs.{needs}
 use native.Mathlib.Omega.{arith}
 use Prim.Native.Nat.{_+_, _*_, _/_, _%_}

@@ -1,4 +1,4 @@
--- `ties::tables::own_at` meets its contract.
+-- `combinations::tables::own_at` meets its contract.
 use borrow.Author.Needs.{needs}
 use Rattle.combinations.proofs.Laws.{own-in, own-out}
 use Rattle.combinations.proofs.tables.own_at.Statement.{statement}

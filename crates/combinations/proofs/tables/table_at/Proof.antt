@@ -1,4 +1,4 @@
--- `ties::tables::table_at` meets its contract.
+-- `combinations::tables::table_at` meets its contract.
 use borrow.Author.Needs.{needs}
 use Rattle.combinations.proofs.Laws.{base-part, costs-part, dates-part}
 use Rattle.combinations.proofs.tables.table_at.Statement.{statement}

@@ -1,4 +1,4 @@
--- `ties::search::union` meets its contract.
+-- `combinations::tables::union` meets its contract.
 use borrow.Author.Needs.{needs}
 use native.Mathlib.Omega.{arith}
 use mathlib.Core.Path.{refl}
