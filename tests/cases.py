@@ -1,5 +1,5 @@
-"""cases.py: writes what the test programs are run on, and what they must print, as tests/reading.py reads document 01 with CR 5, 6, 8 and 11 of
-02.
+"""cases.py: writes what the test programs are run on, and what they must print, as tests/reading.py reads document 01 with CR 5, 6, 7, 8 and 11
+of 02.
 
 crates/readings: files of every fault at every kind of place, each with its reading: the counts, or the refusal's number and offset.
 crates/listings: the worked cases, pots that reach what chance seldom does, made rounds and damaged ones, each with its listing.
@@ -34,6 +34,8 @@ CAPPED_WIDTHS = WIDTHS[:1] + [[8, 8, 8, 4]] + WIDTHS[2:]
 # and with drawn numbers: one that counts, and the greatest
 DRAWN = [(250, 7), (making.NO_CAP, making.MOST_DRAWN)]
 DRAWN_WIDTHS = WIDTHS[:1] + [[8, 8, 8, 4, 4]] + WIDTHS[2:]
+# ties of so many at most are listed a second time
+FEW = 10
 CAP_EDGES = [0, 1, 249, 251, making.MOST_CAP - 1, making.MOST_CAP, making.MOST_CAP + 1, 2 ** 31, making.NO_CAP - 1, making.NO_CAP]
 
 
@@ -223,14 +225,14 @@ def files():
 
 
 def pots():
-    """Pots that reach what chance seldom does, beyond making.directed: ties over delivery years with valuation years behind them, chains
+    """Pots that reach what chance seldom does, beyond making.directed: ties over delivery years with valuation years behind them, wide ties, chains
     that another application breaks, silent applications alone, beside a bid and beside ties, winners at no cost, budgets of 0 and of
     exactly the total, totals within a pound of the budget, and the greatest total."""
     def years(d, y, budgets, applications, bids, reference=0):
         figures = [(20000 if k < d else 0, reference, 10000) for k in range(y)]
         rows = [(0, start, 365, draw, capacity, 0) for start, draw, capacity in applications]
         return making.round_file([(365, int(k < d), 0) for k in range(y)], [budgets], [(0, 10000, figures)], rows, bids)
-    for n in range(2, 12):
+    for n in (2, 3, 4, 5, 6, 7, 8, 9, 10, 11, 13, 21):
         for d in (2, 4):
             apps = [(a % d, n - a, 100 + 10 * (a % 3)) for a in range(n)]
             bids = [(a, a % d, 365, 100, 4000) for a in range(n)]
@@ -248,8 +250,13 @@ def pots():
         for budget in (0, 175199, 175200, 350400, 10 ** 6):
             yield years(1, 1, (budget,), [(0, a, 100) for a in range(n)], [])
             yield years(1, 1, (budget,), [(0, a, 100) for a in range(n)], [(0, 0, 365, 100, 20000)])
-    # more that are silent, beside the widest tie that is broken and beside one too wide
-    for n in (10, 11):
+    # eleven and twenty at one price; twenty-one, and twenty-one of which one is dropped, or ten; and ties of 11 to 13
+    yield from (making.at_one_price(n, fit) for n, fit in ((11, 5), (20, 10), (21, 10)))
+    yield from (making.at_one_price(n, fit, None, dropped) for n, fit, dropped in ((20, 10, 1), (11, 5, 10), (20, 0, 1), (21, 10, 3)))
+    for n in (11, 12, 13):
+        yield from (making.pay_for_two(n), making.all_different(n), making.beside_the_silent(n))
+    # more that are silent, beside a tie that is broken and beside one too wide
+    for n in (10, 11, 21):
         for more in (1, 2, 5):
             yield years(1, 2, (35040 * 2, 35040 * 2), [(0, n + more - a, 100) for a in range(n + more)], [(a, 0, 365, 100, 4000) for a in range(n)])
     for price in (0, 10, 4990, 5000, 5010):
@@ -276,25 +283,27 @@ def pots():
 
 
 def pots_with_caps():
-    """Pots that reach with a cap what chance seldom does, beyond making.caps: ties over delivery years, of up to ten that remain and more, chains
+    """Pots that reach with a cap what chance seldom does, beyond making.caps: ties over delivery years, of up to 13 that remain and of 21, chains
     that another application breaks, every cap for a few small bids, with money for all and not, and the greatest capacity."""
     def years(d, y, budget, cap, applications, bids):
         figures = [(20000 if k < d else 0, 0, 10000) for k in range(y)]
         rows = [(0, start, 365, draw, capacity, 0) for start, draw, capacity in applications]
         return making.round_file([(365, int(k < d), 0) for k in range(y)], [(budget,) * y], [(0, 10000, figures)], rows, bids, [cap])
     plenty = 10 ** 7
-    for n in range(2, 13):
+    for n in (2, 3, 4, 5, 6, 7, 8, 9, 10, 11, 12, 21):
         for d in (1, 3):
             apps = [(a % d, n - a, 100 + 10 * (a % 3)) for a in range(n)]
             bids = [(a, a % d, 365, 100 + 10 * (a % 3) - (a % 2), 4000) for a in range(n)]
             for cap in (110, 219, 220, 329, 120 * n):
                 yield years(d, d + 1, plenty, cap, apps, bids)
             yield years(d, d + 1, 35040 * 3, 330, apps, bids)
-    # so many that fit the cap alone, beside others that the cap alone drops: ten are chosen from, eleven are outcome 2
-    for n in (0, 1, 10, 11):
+    # so many that fit the cap alone, beside others that the cap alone drops: eleven are chosen from, twenty-one are outcome 2
+    for n in (0, 1, 10, 11, 21):
         for more in (1, 2, 11):
             bids = [(a, 0, 365, 100 if a < n else 201, 4000) for a in range(n + more)]
             yield years(1, 2, 35040 * 3, 200, [(0, n + more - a, b[3]) for a, b in enumerate(bids)], bids)
+    # twelve, which the cap leaves as they are, or three of them, or none
+    yield from (making.three_small(12, cap) for cap in (200, 199, 59))
     chain = [(0, 0, 365, 200 - 10 * i, 6000 + 10 * i) for i in range(3)]
     for other in (None, 6000, 6010, 6020, 7000):
         bids = chain + ([] if other is None else [(1, 0, 365, 100, other)])
@@ -317,6 +326,25 @@ def pots_with_caps():
                                     [(a, 0, 366, 300000, 10 * a) for a in range(bidding)], [cap])
 
 
+def wide_ties_drawn():
+    """Eleven, of which 462 combinations are kept, and twenty, of which 184,756 are: the first place, the last, and one beyond; with a cap; ties too wide
+    for any number; two wide ties in turn; and a last year that costs nothing for some, or for all."""
+    for number in (0, 1, 461, 462, making.MOST_DRAWN):
+        yield making.at_one_price(11, 5, (making.NO_CAP, number))
+    yield making.at_one_price(11, 10, (400, 329))
+    yield making.at_one_price(20, 10, (making.NO_CAP, 184755))
+    yield making.at_one_price(20, 10, (making.NO_CAP, 184756), 1)
+    yield from (making.at_one_price(11, 5, (making.NO_CAP, number), 10) for number in (460, 463))
+    yield from (making.at_one_price(n, 10, (making.NO_CAP, 184755), dropped) for n, dropped in ((21, 0), (21, 2), (22, 0)))
+    # 924 combinations, then 462 with what is left of the number
+    for number in (0, 923, 924, 924 * 461, 924 * 462 - 1, making.MOST_DRAWN):
+        yield making.delivered((8760 * 6, 8760 * 6 + 9636 * 5), (making.NO_CAP, number), [(int(a > 11), a, 100) for a in range(23)],
+                               [(a, int(a > 11), 100, 1100 if a > 11 else 1000) for a in range(23)])
+    for number in (0, 100, 10 ** 9):
+        yield making.free_at_last(35040 * 5, (600, number), (100,) * 8 + (200,) * 4)
+        yield making.free_at_last(35040 * 6, (making.NO_CAP, number), (100, 130, 170) * 4)
+
+
 def pots_drawn():
     """Pots whose drawn number reaches what chance seldom does, beyond making.drawn: every place of ties all alike and of one with some that cost
     nothing in the last year, the widest ties, ties in all four delivery years, and ties over years."""
@@ -327,8 +355,9 @@ def pots_drawn():
             yield making.alike(10, fit, (making.NO_CAP, number))
         yield making.alike(10, 10, (700, number))
         yield making.free_at_last(35040 * 5, (600, number), (100,) * 10)
-    # too wide for any number
     yield from (making.alike(n, 3, (making.NO_CAP, 1)) for n in (11, 12, 13))
+    yield making.alike(11, 5, (making.NO_CAP, 3))
+    yield from wide_ties_drawn()
     for number in range(7):
         yield making.some_free_at_last((making.NO_CAP, number))
         yield making.raised_at_last(number)
@@ -349,17 +378,23 @@ def rounds():
     draws = list(making.worked_draws().values()) + making.drawn()
     yield from (file for file in list(making.worked().values()) + making.directed() if file not in draws)
     yield from pots()
+    rnd = random.Random(7)
+    yield from (making.wide_tie(rnd, 0) for _ in range(16))
     rnd = random.Random(2)
     for k in range(400):
         file = making.without_caps(rnd)
         yield making.harm_anywhere(rnd, file) if k % 4 == 0 else file
     yield from pots_with_caps()
+    rnd = random.Random(8)
+    yield from (making.wide_tie(rnd, 1) for _ in range(16))
     rnd = random.Random(4)
     for k in range(300):
         file = making.with_caps(rnd)
         yield making.damage(rnd, file) if k % 5 == 0 else file
     yield from draws
     yield from pots_drawn()
+    rnd = random.Random(9)
+    yield from (making.wide_tie(rnd, 2) for _ in range(24))
     rnd = random.Random(6)
     for k in range(150):
         file = making.with_drawn(rnd)
@@ -419,15 +454,43 @@ def under_caps(file):
 
 
 class Watched(reading.Auction):
-    """An auction that keeps, of each draw, how many were best, how many of these were kept, the place taken, and the number drawn with."""
+    """An auction that keeps, of each draw, how many were best, how many of these were kept, the place taken, and the number drawn with; and of each
+    tie how many remained. Where they are few, what the reading lists is held to a trial of each combination, and what it keeps to all that fits."""
+
+    def __init__(self, r, pot):
+        super().__init__(r, pot)
+        self.draws, self.widths = [], []
+
+    def tried(self, remaining):
+        self.widths.append(len(remaining))
+        if len(remaining) > FEW:
+            return super().tried(remaining)
+        listed, places = list(super().tried(remaining)), range(len(remaining))
+        assert listed == [self.trial([remaining[-1 - i] for i in places if number >> i & 1]) for number in range(2 ** len(remaining))]
+        return listed
 
     def draw(self, best, fitting, width):
         before = self.drawn
-        self.draws = getattr(self, 'draws', [])
         number = super().draw(best, fitting, width)
-        kept = [k for k in best if not any(k & other == k != other for other in fitting)]
+        kept = [k for k in best if all(k >> i & 1 or k | 1 << i not in fitting for i in range(width))]
+        if width <= FEW:
+            assert kept == [k for k in best if not any(k & other == k != other for other in fitting)]
         self.draws.append((len(best), len(kept), kept.index(number), before))
         return number
+
+
+def wide(file):
+    """Of each tie of a round that is broken and of more than a few: how many remained."""
+    try:
+        r = reading.read(file)
+    except reading.Refused:
+        return
+    for p in range(len(r.pots)):
+        auction = Watched(r, p)
+        auction.cleared()
+        for width in auction.widths:
+            if width > FEW:
+                yield '%d remaining' % width
 
 
 def by_drawn_numbers(file):
@@ -442,7 +505,7 @@ def by_drawn_numbers(file):
         auction = Watched(r, p)
         told = auction.cleared()
         yield 'outcome %d' % told[0].outcome
-        for best, kept, place, number in getattr(auction, 'draws', []):
+        for best, kept, place, number in auction.draws:
             yield '%s kept' % (kept if kept < 3 else '3 or more')
             if kept > 1:
                 yield 'first place' if place == 0 else 'last place' if place == kept - 1 else 'a place between'
@@ -481,8 +544,11 @@ if __name__ == '__main__':
     assert len(caps) == 8 and min(caps.values()) >= 5
     draws = collections.Counter(x for f, _ in listings for x in by_drawn_numbers(f))
     assert len(draws) == 14 and min(draws.values()) >= 3
+    widths = collections.Counter(x for f, _ in listings for x in wide(f))
+    assert all(widths['%d remaining' % n] >= least for n, least in ((11, 40), (12, 20), (13, 10), (14, 5), (20, 3)))
     print('%d rounds:' % len(listings), ', '.join('%s: %d' % x for x in sorted(words.items())))
     print('silent applications:', ', '.join('%s: %d' % x for x in sorted(beside.items())))
     print('pots with caps:', ', '.join('%s: %d' % x for x in sorted(caps.items())))
     print('pots with drawn numbers:', ', '.join('%s: %d' % x for x in sorted(draws.items())))
+    print('wide ties:', ', '.join('%s: %d' % x for x in sorted(widths.items())))
     print('%d files:' % len(cases), ', '.join('%s: %d' % x for x in sorted(kinds.items())))

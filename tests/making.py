@@ -141,7 +141,14 @@ def ties_in_years(widths, cap):
 
 def alike(n, fit, cap):
     """So many of 1.00 MW tied at 4,000, all alike but for their draws, and money for so many of them."""
-    return one_year(35040 * fit, [(5 * a % 13, 100) for a in range(n)], [(a, 100, 4000) for a in range(n)], cap)
+    return one_year(35040 * fit, [(5 * a % (13 if n < 14 else 64), 100) for a in range(n)], [(a, 100, 4000) for a in range(n)], cap)
+
+
+def at_one_price(n, fit, cap=None, dropped=0):
+    """So many of 1.00 MW tied at 1,000, for 8,760 pounds each, with draws 0, 1 and so on, and money for so many of them; then those that are dropped,
+    which do not fit alone."""
+    capacities = [100] * n + [100 * fit + 1] * dropped
+    return one_year(8760 * fit, list(enumerate(capacities)), [(a, capacity, 1000) for a, capacity in enumerate(capacities)], cap)
 
 
 def free_at_last(budget, cap, capacities=(100, 100, 100)):
@@ -242,9 +249,8 @@ def caps():
     for cap in (250, 249):
         files.append(delivered((plenty, plenty), cap, [(0, 0, 150), (1, 1, 100), (1, 2, 100)],
                                [(0, 0, 150, 4000), (1, 1, 100, 4000), (2, 1, 100, 4000)]))
-    # a tie that would be too wide but for the cap, which leaves three or none; and one too wide: 500,000 pounds pay for each, not for all
-    wide = [(a, 200 if a < 9 else 60, 4000) for a in range(12)]
-    files += [one_year(500000, [(12 - a, capacity) for a, capacity, _ in wide], wide, cap) for cap in (199, 59, 200)]
+    # a tie that would be too wide but for the cap, which leaves three or none; and one too wide
+    files += [three_small(22, cap) for cap in (199, 59, 200)]
     # pots that differ in their caps alone
     technologies = [(p, 10000, [(20000, 0, 10000)]) for p in range(2)]
     applications = [(a // 2, 0, 365, a, 100, 0) for a in range(4)]
@@ -257,6 +263,12 @@ def caps():
     return files
 
 
+def three_small(n, cap):
+    """So many tied of whom three are for 0.60 MW, and the others for 2.00: 500,000 pounds pay for each, not for all."""
+    capacities = [200] * (n - 3) + [60] * 3
+    return one_year(500000, [(n - a, capacity) for a, capacity in enumerate(capacities)], [(a, capacity, 4000) for a, capacity in enumerate(capacities)], cap)
+
+
 def one_tie_drawn():
     """One tie in a pot: all alike and mixed, in one year and over two, with money, a cap and both to bind it."""
     files, plenty = [], 1000000
@@ -264,10 +276,10 @@ def one_tie_drawn():
     for n, fit in ((2, 1), (3, 1), (3, 2), (4, 2), (5, 2)):
         m = math.comb(n, fit)
         files += [alike(n, fit, (NO_CAP, number)) for number in (0, m - 1, 2 * m, MOST_DRAWN)]
-    # those of ten stand in cases.py: the checker, which computes these files, would not get through a wider one
+    # those of ten and more stand in cases.py: the checker, which computes these files, would not get through a wider one
     files += [alike(n, fit, (NO_CAP, number)) for n, fit, number in ((6, 3, 13), (7, 2, 20), (7, 6, 10))]
     # too wide; none fits alone; all fit together
-    files += [alike(n, fit, (NO_CAP, 3)) for n, fit in ((11, 5), (4, 0), (4, 4))]
+    files += [alike(n, fit, (NO_CAP, 3)) for n, fit in ((21, 5), (4, 0), (4, 4))]
     # T1 and T2, then with money enough and a cap to bind them, then with both
     files += [tied(budget, (NO_CAP, number)) for budget in (105120, 105119) for number in (3, MOST_DRAWN - 1)]
     files += [tied(plenty, limits) for limits in ((300, 0), (300, 1), (299, 0), (299, 1), (199, 0), (199, 1), (99, 1))]
@@ -308,22 +320,33 @@ def drawn():
     return files + [free_at_last(105120, NO_CAP, (200, 100, 100)), free_at_last(70080, None)]
 
 
+def pay_for_two(n):
+    return one_year(35040 * 2, [(i, 100) for i in range(n)], [(a, 100, 4000) for a in range(n)])
+
+
+def all_different(n):
+    """No two tied are for the same capacity, and the lowest draw comes last."""
+    return one_year(35040 * 3 - 1, [(n - i, 100 + i) for i in range(n)], [(a, 100 + a, 4000) for a in range(n)])
+
+
+def beside_the_silent(n):
+    """Two of so many tied could be paid, and the lowest draw is silent."""
+    return one_year(175200 * 2, [(i, 100) for i in range(n + 1)], [(a, 100, 20000) for a in range(1, n + 1)])
+
+
 def directed():
-    """Rounds that reach what chance seldom does: ties of every width, over years, chains, silent applications, budgets at the edge, caps, drawn
-    numbers."""
+    """Rounds that reach what chance seldom does: ties of up to ten and too wide ones, over years, chains, silent applications, budgets at the edge,
+    caps, drawn numbers. Ties of 11 to 20 stand in cases.py, since the checker, which computes these files, would not get through them."""
     files = []
-    for n in range(2, 14):
-        files.append(one_year(35040 * 2, [(i, 100) for i in range(n)], [(a, 100, 4000) for a in range(n)]))
-        files.append(one_year(35040 * 3 - 1, [(n - i, 100 + i) for i in range(n)], [(a, 100 + a, 4000) for a in range(n)]))
+    for n in (2, 3, 4, 5, 6, 7, 8, 9, 10, 21, 22):
+        files += [pay_for_two(n), all_different(n)]
     for n in range(2, 6):
         chain = [(0, 200 - 10 * i, 6000 + 10 * i) for i in range(min(n, 3))]
         files.append(one_year(60000, [(0, 200), (1, 100)], chain + [(1, 100, 7000)]))
         files.append(one_year(90000, [(0, 200), (1, 100)], chain[:2] + [(1, 100, 6010)]))
         files.append(one_year(90000, [(0, 200), (1, 100)], chain[:2] + [(1, 100, 6000)]))
-    # two could be paid: a silent application, of the lowest draw, beside two that win, beside ties and beside ones too wide; the tie of ten
-    # stands in cases.py, since the checker, which computes these files, would not get through it
-    for n in (2, 3, 4, 5, 6, 7, 8, 9, 11, 12, 13):
-        files.append(one_year(175200 * 2, [(i, 100) for i in range(n + 1)], [(a, 100, 20000) for a in range(1, n + 1)]))
+    # a silent application beside two that win, beside ties and beside ones too wide; the tie of ten stands in cases.py
+    files += [beside_the_silent(n) for n in (2, 3, 4, 5, 6, 7, 8, 9, 21, 22)]
     # silent alone, and beside a bid, with just enough for the first test and a pound less
     for less in (0, 1):
         for n in (1, 2, 12):
@@ -424,6 +447,29 @@ def with_drawn(rnd):
         own = [[b[3] for b in bids if b[0] == a] or [x[4]] for a, x in enumerate(applications) if technologies[x[0]][0] == p]
         limits.append((NO_CAP if rnd.random() < .5 else some_cap(rnd, own), some_number(rnd)))
     return round_file(years, pots, technologies, applications, bids, limits)
+
+
+def wide_tie(rnd, limits):
+    """A tie of 11 to 14, alike or not, over so many years, each of which pays for some of them, beside what may have won before and what does not fit
+    alone; the last year may cost nothing for some. limits: 0 for money alone, 1 for a cap as well, or in its place, 2 for a drawn number too."""
+    n, d, last = rnd.choice([11, 11, 12, 12, 13, 14]), rnd.choice([1, 1, 2, 3, 4]), rnd.random() < .5
+    technologies = [(0, 10000, [(20000, 0, 10000)] * d + [(0, reference, 10000)] * last) for reference in (0, 9000)]
+    few = rnd.choice([(100,), (100, 100, 200), tuple(range(90, 120))])
+    tied = [(int(rnd.random() < .3), rnd.randrange(d), rnd.choice(few)) for _ in range(n)]
+    before = [(0, rnd.randrange(d), 50)] * rnd.choice([0, 0, 1, 2])
+    dropped = [(0, 0, 100000)] * rnd.choice([0, 0, 0, 1, 9])
+    rows = tied + before + dropped
+    draws = rnd.sample(range(60), len(rows))
+    applications = [(t, year, 365, draw, capacity, 0) for (t, year, capacity), draw in zip(rows, draws)]
+    bids = [(a, year, 365, capacity, 3900 if n <= a < n + len(before) else 4000) for a, (_, year, capacity) in enumerate(rows)]
+    rnd.shuffle(bids)
+    share = rnd.randint(2, n - 1) if rnd.random() < .7 else rnd.randint(2, 4)
+    money = [35040 * 2 * (y + 1) + 35040 * share * (y + 1) // (d + last) for y in range(d + last)]
+    cap = rnd.choice([NO_CAP, 100 * share + 350, 115 * share])
+    if limits and cap != NO_CAP and rnd.random() < .5:
+        money = [10 ** 8] * (d + last)
+    return round_file([(365, 1, 0)] * d + [(365, 0, 0)] * last, [money], technologies, applications, bids,
+                      [None, [cap], [(cap, some_number(rnd))]][limits])
 
 
 def make(rnd):

@@ -1,4 +1,4 @@
-"""Document 01, with CR 5, 6, 8 and 11 of 02, read a second time, in Python: tables, loops and a state that changes, and nothing shared with the
+"""Document 01, with CR 5, 6, 7, 8 and 11 of 02, read a second time, in Python: tables, loops and a state that changes, and nothing shared with the
 definitions or the code.
 
 read(file)            the tables of an accepted file, or Refused(number, offset)
@@ -25,6 +25,8 @@ NO_PRICE, NO_BID = 4294967295, 65535
 # added to a count of pots: each pot has a cap; each pot has a drawn number as well, which it never has without a cap
 WITH_CAPS, WITH_DRAWN = 32768, 16384
 MOST_CAP, NO_CAP = 20000000, 4294967295
+# bids of a tie that may remain; more are outcome 2
+MOST_REMAINING = 20
 # the exact cost is a whole number of parts; values and totals are pence, and budgets stay in pounds
 PARTS_TO_THE_PENNY, PENCE_TO_THE_POUND = 10 ** 15, 100
 
@@ -217,19 +219,43 @@ class Auction:
             self.marks[further[0][0]] = 2
         self.closed.add(b.year)
 
+    def tried(self, remaining):
+        """What the trial of every combination of those that remain comes to, in order of number. Of 20 bids there are 2^20, so they are added up side
+        by side: the bids of a combination cost the same in each that holds them, since all have one price, and what the winners cost hangs only on the
+        years in which that price is set."""
+        def each(of, add):
+            """Added up over the bids of each combination: the last bid has the lowest place, and each before it doubles the list."""
+            listed = [0]
+            for _, b in reversed(remaining):
+                own = of(b)
+                listed += [add(x, own) for x in listed]
+            return listed
+
+        def beside(years):
+            """What the winners come to with the price of the tie in these years."""
+            return self.sums(self.winners, lambda b: remaining[0][1].price if years >> b.year & 1 else self.price[b.year])
+        years = each(lambda b: 1 << b.year, int.__or__)
+        winners = {x: beside(x) for x in set(years)}
+        capacity = each(lambda b: b.capacity, int.__add__)
+        money = [each(lambda b: self.value(b, b.price, y), int.__add__) for y in range(len(self.r.years))]
+        for set_in, own, *costs in zip(years, capacity, *money):
+            before = winners[set_in]
+            yield Sums([x + y for x, y in zip(before.totals, costs)], before.capacity + own)
+
     def chosen(self, remaining):
         """The combination that wins of those that remain, the lowest draw first."""
         def combination(number):
             return [x for i, x in enumerate(remaining) if number >> (len(remaining) - 1 - i) & 1]
         fitting = {}
-        for number in range(2 ** len(remaining)):
-            sums = self.trial(combination(number))
+        for number, sums in enumerate(self.tried(remaining)):
             if self.fits(sums):
                 fitting[number] = sums.totals[self.last]
         # closest to the budget means money: the cap only decides whether a combination fits
         closest = max(fitting.values())
         best = [number for number, total in fitting.items() if total == closest]
-        return combination(best[-1] if self.drawn is None else self.draw(best, fitting, len(remaining)))
+        number = best[-1] if self.drawn is None else self.draw(best, fitting, len(remaining))
+        assert self.fits(self.trial(combination(number))) and self.trial(combination(number)).totals[self.last] == closest
+        return combination(number)
 
     def draw(self, best, fitting, width):
         """The number of the combination that is drawn. A bid that was dropped fits with none, so that only those that remain could be added."""
@@ -241,7 +267,7 @@ class Auction:
         """3: False where the tie is too wide."""
         remaining = [x for x in taken if self.fits(self.trial([x]))]
         remaining.sort(key=lambda x: self.r.applications[x[1].application].draw)
-        if len(remaining) > 10:
+        if len(remaining) > MOST_REMAINING:
             return False
         self.win(self.chosen(remaining))
         for k, b in taken:

@@ -1,6 +1,7 @@
 /* bench: the time that a round takes in the library beside the judge, which is plain C compiled with optimisation for the same processor. Six
  * files: a full round, a full single pot, ties of 10 in every step, a full round refused for its last bid, the full round with caps, and ties of
- * 10 all alike that are drawn. */
+ * 10 all alike that are drawn. Then five of ties of 20, for which the judge takes seconds on x86-64, and minutes under the emulator.
+ * bench --write FOLDER: writes the files there, and measures nothing. */
 #include "gustmirror.h"
 #include "judge.h"
 #include "make.h"
@@ -9,7 +10,7 @@
 #include <string.h>
 #include <time.h>
 
-enum { YEARS = 8, DELIVERY_YEARS = 4, TECHNOLOGIES = 32, APPLICATIONS = 64, MOST_POTS = 4, BATCHES = 100 };
+enum { YEARS = 8, DELIVERY_YEARS = 4, TECHNOLOGIES = 32, APPLICATIONS = 64, MOST_POTS = 4, BATCHES = 100, RUNS_OF_WIDE_TIES = 5 };
 /* the longest file but for drawn numbers, of four bytes a pot */
 enum { LONGEST_WITH_CAPS = JUDGE_MAX_FILE - 4 * MOST_POTS };
 #define BUDGET_LIMIT 1000000000000u
@@ -205,6 +206,155 @@ static void make_draws(struct round_file *f)
             add_bid(f, i, d, 1000, 100000 + 10 * d);
 }
 
+/* ---- ties of 20, drawn ---- */
+
+/* What there is to draw from: any ten of twenty; those of the tie over years, as the judge has it; any eighteen; and one. */
+enum { WIDE = JUDGE_MAX_REMAINING, HALF_OF_WIDE = WIDE / 2, OF_HALF = 184756, OF_YEARS = 51000, OF_ALL_BUT_TWO = 190, OF_DIFFERENT = 1 };
+enum { WIDE_PRICE = 100000, WIDE_CAPACITY = 1000, BYTES_OF_A_TECHNOLOGY = 4 + 10 * YEARS };
+
+/* Takes the one in the middle of so many, and leaves much for the ties after it. */
+static uint32_t drawn_number(uint32_t combinations)
+{
+    return (JUDGE_MAX_DRAWN / combinations - 1) * combinations + combinations / 2;
+}
+
+/* As `start`, with one pot, which has a drawn number and no cap; answers the place of the first technology. */
+static size_t start_wide(struct round_file *f, uint32_t combinations)
+{
+    static struct round_file plain;
+    start(&plain, 1, NULL);
+    memcpy(f->bytes, plain.bytes, plain.budgets + 8 * YEARS);
+    set(f, plain.budgets - 2, 2, JUDGE_WITH_CAPS + JUDGE_WITH_DRAWN + 1);
+    f->budgets = plain.budgets;
+    f->len = plain.budgets + 8 * YEARS;
+    add(f, 4, JUDGE_NO_CAP);
+    add(f, 4, drawn_number(combinations));
+    size_t rest = plain.budgets + 8 * YEARS;
+    memcpy(f->bytes + f->len, plain.bytes + rest, plain.len - rest);
+    f->len += plain.len - rest;
+    return f->len - TECHNOLOGIES * BYTES_OF_A_TECHNOLOGY;
+}
+
+/* What a bid of a tie costs in a whole year. */
+static uint64_t cost_of_a_year(uint32_t capacity)
+{
+    return judge_value(WIDE_PRICE, 45000, 4000, 24 * 365, capacity, 90, 10000) / JUDGE_PENCE_TO_THE_POUND;
+}
+
+/* In every year from this one on, so many tenths of a bid of that capacity. */
+static void set_budgets_in_tenths(struct round_file *f, unsigned from, unsigned tenths, uint32_t capacity)
+{
+    for (unsigned y = from; y < YEARS; y++)
+        set(f, f->budgets + 8 * y, 8, cost_of_a_year(capacity) * tenths / 10);
+}
+
+/* Twenty of these capacities, tied in year 0. */
+static void add_one_wide_tie(struct round_file *f, const uint32_t *capacity)
+{
+    add(f, 2, WIDE);
+    for (unsigned i = 0; i < WIDE; i++)
+        add_application(f, 0, 100 - i, capacity[i]);
+    add(f, 2, WIDE);
+    for (unsigned i = 0; i < WIDE; i++)
+        add_bid(f, i, 0, capacity[i], WIDE_PRICE);
+}
+
+/* How many of the twenty win, as the judge has it. */
+enum { DIFFERENT_WON = 12, OVER_YEARS_WON = 10 };
+
+/* All alike: any ten fit, and no eleven. */
+static void make_wide_alike(struct round_file *f)
+{
+    uint32_t capacity[WIDE];
+    for (unsigned i = 0; i < WIDE; i++)
+        capacity[i] = WIDE_CAPACITY;
+    start_wide(f, OF_HALF);
+    add_one_wide_tie(f, capacity);
+    set_budgets_in_tenths(f, 0, 10 * HALF_OF_WIDE + 5, WIDE_CAPACITY);
+}
+
+/* No two for the same capacity, from 10 to 100 MW, and money for half of them. */
+static void make_wide_different(struct round_file *f)
+{
+    struct rng rng = { 7 };
+    uint32_t capacity[WIDE], sum = 0;
+    for (unsigned i = 0; i < WIDE; i++) {
+        capacity[i] = WIDE_CAPACITY + 450 * i + (uint32_t)rng_below(&rng, 450);
+        sum += capacity[i];
+    }
+    start_wide(f, OF_DIFFERENT);
+    add_one_wide_tie(f, capacity);
+    set_budgets_in_tenths(f, 0, 5, sum);
+}
+
+/* Thirty win before, one after the other, in four delivery years, and then twenty are tied over these years, alike but for the year: their price
+ * makes all the thirty dearer. Each year pays for about half of those tied so far. */
+enum { WON_BEFORE = 30 };
+
+static void make_wide_over_years(struct round_file *f)
+{
+    start_wide(f, OF_YEARS);
+    add(f, 2, WON_BEFORE + WIDE);
+    for (unsigned i = 0; i < WON_BEFORE + WIDE; i++)
+        add_application(f, i % TECHNOLOGIES, 100 - i, WIDE_CAPACITY);
+    add(f, 2, WON_BEFORE + WIDE);
+    for (unsigned i = 0; i < WON_BEFORE + WIDE; i++)
+        add_bid(f, i, i % DELIVERY_YEARS, WIDE_CAPACITY, i < WON_BEFORE ? WIDE_PRICE - 10 * (WON_BEFORE - i) : WIDE_PRICE);
+    for (unsigned y = 0; y < DELIVERY_YEARS; y++) {
+        unsigned tenths = 5;
+        for (unsigned i = 0; i < WON_BEFORE + WIDE; i++)
+            if (i % DELIVERY_YEARS <= y)
+                tenths += i < WON_BEFORE ? 10 : 5;
+        set_budgets_in_tenths(f, y, tenths, WIDE_CAPACITY);
+    }
+}
+
+/* Any eighteen fit, and no nineteen, and in the last year the reference is above the price: every combination that fits is best, and 190 are kept. */
+static void make_wide_free_at_last(struct round_file *f)
+{
+    uint32_t capacity[WIDE];
+    for (unsigned i = 0; i < WIDE; i++)
+        capacity[i] = WIDE_CAPACITY + i;
+    size_t technologies = start_wide(f, OF_ALL_BUT_TWO);
+    for (unsigned t = 0; t < TECHNOLOGIES; t++)
+        set(f, technologies + t * BYTES_OF_A_TECHNOLOGY + 4 + 10 * (YEARS - 1) + 4, 4, 2 * WIDE_PRICE);
+    add_one_wide_tie(f, capacity);
+    set_budgets_in_tenths(f, 0, 10 * (WIDE - 2) + 5, WIDE_CAPACITY + HALF_OF_WIDE);
+}
+
+/* The worst found so far. Fourteen win before; then in each delivery year twenty are tied who cost the same in every year but the first, since they
+ * begin on different days, and any ten of them fit, and no eleven. Ten win, the year closes, and the other ten are tied in the next year with ten
+ * more. */
+enum { WON_BEFORE_WORST = APPLICATIONS - WIDE - (DELIVERY_YEARS - 1) * HALF_OF_WIDE };
+
+static unsigned first_wide_tie(unsigned i)
+{
+    unsigned tied = i - WON_BEFORE_WORST;
+    return tied < WIDE ? 0 : (tied - WIDE) / HALF_OF_WIDE + 1;
+}
+
+static void make_wide_worst(struct round_file *f)
+{
+    unsigned bids = 0;
+    start_wide(f, OF_HALF);
+    add(f, 2, APPLICATIONS);
+    for (unsigned i = 0; i < APPLICATIONS; i++) {
+        add_application(f, i % TECHNOLOGIES, 100 - i, WIDE_CAPACITY);
+        bids += i < WON_BEFORE_WORST ? 1 : DELIVERY_YEARS - first_wide_tie(i);
+    }
+    add(f, 2, bids);
+    for (unsigned i = 0; i < APPLICATIONS; i++) {
+        if (i < WON_BEFORE_WORST)
+            add_bid(f, i, 0, WIDE_CAPACITY, WIDE_PRICE - 10 * (WON_BEFORE_WORST - i));
+        for (unsigned d = i < WON_BEFORE_WORST ? DELIVERY_YEARS : first_wide_tie(i); d < DELIVERY_YEARS; d++) {
+            add_bid(f, i, d, WIDE_CAPACITY, WIDE_PRICE + 10 * d);
+            set(f, f->last_bid + 4, 2, 365 - i % WIDE);
+        }
+    }
+    for (unsigned d = 0; d < DELIVERY_YEARS; d++)
+        set_budgets_in_tenths(f, d, 10 * (WON_BEFORE_WORST + HALF_OF_WIDE * (d + 1)) + 2, WIDE_CAPACITY);
+}
+
 /* The last bid is the lowest of its application and year, and no multiple of 10: refusal 11, after all else was judged. */
 static void make_refused(struct round_file *f)
 {
@@ -249,16 +399,20 @@ static void make_capped(struct round_file *f)
 
 /* ---- what the files are ---- */
 
-static unsigned bids_of_reason(const struct round_file *f, unsigned reason)
+static unsigned bids_of_reason_in(const uint8_t *result, uint64_t len, unsigned reason)
 {
-    uint8_t result[JUDGE_MAX_RESULT];
     unsigned count = 0;
-    uint64_t len = judge_result_len(f->bytes, f->len);
-    judge_clear(f->bytes, f->len, result, sizeof result);
     const uint8_t *p = result + 2 + get(result, 2) * (2 + 4 * DELIVERY_YEARS + 8 * YEARS);
     for (p += 2 + 10 * get(p, 2) + 2; p < result + len; p += 2)
         count += get(p, 2) == reason;
     return count;
+}
+
+static unsigned bids_of_reason(const struct round_file *f, unsigned reason)
+{
+    uint8_t result[JUDGE_MAX_RESULT];
+    judge_clear(f->bytes, f->len, result, sizeof result);
+    return bids_of_reason_in(result, judge_result_len(f->bytes, f->len), reason);
 }
 
 /* ---- time ---- */
@@ -304,21 +458,89 @@ static void measure(const char *name, const struct round_file *f)
     printf("| %s | %.1f | %.1f | %.2f |\n", name, library / 1000, judge / 1000, library / judge);
 }
 
+/* A file of ties of 20: the quickest of a few runs of the library, and one of the judge, which tries a million combinations for each. Answers whether
+ * both give the same result, with so many bids that won and so many turned down in a tie. */
+static bool measure_wide(const char *name, const struct round_file *f, unsigned won, unsigned turned_down)
+{
+    static uint8_t of_library[JUDGE_MAX_RESULT], of_judge[JUDGE_MAX_RESULT];
+    uint64_t len = judge_result_len(f->bytes, f->len), begun = now();
+    judge_clear(f->bytes, f->len, of_judge, sizeof of_judge);
+    double judge = (double)(now() - begun), library = 1e18;
+    for (unsigned i = 0; i < RUNS_OF_WIDE_TIES; i++) {
+        begun = now();
+        gustmirror_clear(f->bytes, f->len, of_library, sizeof of_library);
+        double l = (double)(now() - begun);
+        library = l < library ? l : library;
+    }
+    printf("| %s | %.1f | %.1f | %.6f |\n", name, library / 1000, judge / 1000, library / judge);
+    return len > 0 && memcmp(of_library, of_judge, len) == 0 && bids_of_reason_in(of_judge, len, 1) == won
+        && bids_of_reason_in(of_judge, len, 3) == turned_down;
+}
+
 static void describe(const char *name, const struct round_file *f)
 {
     printf("%s: %u bids won, %u turned down alone, %u in a tie, %u not looked at\n", name, bids_of_reason(f, 1), bids_of_reason(f, 2),
            bids_of_reason(f, 3), bids_of_reason(f, 4) + bids_of_reason(f, 5));
 }
 
-int main(void)
+static struct round_file full, single, ties, refused, capped, draws, alike, different, over_years, free_at_last, worst;
+
+static void make_all(void)
 {
-    static struct round_file full, single, ties, refused, capped, draws;
     make_full(&full, MOST_POTS);
     make_full(&single, 1);
     make_ties(&ties);
     make_refused(&refused);
     make_capped(&capped);
     make_draws(&draws);
+    make_wide_alike(&alike);
+    make_wide_different(&different);
+    make_wide_over_years(&over_years);
+    make_wide_free_at_last(&free_at_last);
+    make_wide_worst(&worst);
+}
+
+/* Answers whether the file could be written. */
+static bool write_file(const char *folder, const char *name, const struct round_file *f)
+{
+    char path[1024];
+    int len = snprintf(path, sizeof path, "%s/%s.round", folder, name);
+    FILE *out = len > 0 && (size_t)len < sizeof path ? fopen(path, "wb") : NULL;
+    if (out == NULL)
+        return false;
+    bool written = fwrite(f->bytes, 1, f->len, out) == f->len;
+    return fclose(out) == 0 && written;
+}
+
+static int write_all(const char *folder)
+{
+    bool written = write_file(folder, "full", &full) && write_file(folder, "single", &single) && write_file(folder, "ties", &ties)
+        && write_file(folder, "refused", &refused) && write_file(folder, "capped", &capped) && write_file(folder, "draws", &draws)
+        && write_file(folder, "wide-alike", &alike) && write_file(folder, "wide-different", &different)
+        && write_file(folder, "wide-over-years", &over_years) && write_file(folder, "wide-free-at-last", &free_at_last)
+        && write_file(folder, "wide-worst", &worst);
+    if (!written)
+        printf("the files could not be written to %s\n", folder);
+    return !written;
+}
+
+/* Answers whether these are the files that they should be. */
+static bool measure_wide_ties(void)
+{
+    bool right = measure_wide("one tie of 20 all alike, drawn: 184,756 combinations", &alike, HALF_OF_WIDE, HALF_OF_WIDE);
+    right &= measure_wide("one tie of 20 all different, drawn: one combination", &different, DIFFERENT_WON, WIDE - DIFFERENT_WON);
+    right &= measure_wide("one tie of 20 over four delivery years, after 30 winners, drawn: 51,000 combinations", &over_years, WON_BEFORE + OVER_YEARS_WON, WIDE - OVER_YEARS_WON);
+    right &= measure_wide("one tie of 20 of which any 18 fit, and the last year costs nothing, drawn: 190 combinations", &free_at_last, WIDE - 2, 2);
+    right &= measure_wide("the worst found so far: four ties of 20 that differ in the first year alone, after 14 winners, drawn", &worst,
+                          WON_BEFORE_WORST + DELIVERY_YEARS * HALF_OF_WIDE, DELIVERY_YEARS * HALF_OF_WIDE);
+    return right;
+}
+
+int main(int argc, char **argv)
+{
+    make_all();
+    if (argc == 3 && strcmp(argv[1], "--write") == 0)
+        return write_all(argv[2]);
     describe("full round", &full);
     describe("single pot", &single);
     describe("ties", &ties);
@@ -340,5 +562,9 @@ int main(void)
     measure("refused for its last bid", &refused);
     measure("full round with caps: the first round, with a cap for each pot", &capped);
     measure("eight ties of 10 all alike, drawn: 252 combinations to draw from in each", &draws);
+    if (!measure_wide_ties()) {
+        printf("the ties of 20 are not those that they should be, or the two do not agree on them\n");
+        return 1;
+    }
     return 0;
 }

@@ -173,6 +173,8 @@ static void compare_round_a(uint8_t *file)
 static void compare_rounds(uint64_t count, uint64_t seed, uint8_t *file)
 {
     compare_round_a(file);
+    for (unsigned i = 0; i < MAKE_WIDE; i++)
+        compare("wide tie", i, file, make_wide(i, file));
     for (uint64_t i = 0; i < count; i++)
         if (i % 4 == 3)
             compare("pot", seed + i, file, make_pot(seed + i, file));

@@ -1,5 +1,6 @@
-/* The judge: document 01 in plain C, with CR 5, 6, 8 and 11 of 02: pots may have
- * caps and drawn numbers, silence is no bid, and values are to the penny.
+/* The judge: document 01 in plain C, with CR 5, 6, 7, 8 and 11 of 02: pots may have
+ * caps and drawn numbers, wide ties are broken, silence is no bid, and values are
+ * to the penny.  Every combination of a tie is tried anew, however wide it is.
  * Sentences of the papers stand quoted in the comments; words like look, trial,
  * winner, live, closed are theirs.  An application is silent where it has no
  * sealed bid. */
@@ -20,8 +21,9 @@ enum {
     MAX_BIDS = JUDGE_MAX_BIDS,
     MAX_BIDS_OF_APPLICATION = 10,
     MAX_BIDS_IN_YEAR = 3,
-    MAX_REMAINING = 10,
+    MAX_REMAINING = JUDGE_MAX_REMAINING,
     MAX_COMBINATIONS = 1 << MAX_REMAINING,
+    WIDE = JUDGE_WIDE,
     PENCE_TO_THE_POUND = JUDGE_PENCE_TO_THE_POUND,
     WITH_CAPS = JUDGE_WITH_CAPS,
     WITH_DRAWN = JUDGE_WITH_DRAWN,
@@ -115,6 +117,8 @@ struct clearing {
 /* ---- counters (with JUDGE_COUNT only) ---- */
 
 #ifdef JUDGE_COUNT
+/* so many remaining at most are tried again for what is only counted */
+enum { TRIED_AGAIN = 14 };
 struct judge_counts judge_counts;
 bool judge_counting;
 #define COUNT(statement) do { if (judge_counting) { statement; } } while (0)
@@ -1100,7 +1104,7 @@ static void count_choice(const struct auction *a, const struct taken *remaining,
     bool another = number != in_pounds->number;
     judge_counts.tie_pounds_choose_another += another;
     judge_counts.tie_pounds_prefer_another += another && fits_in_pounds(a->round, a->pot, &row);
-    if (a->pot->cap != NO_CAP)
+    if (a->pot->cap != NO_CAP && remaining->count <= TRIED_AGAIN)
         count_choice_under_cap(a, remaining, number);
 }
 #endif
@@ -1130,11 +1134,12 @@ static unsigned largest_of_the_best(const struct auction *a, const struct taken 
         best_total = row.total[last];
     }
     COUNT(judge_counts.tie_equal_totals += equals;
+          judge_counts.wide_tie_equal_totals += equals && remaining->count >= WIDE;
           count_choice(a, remaining, best, &in_pounds));
     return best;
 }
 
-/* Every combination of those that remain, by its number. */
+/* Every combination of those that remain, by its number: too much for a stack. */
 struct weighed {
     unsigned count;
     bool fits[MAX_COMBINATIONS];
@@ -1232,15 +1237,30 @@ static void count_place(struct auction *a, const struct listed *kept)
     a->draws++;
 }
 
+/* A wide tie that is drawn from two or more. */
+static void count_wide_draw(const struct auction *a, const struct listed *best, const struct listed *kept)
+{
+    unsigned m = kept->count, place = a->drawn % m;
+    judge_counts.wide_draw++;
+    judge_counts.wide_draw_from_more_than_252 += m > 252;
+    judge_counts.wide_draw_best_not_kept += best->count > m;
+    judge_counts.wide_draw_by_a_number_divided += a->drawn != a->pot->drawn;
+    judge_counts.wide_draw_of_a_place_between += place > 0 && place < m - 1;
+}
+
 static void count_draw(struct auction *a, const struct taken *remaining, const struct weighed *all,
                        const struct listed *best, const struct listed *kept)
 {
     unsigned m = kept->count, number = kept->number[a->drawn % m];
     judge_counting = false;
-    unsigned of_01 = largest_of_the_best(a, remaining);
+    unsigned of_01 = remaining->count <= TRIED_AGAIN ? largest_of_the_best(a, remaining)
+                                                     : best->number[best->count - 1];
     judge_counting = true;
     judge_counts.draw_from[m < 3 ? m : 3]++;
     judge_counts.draw_from_252 += m == 252;
+    judge_counts.draw_from_184756 += m == 184756;
+    if (m > 1 && remaining->count >= WIDE)
+        count_wide_draw(a, best, kept);
     judge_counts.draw_where_none_remain += remaining->count == 0;
     judge_counts.draw_best_not_kept += best->count > m;
     judge_counts.draw_01_chooses_one_not_last_kept += of_01 != kept->number[m - 1];
@@ -1261,8 +1281,8 @@ static void count_draw(struct auction *a, const struct taken *remaining, const s
  * drawn number divided by m, the rest dropped." */
 static unsigned draw_of_the_kept(struct auction *a, const struct taken *remaining)
 {
-    struct weighed all;
-    struct listed best, kept;
+    static struct weighed all;
+    static struct listed best, kept;
     weigh_all(a, remaining, &all);
     list_best(&all, &best);
     list_kept(&all, &best, &kept);
@@ -1320,14 +1340,64 @@ static bool across_years(const struct auction *a, const struct taken *taken)
     return false;
 }
 
-static void count_tie(const struct auction *a, const struct taken *taken, unsigned remaining)
+/* Whether bids of a tie are alike in all that a trial makes of them, or in what
+ * the last year costs. */
+static bool alike(const struct auction *a, unsigned one, unsigned other, bool at_last)
 {
-    judge_counts.tie[taken->count][remaining]++;
-    judge_counts.tie_narrowed_by_the_cap +=
-        remaining <= MAX_REMAINING && remaining_by_money(a, taken) > MAX_REMAINING;
+    struct taken of_one = { 1, { one } }, of_other = { 1, { other } };
+    struct row row = trial(a, &of_one), other_row = trial(a, &of_other);
+    bool same = at_last || (a->bids[one].year == a->bids[other].year && row.capacity == other_row.capacity);
+    for (unsigned y = at_last ? a->round->year_count - 1 : 0; y < a->round->year_count; y++)
+        same = same && row.total[y] == other_row.total[y];
+    return same;
+}
+
+static void count_kinds_of_a_wide_tie(const struct auction *a, const struct taken *remaining)
+{
+    unsigned last = a->round->year_count - 1, free = 0;
+    bool all_alike = true, all_different = true;
+    for (unsigned i = 0; i < remaining->count; i++) {
+        const struct bid *bid = &a->bids[remaining->bids[i]];
+        free += value_in_year(a->round, bid, capped_price(a->round, bid, bid->price), last) == 0;
+        for (unsigned j = 0; j < i; j++) {
+            all_alike = all_alike && alike(a, remaining->bids[i], remaining->bids[j], false);
+            all_different = all_different && !alike(a, remaining->bids[i], remaining->bids[j], true);
+        }
+    }
+    judge_counts.wide_tie_of_all_alike += all_alike;
+    judge_counts.wide_tie_of_all_different += all_different;
+    judge_counts.wide_tie_some_free_at_last += free > 0 && free < remaining->count;
+}
+
+static void count_wide_tie(const struct auction *a, const struct taken *taken, const struct taken *remaining)
+{
+    struct row row = trial(a, remaining);
+    bool by_money = !fits_the_budget(a->round, a->pot, &row), by_cap = !fits_the_cap(a->pot, &row);
+    judge_counts.wide_tie++;
+    judge_counts.wide_tie_of_15_or_more += remaining->count >= 15;
+    judge_counts.wide_tie_of_20 += remaining->count == 20;
+    judge_counts.wide_tie_of_21_or_more_taken += taken->count > MAX_REMAINING;
+    judge_counts.wide_tie_across_years += across_years(a, remaining);
+    judge_counts.wide_tie_with_earlier_winners += a->winner_count > 0;
+    judge_counts.wide_tie_but_for_the_cap += by_cap && !by_money;
+    judge_counts.wide_tie_but_for_money += by_money && !by_cap && a->pot->cap != NO_CAP;
+    judge_counts.wide_tie_by_01 += !a->round->with_drawn;
+    count_kinds_of_a_wide_tie(a, remaining);
+}
+
+static void count_tie(const struct auction *a, const struct taken *taken, const struct taken *remaining)
+{
+    bool too_wide = remaining->count > MAX_REMAINING;
+    judge_counts.tie[taken->count][remaining->count]++;
+    judge_counts.tie_narrowed_by_the_cap += !too_wide && remaining_by_money(a, taken) > MAX_REMAINING;
     judge_counts.tie_with_earlier_winners += a->winner_count > 0;
     judge_counts.tie_beside_a_lower_silent_draw += lower_silent_draw(a, taken);
     judge_counts.tie_across_years += across_years(a, taken);
+    judge_counts.too_wide_across_years += too_wide && across_years(a, remaining);
+    judge_counts.too_wide_with_earlier_winners += too_wide && a->winner_count > 0;
+    judge_counts.too_wide_beside_dropped_bids += too_wide && remaining->count < taken->count;
+    if (remaining->count >= WIDE && !too_wide)
+        count_wide_tie(a, taken, remaining);
 }
 
 /* A tie that was drawn from two or more. */
@@ -1349,11 +1419,11 @@ static void count_open_after_tie(const struct auction *a, const struct taken *ta
 
 /* 3. "If several were taken and do not fit, ... If more than 10 remain, outcome
  * 2" (answered as false) "... All others taken are turned down and their years
- * close." */
+ * close."  CR 7: "Outcome 2 is from then on given for 21 or more." */
 static bool break_tie(struct auction *a, const struct taken *taken)
 {
     struct taken remaining = remaining_of(a, taken);
-    COUNT(count_tie(a, taken, remaining.count));
+    COUNT(count_tie(a, taken, &remaining));
     if (remaining.count > MAX_REMAINING)
         return false;
 #ifdef JUDGE_COUNT
@@ -1418,8 +1488,8 @@ static struct application_result lost(const struct round *round, unsigned applic
     return result;
 }
 
-/* "If more than 10 remain, outcome 2: no price, totals 0, no winner in this
- * pot."  A silent application "keeps 7 in outcome 2". */
+/* "outcome 2: no price, totals 0, no winner in this pot."  A silent application
+ * "keeps 7 in outcome 2". */
 static void none_wins(const struct round *round, unsigned pot, struct clearing *clearing)
 {
     struct row row = empty_row();

@@ -1,5 +1,5 @@
 /* A judge of the clearing: document 01 ("What the clearing build is and its
- * rules") with CR 5, 6, 8 and 11 of 02, read a second time, in plain C, apart
+ * rules") with CR 5, 6, 7, 8 and 11 of 02, read a second time, in plain C, apart
  * from the crates. */
 #ifndef JUDGE_H
 #define JUDGE_H
@@ -16,6 +16,8 @@ enum {
     JUDGE_MAX_APPLICATIONS = 64,
     JUDGE_MAX_BIDS = 256,
     JUDGE_MAX_FILE = 7898,
+    JUDGE_MAX_REMAINING = 20, /* in a tie; more are outcome 2 */
+    JUDGE_WIDE = 11,          /* from so many on, which CR 7 took in */
     JUDGE_PENCE_TO_THE_POUND = 100,
     JUDGE_WITH_CAPS = 32768,  /* added to the pots count of a file with caps */
     JUDGE_WITH_DRAWN = 16384, /* added as well where it has drawn numbers too */
@@ -160,7 +162,7 @@ struct judge_counts {
     uint64_t smaller_won_later;                /* of another application */
     uint64_t chain_won_under_the_cap;          /* its first bid turned down for the cap alone */
     uint64_t winners_within_the_cap_by_bids;   /* their applications together exceed it */
-    uint64_t tie_narrowed_by_the_cap;          /* without it more than 10 would remain */
+    uint64_t tie_narrowed_by_the_cap;          /* without it more than 20 would remain */
     uint64_t tie_dearer_exceeds_the_cap;       /* than the one chosen, and money would do */
     uint64_t tie_equal_exceeds_the_cap;        /* of a larger number */
     uint64_t tie_money_before_capacity;        /* one of more capacity fits, for less */
@@ -172,9 +174,9 @@ struct judge_counts {
     uint64_t one_bid_turned_down_before_a_draw;
     uint64_t draw_where_none_remain;
     /* Ties that do not fit, by m: one kept, two, three or more; and the most there
-     * can be, half of 10. */
+     * can be, half of 10 and half of 20. */
     uint64_t draw_from[4];
-    uint64_t draw_from_252;
+    uint64_t draw_from_252, draw_from_184756;
     /* Of the draws from two or more: */
     uint64_t draw_of_place_0, draw_of_the_last_place, draw_of_a_place_between;
     uint64_t draw_chooses_as_01;
@@ -199,6 +201,27 @@ struct judge_counts {
     uint64_t draw_kept_for_the_cap_alone;
     uint64_t draw_kept_for_money_alone;
     uint64_t draw_01_chooses_one_not_last_kept;
+    /* Wide ties: 11 to 20 remain, which are chosen from. */
+    uint64_t wide_tie, wide_tie_of_15_or_more, wide_tie_of_20;
+    uint64_t wide_tie_of_21_or_more_taken;     /* of which some were dropped */
+    uint64_t wide_tie_across_years;
+    uint64_t wide_tie_with_earlier_winners;
+    uint64_t wide_tie_but_for_the_cap;         /* all that remain would fit */
+    uint64_t wide_tie_but_for_money;           /* and stay within a cap */
+    uint64_t wide_tie_of_all_alike;            /* in year, cost and capacity */
+    uint64_t wide_tie_of_all_different;        /* in the last year's cost */
+    uint64_t wide_tie_some_free_at_last;       /* and some not: the last year's cost */
+    uint64_t wide_tie_by_01;                   /* no drawn number */
+    uint64_t wide_tie_equal_totals;            /* the largest number decided */
+    uint64_t wide_draw;                        /* from two or more */
+    uint64_t wide_draw_from_more_than_252;
+    uint64_t wide_draw_best_not_kept;
+    uint64_t wide_draw_by_a_number_divided;
+    uint64_t wide_draw_of_a_place_between;
+    /* And ties too wide: more than 20 remain. */
+    uint64_t too_wide_across_years;
+    uint64_t too_wide_with_earlier_winners;
+    uint64_t too_wide_beside_dropped_bids;
 };
 
 extern struct judge_counts judge_counts;

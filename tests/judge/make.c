@@ -76,11 +76,15 @@ struct plan {
     struct plan_technology technology[MAX_T];
     struct plan_application application[MAX_N];
     struct plan_bid bid[MAX_B];
-    uint32_t common; /* the price many bid in a round of ties */
+    uint32_t common;    /* the price many bid in a round of ties */
+    unsigned most_tied; /* bids of a pot at one price */
 };
 
 enum flavour { ORDINARY, CHAINS, TIES, WIDE_TIES, SILENT, ZERO_COST, MANY_POTS, BIG, PENNIES, ALIKE };
 enum capacities { EQUAL, SMALL, ANY, SKEWED, CLOSE };
+/* A tie of up to 10, which the judge breaks in no time; one of more that may be
+ * broken; and one that may not, of bids alike beside a few. */
+enum width { NARROW, WIDE, TOO_WIDE };
 
 /* What a flavour asks of the plan; percentages are chances per application. */
 struct style {
@@ -92,7 +96,11 @@ struct style {
     unsigned low_load;        /* chance per technology of values of a few pounds */
     unsigned alike;           /* bids as many others do, year by year */
     unsigned drawn;           /* chance of the round */
+    unsigned most_tied;       /* bids of a pot at one price */
+    unsigned few;             /* of a tie too wide: the others are alike */
+    unsigned tied, dropped;   /* of a wide tie: so many remain, so many do not fit alone */
     enum capacities capacities;
+    enum width width;
 };
 
 /* ---- years and technologies ---- */
@@ -265,6 +273,13 @@ static void plan_applications(struct plan *plan, const struct style *style)
     if (rng_chance(rng, style->alike))
         for (unsigned i = 0; i < plan->applications; i++)
             plan->application[i].days = plan->year[plan->application[i].year].days;
+    if (style->width == TOO_WIDE)
+        for (unsigned i = style->few + 1; i < plan->applications; i++)
+            plan->application[i] = plan->application[style->few];
+    for (unsigned i = style->tied; i < style->tied + style->dropped; i++) {
+        plan->application[i] = plan->application[0];
+        plan->application[i].capacity = MAX_CAPACITY;
+    }
     plan_draws(plan);
 }
 
@@ -308,7 +323,21 @@ static unsigned bids_of(const struct plan *plan, unsigned application, unsigned 
     return count;
 }
 
-/* Adds the bid if the round stays well-formed with it. */
+static bool of_pot(const struct plan *plan, unsigned application, unsigned pot)
+{
+    return plan->technology[plan->application[application].technology].pot == pot;
+}
+
+static unsigned bids_at_its_price(const struct plan *plan, const struct plan_bid *bid)
+{
+    unsigned count = 0, pot = plan->technology[plan->application[bid->application].technology].pot;
+    for (unsigned i = 0; i < plan->bids; i++)
+        count += plan->bid[i].price == bid->price && of_pot(plan, plan->bid[i].application, pot);
+    return count;
+}
+
+/* Adds the bid if the round stays well-formed with it, and no wider a tie than it
+ * may have. */
 static void add_bid(struct plan *plan, struct plan_bid bid)
 {
     uint32_t administrative = administrative_of(plan, bid.application, bid.year);
@@ -316,7 +345,8 @@ static void add_bid(struct plan *plan, struct plan_bid bid)
         bid.price = administrative;
     if (plan->bids < MAX_B && price_is_free(plan, &bid)
         && bids_of(plan, bid.application, MAX_Y) < 10
-        && bids_of(plan, bid.application, bid.year) < 3)
+        && bids_of(plan, bid.application, bid.year) < 3
+        && bids_at_its_price(plan, &bid) < plan->most_tied)
         plan->bid[plan->bids++] = bid;
 }
 
@@ -438,10 +468,42 @@ static void shuffle_bids(struct plan *plan)
     }
 }
 
+static void add_bid_for_all_of_it(struct plan *plan, unsigned application, uint32_t price)
+{
+    const struct plan_application *own = &plan->application[application];
+    struct plan_bid bid = { application, own->year, own->days, own->capacity, price };
+    add_bid(plan, bid);
+}
+
+/* Tied, or beside the tie: cheaper, at the administrative price, or silent. */
+static void add_bids_of_a_wide_tie(struct plan *plan, const struct style *style, unsigned application)
+{
+    struct rng *rng = &plan->rng;
+    if (application < style->tied && style->alike > 0)
+        add_alike_bids(plan, application);
+    else if (application < style->tied)
+        add_common_bid(plan, application);
+    else if (application < style->tied + style->dropped)
+        add_bid_for_all_of_it(plan, application, plan->common);
+    else if (rng_chance(rng, 60))
+        add_bid_for_all_of_it(plan, application, plan->common - plan->common / 4 / 10 * 10);
+    else if (style->dropped == 0 && rng_chance(rng, 50))
+        add_bid(plan, at_administrative_price(plan, application));
+}
+
 static void plan_bids(struct plan *plan, const struct style *style)
 {
     struct rng *rng = &plan->rng;
+    plan->most_tied = style->most_tied;
     for (unsigned i = 0; i < plan->applications; i++) {
+        if (style->width == WIDE) {
+            add_bids_of_a_wide_tie(plan, style, i);
+            continue;
+        }
+        if (style->width == TOO_WIDE && i >= style->few) {
+            add_bid_for_all_of_it(plan, i, plan->common);
+            continue;
+        }
         if (rng_chance(rng, style->dear)) {
             add_bid(plan, at_administrative_price(plan, i));
             continue;
@@ -484,11 +546,6 @@ static void put_on_stack(struct stack *stack, struct plan_bid bid)
         place--;
     }
     stack->bid[place] = bid;
-}
-
-static bool of_pot(const struct plan *plan, unsigned application, unsigned pot)
-{
-    return plan->technology[plan->application[application].technology].pot == pot;
 }
 
 static void stack_of_pot(const struct plan *plan, unsigned pot, struct stack *stack)
@@ -890,6 +947,69 @@ static void plan_caps(struct plan *plan)
         plan_cap(plan, pot);
 }
 
+/* The bids below the common price, which win before the tie. */
+static void choose_cheaper(const struct plan *plan, const struct stack *stack, struct choice *choice)
+{
+    memset(choice, 0, sizeof *choice);
+    for (unsigned i = 0; i < stack->count && stack->bid[i].price < plan->common; i++)
+        choose(choice, &stack->bid[i]);
+}
+
+/* Of those tied, one that is to remain. */
+static bool remains(const struct plan *plan, const struct style *style, const struct plan_bid *bid)
+{
+    return bid->price == plan->common && bid->application < style->tied;
+}
+
+/* Raised so that each of these fits alone beside what wins before. */
+static void raise_for_each_alone(const struct plan *plan, const struct style *style, const struct stack *stack,
+                                 uint64_t *totals, uint64_t *capacity)
+{
+    for (unsigned i = 0; i < stack->count; i++) {
+        struct choice alone;
+        uint64_t of_alone[MAX_Y];
+        if (!remains(plan, style, &stack->bid[i]))
+            continue;
+        choose_cheaper(plan, stack, &alone);
+        choose(&alone, &stack->bid[i]);
+        choice_totals(plan, &alone, of_alone);
+        for (unsigned y = 0; y < plan->years; y++)
+            totals[y] = of_alone[y] > totals[y] ? of_alone[y] : totals[y];
+        *capacity = capacity_of(&alone) > *capacity ? capacity_of(&alone) : *capacity;
+    }
+}
+
+/* Money, a cap, or both, for some of those tied beside what wins before. */
+static void plan_limits_of_a_wide_tie(struct plan *plan, const struct style *style)
+{
+    static const unsigned chances[] = { 15, 40, 60, 85 };
+    struct rng *rng = &plan->rng;
+    struct stack stack;
+    struct choice choice;
+    uint64_t totals[MAX_Y];
+    unsigned chance = chances[rng_below(rng, 4)];
+    stack_of_pot(plan, 0, &stack);
+    choose_cheaper(plan, &stack, &choice);
+    for (unsigned i = 0; i < stack.count; i++)
+        if (remains(plan, style, &stack.bid[i]) && rng_chance(rng, chance))
+            choose(&choice, &stack.bid[i]);
+    choice_totals(plan, &choice, totals);
+    uint64_t capacity = capacity_of(&choice);
+    raise_for_each_alone(plan, style, &stack, totals, &capacity);
+    pounds_for(plan, totals, plan->budget[0]);
+    if (rng_chance(rng, 30))
+        vary_budget(plan, plan->budget[0]);
+    plan->with_caps = rng_chance(rng, 50);
+    plan->cap[0] = (uint32_t)(capacity > MAX_CAP ? MAX_CAP : capacity);
+    if (plan->with_caps && rng_chance(rng, 60))
+        lift_budgets(plan, plan->budget[0]);
+    else if (plan->with_caps && rng_chance(rng, 50))
+        plan->cap[0] = MAX_CAP;
+    for (unsigned y = 0; y < plan->years; y++)
+        if (plan->budget[0][y] > MAX_BUDGET)
+            plan->budget[0][y] = MAX_BUDGET;
+}
+
 /* ---- drawn numbers ---- */
 
 /* The first few, some that last for several ties, the greatest, and any. */
@@ -1008,6 +1128,7 @@ static struct style small_style(struct rng *rng)
     style.reference_above = 4;
     style.same_technology = 30;
     style.drawn = 20;
+    style.most_tied = JUDGE_WIDE - 1;
     style.capacities = rng_chance(rng, 50) ? ANY : SMALL;
     return style;
 }
@@ -1024,7 +1145,7 @@ static void style_of_chains(struct rng *rng, struct style *style)
 
 static void style_of_ties(struct rng *rng, struct style *style)
 {
-    style->applications = between(rng, 2, 12);
+    style->applications = between(rng, 2, 11);
     style->common_price = 85;
     style->no_bid = 5;
     style->dear = 2;
@@ -1034,14 +1155,63 @@ static void style_of_ties(struct rng *rng, struct style *style)
     style->capacities = rng_chance(rng, 35) ? EQUAL : rng_chance(rng, 60) ? SMALL : ANY;
 }
 
-static void style_of_wide_ties(struct rng *rng, struct style *style)
+/* A tie of about ten. */
+static void style_of_about_ten(struct rng *rng, struct style *style)
 {
     style_of_ties(rng, style);
-    style->applications = between(rng, 10, rng_chance(rng, 20) ? 64 : 16);
+    style->applications = between(rng, 10, 16);
     style->delivery = between(rng, 1, 3);
     style->valuation_only = between(rng, 0, 1);
     style->common_price = 95;
     style->capacities = rng_chance(rng, 40) ? SKEWED : rng_chance(rng, 50) ? EQUAL : SMALL;
+}
+
+/* A few of any kind, and so many alike that it is too wide or they are dropped, also
+ * where damage touches three of them: were 20 left, the judge would try a million
+ * combinations. */
+static void style_of_too_wide(struct rng *rng, struct style *style)
+{
+    style_of_about_ten(rng, style);
+    style->width = TOO_WIDE;
+    style->few = between(rng, 0, 10);
+    style->applications = style->few + JUDGE_MAX_REMAINING + between(rng, 4, rng_chance(rng, 20) ? 34 : 8);
+    style->most_tied = MAX_N;
+}
+
+/* A tie of 11 and now and then of more, up to 16, all alike or not: the judge takes
+ * twice as long for each more.  There may be others, so many alike that all of them
+ * are dropped or it is too wide. */
+static void style_of_wide(struct rng *rng, struct style *style)
+{
+    style_of_about_ten(rng, style);
+    style->width = WIDE;
+    style->tied = JUDGE_WIDE;
+    while (style->tied < 16 && rng_chance(rng, 40))
+        style->tied++;
+    if (rng_chance(rng, 20))
+        style->dropped = JUDGE_MAX_REMAINING + between(rng, 4, 8) - style->tied;
+    style->most_tied = style->tied + style->dropped;
+    style->applications = style->most_tied + between(rng, 0, 3);
+    style->reference_above = rng_chance(rng, 40) ? 50 : 4;
+    style->drawn = 60;
+    style->capacities = rng_chance(rng, 40) ? SMALL : style->dropped > 0 || rng_chance(rng, 50) ? SKEWED : ANY;
+    if (rng_chance(rng, 40)) {
+        style->delivery = rng_chance(rng, 60) ? 1 : 2;
+        style->same_technology = style->alike = 100;
+        style->capacities = EQUAL;
+    }
+}
+
+/* Few of those that the judge takes long for. */
+static void style_of_wide_ties(struct rng *rng, struct style *style)
+{
+    unsigned kind = (unsigned)rng_below(rng, 1000);
+    if (kind < 40)
+        style_of_wide(rng, style);
+    else if (kind < 300)
+        style_of_about_ten(rng, style);
+    else
+        style_of_too_wide(rng, style);
 }
 
 static void style_of_big(struct rng *rng, struct style *style)
@@ -1055,6 +1225,7 @@ static void style_of_big(struct rng *rng, struct style *style)
     style->no_bid = limits ? 3 : 15;
     style->common_price = between(rng, 0, 25);
     style->further_bids = limits ? 14 : 6;
+    style->most_tied = 8; /* of many years, beside many winners */
     style->capacities = ANY;
 }
 
@@ -1084,7 +1255,7 @@ static void style_of_alike(struct rng *rng, struct style *style)
     style->alike = 95;
     style->drawn = 85;
     style->capacities = rng_chance(rng, 65) ? EQUAL : SMALL;
-    if (rng_chance(rng, 15)) { /* the widest that is drawn, all in one pot */
+    if (rng_chance(rng, 15)) { /* ten that are drawn, all in one pot */
         style->delivery = style->pots = style->technologies = 1;
         style->applications = 10;
         style->capacities = EQUAL;
@@ -1149,13 +1320,17 @@ static size_t make_from_style(struct plan *plan, const struct style *style, uint
     plan_technologies(plan, style);
     plan_applications(plan, style);
     plan_bids(plan, style);
-    for (unsigned pot = 0; pot < plan->pots; pot++)
-        if (style->alike > 0 && rng_chance(&plan->rng, 70))
-            plan_budget_of_ties(plan, pot, plan->budget[pot]);
-        else
-            plan_budget(plan, pot, plan->budget[pot]);
-    if (rng_chance(&plan->rng, 45))
-        plan_caps(plan);
+    if (style->width == WIDE) {
+        plan_limits_of_a_wide_tie(plan, style);
+    } else {
+        for (unsigned pot = 0; pot < plan->pots; pot++)
+            if (style->alike > 0 && rng_chance(&plan->rng, 70))
+                plan_budget_of_ties(plan, pot, plan->budget[pot]);
+            else
+                plan_budget(plan, pot, plan->budget[pot]);
+        if (rng_chance(&plan->rng, 45))
+            plan_caps(plan);
+    }
     if (rng_chance(&plan->rng, style->drawn))
         plan_drawn_numbers(plan);
     return write_plan(plan, out);
@@ -1180,8 +1355,10 @@ size_t make_pot(uint64_t seed, uint8_t *out)
     struct plan plan = { .rng = rng_from(seed, 2) };
     struct style style = style_of(some_flavour(&plan.rng), &plan.rng);
     style.pots = 1;
-    style.delivery = between(&plan.rng, 1, 4);
-    style.valuation_only = rng_chance(&plan.rng, 60) ? 0 : between(&plan.rng, 1, 4);
+    if (style.width != WIDE) {
+        style.delivery = between(&plan.rng, 1, 4);
+        style.valuation_only = rng_chance(&plan.rng, 60) ? 0 : between(&plan.rng, 1, 4);
+    }
     if (style.applications < 2)
         style.applications = 2;
     return make_from_style(&plan, &style, out);
@@ -1236,6 +1413,153 @@ size_t make_round_a_drawn(uint32_t cap, uint32_t drawn, uint8_t *out)
     return write_plan(&plan, out);
 }
 
+/* ---- wide ties by hand ---- */
+
+/* Round A's technology over so many years, without bids. */
+static struct plan plan_of_a_wide_tie(unsigned delivery, unsigned years)
+{
+    struct plan plan = { .years = years, .delivery = delivery, .pots = 1, .technologies = 1, .most_tied = MAX_N };
+    plan.cap[0] = NO_CAP;
+    plan.technology[0].rqm = 10000;
+    for (unsigned y = 0; y < years; y++) {
+        plan.year[y].days = 365;
+        plan.technology[0].administrative[y] = y < delivery ? 20000 : 0;
+        plan.technology[0].load_factor[y] = 10000;
+    }
+    return plan;
+}
+
+/* One more application, with a bid for all of it. */
+static void add_bidder(struct plan *plan, unsigned technology, unsigned year, uint32_t capacity, uint32_t price)
+{
+    unsigned i = plan->applications++;
+    struct plan_application application = { technology, year, 365, 100 - 7 * i % 64, capacity, 0 };
+    plan->application[i] = application;
+    add_bid_for_all_of_it(plan, i, price);
+}
+
+static void draw_by(struct plan *plan, uint32_t number)
+{
+    plan->with_caps = plan->with_drawn = true;
+    plan->drawn[0] = number;
+}
+
+/* So many of 1.00 MW at 1,000, of which half fit, for 8,760 pounds each. */
+static struct plan plan_of_alike(unsigned tied)
+{
+    struct plan plan = plan_of_a_wide_tie(1, 1);
+    for (unsigned i = 0; i < tied; i++)
+        add_bidder(&plan, 0, 0, 100, 1000);
+    plan.budget[0][0] = 8760 * (tied / 2);
+    return plan;
+}
+
+/* Twenty, and one more that does not fit alone: half are 184,756 to draw from. */
+static struct plan plan_of_twenty(void)
+{
+    struct plan plan = plan_of_alike(20);
+    add_bidder(&plan, 0, 0, 1001, 1000);
+    draw_by(&plan, 1000000007);
+    return plan;
+}
+
+/* Fifteen over three delivery years, no two for the same capacity, and a cap that
+ * is just reached by the odd ones of them. */
+static struct plan plan_of_a_wide_tie_under_a_cap(void)
+{
+    struct plan plan = plan_of_a_wide_tie(3, 4);
+    plan.with_caps = true;
+    plan.cap[0] = 0;
+    for (unsigned i = 0; i < 15; i++) {
+        uint32_t capacity = 100 + i * i;
+        add_bidder(&plan, 0, i % 3, capacity, 1000);
+        plan.cap[0] += i % 2 ? capacity : 0;
+    }
+    for (unsigned y = 0; y < 4; y++)
+        plan.budget[0][y] = MAX_BUDGET;
+    return plan;
+}
+
+/* A winner of each year, whom the tie makes dearer, then sixteen over two years of
+ * whom every fourth costs something in the last year, and the others nothing. */
+static struct plan plan_of_some_free_at_last(void)
+{
+    struct plan plan = plan_of_a_wide_tie(2, 3);
+    plan.technologies = 2;
+    plan.technology[1] = plan.technology[0];
+    plan.technology[1].reference[2] = 20000;
+    add_bidder(&plan, 0, 0, 100, 900);
+    add_bidder(&plan, 0, 1, 100, 900);
+    for (unsigned i = 0; i < 16; i++)
+        add_bidder(&plan, i % 4 != 0, i % 2, 100, 1000);
+    plan.budget[0][0] = 8760 * 4;
+    plan.budget[0][1] = 8760 * 8;
+    plan.budget[0][2] = 8760 * 4;
+    draw_by(&plan, 123456789);
+    return plan;
+}
+
+/* Twelve in year 0 of which any six fit, then eleven in year 1 of which any five
+ * fit beside them: 924 and 462 to draw from. */
+static struct plan plan_of_two_wide_ties(void)
+{
+    struct plan plan = plan_of_a_wide_tie(2, 2);
+    for (unsigned i = 0; i < 23; i++)
+        add_bidder(&plan, 0, i >= 12, 100, i < 12 ? 1000 : 1100);
+    plan.budget[0][0] = 8760 * 6;
+    plan.budget[0][1] = 8760 * 6 + 9636 * 5;
+    draw_by(&plan, 4000000000u);
+    return plan;
+}
+
+/* Twenty-one that remain, all of year 0, or two of them of year 1, and one more, who
+ * is dropped; a winner before them. */
+static struct plan plan_of_twenty_one(unsigned of_year_1, bool drawn)
+{
+    struct plan plan = plan_of_a_wide_tie(2, 2);
+    add_bidder(&plan, 0, 0, 100, 900);
+    for (unsigned i = 0; i < 21; i++)
+        add_bidder(&plan, 0, i < of_year_1, 100, 1000);
+    if (of_year_1 > 0)
+        add_bidder(&plan, 0, 0, 1001, 1000);
+    plan.budget[0][0] = plan.budget[0][1] = 87600;
+    if (drawn)
+        draw_by(&plan, 3);
+    return plan;
+}
+
+size_t make_wide(unsigned which, uint8_t *out)
+{
+    struct plan plan;
+    switch (which) {
+    case 0:
+        plan = plan_of_twenty();
+        break;
+    case 1:
+        plan = plan_of_a_wide_tie_under_a_cap();
+        break;
+    case 2:
+        plan = plan_of_some_free_at_last();
+        break;
+    case 3:
+        plan = plan_of_two_wide_ties();
+        break;
+    case 4:
+        plan = plan_of_alike(17);
+        draw_by(&plan, MAX_DRAWN);
+        break;
+    case 5:
+        plan = plan_of_twenty_one(0, true);
+        break;
+    case 6:
+        plan = plan_of_twenty_one(2, false);
+        break;
+    default:
+        plan = plan_of_alike(22);
+    }
+    return write_plan(&plan, out);
+}
+
 /* 8 years of which 4 delivery, 4 pots with drawn numbers, 32 technologies, 64
  * applications, 256 bids: 4 a head, over the years from the application's on, 3 in a year at
  * most. */
@@ -1252,6 +1576,7 @@ size_t make_largest(uint8_t *out)
     plan_years(&plan, &style);
     plan_technologies(&plan, &style);
     plan_applications(&plan, &style);
+    plan.most_tied = MAX_N;
     for (unsigned i = 0; i < 64; i++) {
         plan.application[i].year = i % 3;
         plan.application[i].days = between(&plan.rng, 1, plan.year[i % 3].days);

@@ -31,6 +31,11 @@ size_t make_round_a_with_cap(uint32_t cap, uint8_t *out);
 size_t make_round_a_drawn(uint32_t cap, uint32_t drawn, uint8_t *out);
 size_t make_largest(uint8_t *out);
 
+/* Wide ties by hand: two that are drawn from, one after the other, and 15, 16, 17
+ * and 20 that remain, and 21 and 22, which are too many. */
+enum { MAKE_WIDE = 8 };
+size_t make_wide(unsigned which, uint8_t *out);
+
 /* Damages a well-formed round in place and answers its new length, at most
  * MAKE_CAPACITY.  Some damages leave a file that is still accepted (a field
  * moved to its very limit, a byte flipped where any will do). */

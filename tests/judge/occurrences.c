@@ -175,6 +175,7 @@ static void print_draws(void)
     occurs("draw from %u", 2, rounds.draw_from[2], all.draw_from[2]);
     occurs("draw from %u or more", 3, rounds.draw_from[3], all.draw_from[3]);
     OCCURS(draw_from_252);
+    OCCURS(draw_from_184756);
     OCCURS(draw_best_not_kept);
     must_not_occur("01 chooses one that is not the last kept", rounds.draw_01_chooses_one_not_last_kept,
                    all.draw_01_chooses_one_not_last_kept);
@@ -256,40 +257,98 @@ static uint64_t ties_in(const struct judge_counts *counts, unsigned taken_low, u
     return sum;
 }
 
+/* So many taken, or remaining. */
+struct span {
+    unsigned least, most;
+};
+
+static void heading_of(struct span span, char *heading, size_t size)
+{
+    if (span.most == 64)
+        snprintf(heading, size, "%u+", span.least);
+    else if (span.most > span.least)
+        snprintf(heading, size, "%u-%u", span.least, span.most);
+    else
+        snprintf(heading, size, "%u", span.least);
+}
+
 static void print_tie_widths(void)
 {
+    static const struct span rows[] = { { 2, 2 }, { 3, 3 }, { 4, 4 }, { 5, 5 }, { 6, 6 }, { 7, 7 }, { 8, 8 }, { 9, 9 },
+                                        { 10, 10 }, { 11, 11 }, { 12, 12 }, { 13, 14 }, { 15, 20 }, { 21, 21 }, { 22, 64 } };
+    static const struct span columns[] = { { 0, 0 }, { 1, 1 }, { 2, 2 }, { 3, 3 }, { 4, 4 }, { 5, 5 }, { 6, 6 }, { 7, 7 },
+                                           { 8, 8 }, { 9, 9 }, { 10, 10 }, { 11, 14 }, { 15, 20 }, { 21, 64 } };
+    enum { ROWS = sizeof rows / sizeof *rows, COLUMNS = sizeof columns / sizeof *columns };
+    char heading[32];
     printf("ties, rounds and damaged together; a row for each number taken,\n"
            "a column for each number remaining, 'fit' where all fitted together\n  taken   fit");
-    for (unsigned r = 0; r <= 10; r++)
-        printf(" %6u", r);
-    printf("    11+\n");
-    for (unsigned t = 2; t <= 13; t++) {
-        unsigned most = t == 13 ? 64 : t;
-        uint64_t fit = 0;
-        for (unsigned u = t; u <= most; u++)
-            fit += all.ties_that_fit[u];
-        printf("  %4u%s %5llu", t, t == 13 ? "+" : " ", (unsigned long long)fit);
-        for (unsigned r = 0; r <= 10; r++)
-            printf(" %6llu", (unsigned long long)ties_in(&all, t, most, r, r));
-        printf(" %6llu\n", (unsigned long long)ties_in(&all, t, most, 11, 64));
+    for (unsigned c = 0; c < COLUMNS; c++) {
+        heading_of(columns[c], heading, sizeof heading);
+        printf(" %6s", heading);
     }
+    printf("\n");
+    for (unsigned r = 0; r < ROWS; r++) {
+        uint64_t fit = 0;
+        for (unsigned t = rows[r].least; t <= rows[r].most; t++)
+            fit += all.ties_that_fit[t];
+        heading_of(rows[r], heading, sizeof heading);
+        printf("  %5s %5llu", heading, (unsigned long long)fit);
+        for (unsigned c = 0; c < COLUMNS; c++)
+            printf(" %6llu", (unsigned long long)ties_in(&all, rows[r].least, rows[r].most, columns[c].least, columns[c].most));
+        printf("\n");
+    }
+}
+
+static void print_wide_ties(void)
+{
+    printf("ties of 11 to 20 that are chosen from, and wider ones\n");
+    OCCURS(wide_tie);
+    OCCURS(wide_tie_of_15_or_more);
+    OCCURS(wide_tie_of_20);
+    OCCURS(wide_tie_of_21_or_more_taken);
+    OCCURS(wide_tie_across_years);
+    OCCURS(wide_tie_with_earlier_winners);
+    OCCURS(wide_tie_but_for_the_cap);
+    OCCURS(wide_tie_but_for_money);
+    OCCURS(wide_tie_of_all_alike);
+    OCCURS(wide_tie_of_all_different);
+    OCCURS(wide_tie_some_free_at_last);
+    OCCURS(wide_tie_by_01);
+    OCCURS(wide_tie_equal_totals);
+    OCCURS(wide_draw);
+    OCCURS(wide_draw_from_more_than_252);
+    OCCURS(wide_draw_best_not_kept);
+    OCCURS(wide_draw_by_a_number_divided);
+    OCCURS(wide_draw_of_a_place_between);
+    OCCURS(too_wide_across_years);
+    OCCURS(too_wide_with_earlier_winners);
+    OCCURS(too_wide_beside_dropped_bids);
 }
 
 static void print_ties(void)
 {
+    enum { MOST = JUDGE_MAX_REMAINING };
     print_tie_widths();
-    for (unsigned t = 2; t <= 12; t++)
+    for (unsigned t = 2; t <= 14; t++)
         occurs("%u taken in a tie that does not fit", t, ties_in(&rounds, t, t, 0, 64),
                ties_in(&all, t, t, 0, 64));
-    occurs("%u or more taken", 13, ties_in(&rounds, 13, 64, 0, 64), ties_in(&all, 13, 64, 0, 64));
-    for (unsigned r = 0; r <= 12; r++)
+    must_occur("15 to 20 taken", ties_in(&rounds, 15, MOST, 0, 64), ties_in(&all, 15, MOST, 0, 64));
+    for (unsigned t = MOST + 1; t <= MOST + 2; t++)
+        occurs("%u taken in a tie that does not fit", t, ties_in(&rounds, t, t, 0, 64),
+               ties_in(&all, t, t, 0, 64));
+    occurs("%u or more taken", MOST + 3, ties_in(&rounds, MOST + 3, 64, 0, 64), ties_in(&all, MOST + 3, 64, 0, 64));
+    for (unsigned r = 0; r <= 14; r++)
         occurs("%u remaining", r, ties_in(&rounds, 2, 64, r, r), ties_in(&all, 2, 64, r, r));
-    occurs("%u or more remaining", 13, ties_in(&rounds, 2, 64, 13, 64), ties_in(&all, 2, 64, 13, 64));
+    must_occur("15 to 19 remaining", ties_in(&rounds, 2, 64, 15, MOST - 1), ties_in(&all, 2, 64, 15, MOST - 1));
+    for (unsigned r = MOST; r <= MOST + 2; r++)
+        occurs("%u remaining", r, ties_in(&rounds, 2, 64, r, r), ties_in(&all, 2, 64, r, r));
+    occurs("%u or more remaining", MOST + 3, ties_in(&rounds, 2, 64, MOST + 3, 64), ties_in(&all, 2, 64, MOST + 3, 64));
     OCCURS(tie_across_years);
     OCCURS(tie_left_a_taken_year_open);
     OCCURS(tie_equal_totals);
     OCCURS(tie_none_remain);
     OCCURS(tie_with_earlier_winners);
+    print_wide_ties();
 }
 
 unsigned print_occurrences(const struct judge_counts *of_rounds, const struct judge_counts *of_all)

@@ -1,7 +1,8 @@
 /* The judge itself is held to all worked cases of document 01, in pence, to
  * totals within a penny of the budget, to what becomes of silence, to caps that
- * are reached and exceeded, to ties that are drawn, to every cut of round A, with
- * a drawn number, with a cap and without, and to the order of the refusals. */
+ * are reached and exceeded, to ties that are drawn, to wide ties and wider ones, to
+ * every cut of round A, with a drawn number, with a cap and without, and to the
+ * order of the refusals. */
 #include "judge.h"
 #include "make.h"
 
@@ -615,32 +616,32 @@ static size_t put_application(uint8_t *p, unsigned won, unsigned bid, unsigned r
     return sizeof record;
 }
 
-/* A silent application is none of those that remain in a tie: ten are chosen
- * from, and eleven are outcome 2. */
+/* A silent application is none of those that remain in a tie: eleven are chosen
+ * from, and twenty-one are outcome 2. */
 static void silent_beside_a_tie(void)
 {
-    static const uint8_t tenth_wins[] = {
+    static const uint8_t last_wins[] = {
         1, 0, 1, 0, 0x20, 0x4E, 0, 0, 0x80, 0x55, 0x0B, 0x01, 0, 0, 0, 0
     };
     static const uint8_t none_wins[] = {
         1, 0, 2, 0, 0xFF, 0xFF, 0xFF, 0xFF, 0, 0, 0, 0, 0, 0, 0, 0
     };
-    for (unsigned tied = 10; tied <= 11; tied++) {
+    for (unsigned tied = 11; tied <= 21; tied += 10) {
         struct round_file f = tied_and_one_silent(tied);
         uint8_t expected[JUDGE_MAX_RESULT] = { 0 };
-        bool wide = tied > 10;
+        bool wide = tied > JUDGE_MAX_REMAINING;
         size_t len = sizeof none_wins;
-        memcpy(expected, wide ? none_wins : tenth_wins, len);
+        memcpy(expected, wide ? none_wins : last_wins, len);
         expected[len] = (uint8_t)(tied + 1);
         len += 2;
         for (unsigned i = 0; i < tied; i++)
-            len += i == 9 && !wide ? put_application(expected + len, 1, 9, 0, 20000)
-                                   : put_application(expected + len, 0, 65535, 0, 0);
+            len += i == tied - 1 && !wide ? put_application(expected + len, 1, i, 0, 20000)
+                                          : put_application(expected + len, 0, 65535, 0, 0);
         len += put_application(expected + len, 0, 65535, wide ? 7 : 8, 0);
         expected[len] = (uint8_t)tied;
         len += 2;
         for (unsigned i = 0; i < tied; i++, len += 2)
-            expected[len] = wide ? 7 : i == 9 ? 1 : 3;
+            expected[len] = wide ? 7 : i == tied - 1 ? 1 : 3;
         gives(&f, expected, len);
     }
 }
@@ -812,20 +813,25 @@ static void cap_and_most_money(void)
     reasons_under_cap(&f, 99, "33");
 }
 
-/* Twelve tied: without the cap more than 10 would remain. */
+/* Twelve and twenty-two tied, of whom three are smaller: with twenty-two, more than
+ * 20 would remain without the cap.  Twelve are chosen from: 2.00 MW, or three times
+ * 0.60, which cost less. */
 static void cap_and_wide_tie(void)
 {
-    struct round_file f = start_of_year_0_alone(PLENTY);
-    add(&f, 2, 12);
-    for (unsigned i = 0; i < 12; i++)
-        add_application(&f, 0, 100 - i, i < 9 ? 200 : 60);
-    add(&f, 2, 12);
-    for (unsigned i = 0; i < 12; i++)
-        add_bid(&f, i, 0, i < 9 ? 200 : 60, 4000);
-    reasons_under_cap(&f, 200, "777777777777");
-    reasons_under_cap(&f, 199, "333333333111");
-    reasons_under_cap(&f, 179, "333333333311");
-    reasons_under_cap(&f, 59, "333333333333");
+    for (unsigned tied = 12; tied <= 22; tied += 10) {
+        struct round_file f = start_of_year_0_alone(PLENTY);
+        add(&f, 2, tied);
+        for (unsigned i = 0; i < tied; i++)
+            add_application(&f, 0, 100 - i, i < tied - 3 ? 200 : 60);
+        add(&f, 2, tied);
+        for (unsigned i = 0; i < tied; i++)
+            add_bid(&f, i, 0, i < tied - 3 ? 200 : 60, 4000);
+        bool wide = tied > JUDGE_MAX_REMAINING;
+        reasons_under_cap(&f, 200, wide ? "7777777777777777777777" : "333333331333");
+        reasons_under_cap(&f, 199, wide ? "3333333333333333333111" : "333333333111");
+        reasons_under_cap(&f, 179, wide ? "3333333333333333333311" : "333333333311");
+        reasons_under_cap(&f, 59, wide ? "3333333333333333333333" : "333333333333");
+    }
 }
 
 /* ---- drawn numbers ---- */
@@ -1019,34 +1025,82 @@ static struct round_file tied_at_4000(unsigned applications)
     return f;
 }
 
+/* The last two, of the lowest draws, win, and of twenty-one none. */
 static void widest_ties(void)
 {
     char out[JUDGE_LISTING_CAP];
-    struct round_file ten = tied_at_4000(10);
-    int len = judge_listing(ten.bytes, ten.len, out, sizeof out);
-    static const char ten_starts[] = "pot 0 auction\nyear 0 price 4000 total 7008000\napplication 0 lost\n";
-    assert(len > 0 && memcmp(out, ten_starts, sizeof ten_starts - 1) == 0);
+    for (unsigned tied = 10; tied <= 11; tied++) {
+        struct round_file f = tied_at_4000(tied);
+        int len = judge_listing(f.bytes, f.len, out, sizeof out);
+        static const char starts[] = "pot 0 auction\nyear 0 price 4000 total 7008000\napplication 0 lost\n";
+        assert(len > 0 && memcmp(out, starts, sizeof starts - 1) == 0);
+        out[len] = 0;
+        assert(strstr(out, tied == 10 ? "application 7 lost\napplication 8 won 4000 bid 8\napplication 9 won 4000 bid 9\n"
+                                      : "application 8 lost\napplication 9 won 4000 bid 9\napplication 10 won 4000 bid 10\n"));
+    }
+    struct round_file f = tied_at_4000(21);
+    int len = judge_listing(f.bytes, f.len, out, sizeof out);
+    static const char starts[] = "pot 0 tie\nyear 0 price - total 0\napplication 0 lost\n";
+    assert(len > 0 && memcmp(out, starts, sizeof starts - 1) == 0);
     out[len] = 0;
-    assert(strstr(out, "application 7 lost\napplication 8 won 4000 bid 8\napplication 9 won 4000 bid 9\n"));
-    struct round_file eleven = tied_at_4000(11);
-    len = judge_listing(eleven.bytes, eleven.len, out, sizeof out);
-    static const char eleven_starts[] = "pot 0 tie\nyear 0 price - total 0\napplication 0 lost\n";
-    assert(len > 0 && memcmp(out, eleven_starts, sizeof eleven_starts - 1) == 0);
-    out[len] = 0;
-    assert(strstr(out, "application 10 lost\nbid 0 reason 7\n"));
+    assert(strstr(out, "application 20 lost\nbid 0 reason 7\n"));
 }
 
 /* Ten alike, of which two fit: 45 pairs, from the two highest draws to the two
- * lowest; eleven are too many. */
+ * lowest; of eleven 55; twenty-one are too many. */
 static void widest_draws(void)
 {
-    struct round_file ten = tied_at_4000(10), eleven = tied_at_4000(11);
+    struct round_file ten = tied_at_4000(10), eleven = tied_at_4000(11), twenty_one = tied_at_4000(21);
     reasons_drawn(&ten, JUDGE_NO_CAP, 0, "1133333333");
     reasons_drawn(&ten, JUDGE_NO_CAP, 1, "1313333333");
     reasons_drawn(&ten, JUDGE_NO_CAP, 2, "3113333333");
     reasons_drawn(&ten, JUDGE_NO_CAP, 44, "3333333311");
     reasons_drawn(&ten, JUDGE_NO_CAP, 45, "1133333333");
-    reasons_drawn(&eleven, JUDGE_NO_CAP, 0, "77777777777");
+    reasons_drawn(&eleven, JUDGE_NO_CAP, 0, "11333333333");
+    reasons_drawn(&eleven, JUDGE_NO_CAP, 54, "33333333311");
+    reasons_drawn(&eleven, JUDGE_NO_CAP, 55, "11333333333");
+    reasons_drawn(&twenty_one, JUDGE_NO_CAP, 0, "777777777777777777777");
+}
+
+/* So many at 1,000, draws 0, 1, and so on, of 1.00 MW, for 8,760 each, but for the
+ * last. */
+static struct round_file tied_at_1000(unsigned tied, uint32_t last, uint64_t budget)
+{
+    uint32_t capacities[JUDGE_MAX_APPLICATIONS], prices[JUDGE_MAX_APPLICATIONS];
+    for (unsigned i = 0; i < tied; i++) {
+        capacities[i] = i < tied - 1 ? 100 : last;
+        prices[i] = 1000;
+    }
+    return one_bid_each(budget, tied, capacities, prices);
+}
+
+/* Any five of eleven: 462, of which the smallest number holds the five highest
+ * draws, and the largest, which 01 chooses, the five lowest. */
+static void eleven_at_one_price(void)
+{
+    struct round_file f = tied_at_1000(11, 100, 43800);
+    has_reasons(&f, "11111333333");
+    reasons_under_cap(&f, JUDGE_NO_CAP, "11111333333");
+    reasons_drawn(&f, JUDGE_NO_CAP, 461, "11111333333");
+    reasons_drawn(&f, JUDGE_NO_CAP, 0, "33333311111");
+    reasons_drawn(&f, JUDGE_NO_CAP, 1, "33333131111");
+    reasons_drawn(&f, JUDGE_NO_CAP, 462, "33333311111");
+    /* the cap takes the place of money: any four, 330 */
+    reasons_drawn(&f, 499, 329, "11113333333");
+    reasons_drawn(&f, 499, 330, "33333331111");
+}
+
+/* Any ten of twenty: 184,756.  One more that does not fit alone is taken with them
+ * and dropped; one more that does is one too many.  The judge takes its time for
+ * these, so they are two. */
+static void twenty_at_one_price(void)
+{
+    struct round_file twenty = tied_at_1000(20, 100, 87600), one_dropped = tied_at_1000(21, 1001, 87600);
+    struct round_file twenty_one = tied_at_1000(21, 100, 87600);
+    reasons_drawn(&twenty, JUDGE_NO_CAP, 184755, "11111111113333333333");
+    reasons_drawn(&one_dropped, JUDGE_NO_CAP, 184756, "333333333311111111113");
+    has_reasons(&twenty_one, "777777777777777777777");
+    reasons_drawn(&twenty_one, JUDGE_NO_CAP, 184755, "777777777777777777777");
 }
 
 static void valuation_only_year(void)
@@ -1246,6 +1300,8 @@ static void drawn_ties(void)
     drawn_after_one_best_or_none();
     last_year_at_no_cost();
     widest_draws();
+    eleven_at_one_price();
+    twenty_at_one_price();
 }
 
 int main(void)

@@ -10,6 +10,7 @@ int snprintf(char *, size_t, const char *, ...) __attribute__((format(printf, 3,
 int vsnprintf(char *, size_t, const char *, va_list);
 FILE *fopen(const char *, const char *);
 size_t fread(void *, size_t, size_t, FILE *);
+size_t fwrite(const void *, size_t, size_t, FILE *);
 int ferror(FILE *);
 int fclose(FILE *);
 #endif
