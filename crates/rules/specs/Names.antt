@@ -173,9 +173,9 @@ auctioned = 1
 abbrev pub tooWide : ℕ
 tooWide = 2
 
--- "If more than 10 remain"
+-- "a search .. for up to 20 remaining bids"; "Outcome 2 is from then on given for 21 or more" (02, CR 7)
 abbrev pub widestTie : ℕ
-widestTie = 10
+widestTie = 20
 
 -- ---- "The result and its listing"
 

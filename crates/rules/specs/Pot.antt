@@ -267,11 +267,11 @@ module _ (P : Pot) where
       let out = others l ch in
       record { wins = ch; downs = out; why = downTied; closes = map (P .yr) out; hangs = []; wide = false; ways = waysOf (winners s) l }
 
-  -- "If more than 10 remain, outcome 2": the step that ends the pot
+  -- "outcome 2 (H): no price, totals 0, no winner in this pot": the step that ends the pot
   abbrev pub endedWide : Event
   endedWide = record { wins = []; downs = []; why = downTied; closes = []; hangs = []; wide = true; ways = 1 }
 
-  -- 3, of several bids
+  -- 3, of several bids; where 01 has "If more than 10 remain, outcome 2", "Outcome 2 is from then on given for 21 or more" (02, CR 7)
   unfoldable pub tied : Trace → List ℕ → Event
   tied s l = pick (ltb widestTie (length (remaining (winners s) l))) endedWide (shared s l)
 

@@ -2,17 +2,20 @@
 -- for what they leave open. Assumes nothing.
 use Prim.Native.Nat.{ℕ, _+_, _*_, _/_, _^_}
 use mathlib.Core.Path.{_≡_, refl}
+use mathlib.Core.Bool.{Bool, true, false}
+use mathlib.Core.Option.{Option, none}
 use mathlib.Core.List.{List, [], _∷_, _++_}
 use native.Mathlib.Decide.{decLe, decLt, ℕ-discrete}
+use lib.Dec.{ltb}
 use lib.ListN.{length, replicate}
 use Rattle.rules.specs.Names.{noCap, noPrice}
-use Rattle.rules.specs.Lists.{given, both, when, never, one-more, every, howMany, sum}
+use Rattle.rules.specs.Lists.{pick, below, given, both, when, never, one-more, every, howMany, sum}
 use Rattle.rules.specs.Bytes.{le, bytes, each, onto}
 use Rattle.rules.specs.Value.{exactParts, hoursOf}
 use Rattle.rules.specs.File.{deliveries, potsTold, gainedTold, sections, roundOf, sectionsOf}
 use Rattle.rules.specs.Refusals.{orElse, orFault, scan, countFault, recordFault, section, yearFault, potFault, techFault, appFault, sevenOf, eightOf}
 use Rattle.rules.specs.Refusals.{nineOf, bidFault, elevenOf, judged, reading, refusal, place}
-use Rattle.rules.specs.Pot.{winners, downs, seen, closed, hanging, wideEnd, mark, divided, goesOn, atMost, best, all, atPlace, value, priceFrom, tally}
+use Rattle.rules.specs.Pot.{Pot, winners, downs, seen, closed, hanging, wideEnd, mark, divided, goesOn, atMost, best, all, atPlace, value, priceFrom, tally}
 use Rattle.rules.specs.Pot.{within, live, least, lowest, taken, follows, remaining, rank, combination, topNumber, full, keeps, kept, number, chosen}
 use Rattle.rules.specs.Pot.{choose, waysOf, tied, alone, lost, look, run, auction, adminTotal, adminCapacity, adminFits, outcome}
 use Rattle.rules.specs.Pot.{priceIn, totalIn, paid, unlookedReason, auctionReason, reason, silent, automaticReason, winnersOf}
@@ -140,13 +143,6 @@ Own =
     -- a bid not looked at, whose application has won
     × Gives (single 150000 (app 0 0 200 ∷ app 0 1 300 ∷ []) (bid 0 0 100 4000 ∷ bid 0 0 200 5000 ∷ bid 1 0 300 5000 ∷ bid 1 0 200 6000 ∷ []))
     (result (potTold 1 (4000 ∷ []) (3504000 ∷ []) ∷ []) (line 1 0 4000 ∷ line 0 65535 0 ∷ []) (1 ∷ 4 ∷ 2 ∷ 2 ∷ []))
-    -- eleven tied bids, of which nine do not fit alone and are dropped: two remain
-    × Gives (single 90000 (app 0 0 100 ∷ app 0 1 100 ∷ times 9 (λ i. app 0 (2 + i) 1000)) (bid 0 0 100 4000 ∷ bid 1 0 100 4000 ∷
-    times 9 (λ i. bid (2 + i) 0 1000 4000)))
-    (result (potTold 1 (4000 ∷ []) (7008000 ∷ []) ∷ []) (line 1 0 4000 ∷ line 1 1 4000 ∷ times 9 (λ i. line 0 65535 0)) (1 ∷ 1 ∷ replicate 9 3))
-    -- eleven that each fit alone remain: outcome 2
-    × Gives (single 200000 (times 12 (λ i. app 0 i 100)) (times 11 (λ i. bid i 0 100 4000)))
-    (result (potTold 2 (noPrice ∷ []) (0 ∷ []) ∷ []) (times 11 (λ i. line 0 65535 0) ++ (lineWith 0 65535 7 0 ∷ [])) (replicate 11 7))
     -- an application's own dearer bid is looked at next where no other bid is lower: it wins and the year closes
     × Gives (single 110000 (app 0 0 300 ∷ app 0 1 100 ∷ []) (bid 0 0 300 6000 ∷ bid 0 0 200 6001 ∷ bid 1 0 100 6100 ∷ []))
     (result (potTold 1 (6001 ∷ []) (10513752 ∷ []) ∷ []) (line 1 1 6001 ∷ line 0 65535 0 ∷ []) (2 ∷ 1 ∷ 5 ∷ []))
@@ -274,6 +270,58 @@ Drawn =
     (result (potTold 1 (4000 ∷ []) (3504000 ∷ []) ∷ potTold 1 (4000 ∷ []) (3504000 ∷ []) ∷ [])
     (line 0 65535 0 ∷ line 1 1 4000 ∷ line 1 2 4000 ∷ line 0 65535 0 ∷ []) (3 ∷ 1 ∷ 1 ∷ 3 ∷ []))
 
+-- ---- wide ties (02, CR 7)
+
+-- so many bids tie at a price of 1 in one year, bid k of application k, and one more application has no bid. The bids numbered below `alone` cost a penny
+-- each, and five of them fit; no other fits even alone
+abbrev tiedPot : (bids alone : ℕ) → Pot
+tiedPot bids alone = record {
+  bids = below bids;
+  apps = below (1 + bids);
+  years = 1;
+  scale = 1;
+  app = λ k. k;
+  yr = λ k. 0;
+  price = λ k. 1;
+  cost = λ k p y. pick (ltb k alone) 1 6 * p;
+  budget = λ y. 5;
+  draw = λ k. k;
+  admin = λ k. 2;
+  capacity = λ k. 0;
+  cap = none;
+  drawn = none;
+  adminPrice = λ a. 2;
+  adminCost = λ a y. 2;
+  appCapacity = λ a. 0;
+}
+
+-- is the first look, at all the bids, the end of the pot?
+abbrev endsWide : Pot → Bool
+endsWide P = look P [] (taken P []) .wide
+
+-- a file of 21 tied bids, each of which fits alone, and five together
+abbrev wideFile : List ℕ
+wideFile = single 200000 (times 21 (λ i. app 0 i 100)) (times 21 (λ i. bid i 0 100 4000))
+
+-- rows of pots, and of parts of a result: the whole result of a file with 21 bids would take the checker some seconds
+abbrev Wide : Type 0
+Wide =
+    -- 21 remain: outcome 2. 20 do not end the pot; no more is computed of them here, for they have a million combinations
+    (endsWide (tiedPot 21 21) ≡ true)
+    × (endsWide (tiedPot 20 20) ≡ false)
+    -- 21 are taken, of which one does not fit alone and is dropped: 20 remain
+    × (endsWide (tiedPot 21 20) ≡ false)
+    -- 19 are dropped: the two that remain win, and the others are turned down in the tie
+    × (winners (auction (tiedPot 21 2)) ≡ 1 ∷ 0 ∷ [])
+    × (reason (tiedPot 21 2) 20 ≡ 3)
+    -- outcome 2: lost, with and without a bid, and the reason of a bid
+    × (appBytes (toldIn (tiedPot 21 21) 0) ≡ line 0 65535 0)
+    × (appBytes (toldIn (tiedPot 21 21) 21) ≡ lineWith 0 65535 7 0)
+    × (reason (tiedPot 21 21) 20 ≡ 7)
+    -- a file: it is accepted, and this is the pots section of its result
+    × (refusal (reading wideFile) ≡ 0)
+    × (potsPart (roundOf wideFile) ≡ counted (potTold 2 (noPrice ∷ []) (0 ∷ []) ∷ []))
+
 -- ---- files that are turned away
 
 -- the file is refused so, and the three bytes lent stay
@@ -388,7 +436,7 @@ Answers =
     × ((refusal (reading (2 ∷ [])) ≡ 1) × (place (reading (counted (year ∷ []))) ≡ 8))
     × ((lengthOf (roundA 100000 100000) ≡ 68) × (lengthOf (2 ∷ []) ≡ 0))
 
-pub worked : Marked × (Own × (Caps × (Drawn × (Refusals × Answers))))
+pub worked : Marked × (Own × (Caps × (Drawn × (Wide × (Refusals × Answers)))))
 unfolding times counted joined nums given both when never one-more every howMany sum le bytes each onto exactParts hoursOf deliveries potsTold gainedTold
     sections roundOf sectionsOf orElse orFault scan countFault recordFault section yearFault potFault techFault appFault sevenOf eightOf nineOf bidFault
     elevenOf judged reading winners downs seen closed hanging wideEnd mark divided goesOn atMost best all atPlace value priceFrom tally within live least
@@ -399,29 +447,32 @@ unfolding times counted joined nums given both when never one-more every howMany
 worked = (
   (refl, refl, refl, refl, refl, refl, refl, refl, refl, refl, refl, refl, refl, refl),
   (
-    (refl, refl, refl, refl, refl, refl, refl, refl, refl, refl, refl, refl, refl, refl, refl, refl),
+    (refl, refl, refl, refl, refl, refl, refl, refl, refl, refl, refl, refl, refl, refl),
     (
       (refl, refl, refl, refl, refl, refl, refl, refl, refl, refl, refl, refl, refl, refl),
       (
         (refl, refl, refl, refl, refl, refl, refl, refl, refl, refl, refl, refl),
         (
+          (refl, refl, refl, refl, refl, refl, refl, refl, refl, refl),
           (
-            (refl, refl, refl),
-            (refl, refl, refl, refl, refl, refl, refl, refl),
-            (refl, refl, refl, refl, refl, refl, refl),
-            (refl, refl, refl),
-            (refl, refl, refl, refl, refl),
-            (refl, refl, refl, refl, refl),
-            (refl, refl, refl, refl, refl, refl, refl, refl),
-            (refl, refl, refl, refl, refl, refl, refl),
-            (refl, refl, refl, refl, refl, refl, refl, refl, refl, refl),
-            refl,
-            (refl, refl),
-            refl,
-            refl,
-            refl,
+            (
+              (refl, refl, refl),
+              (refl, refl, refl, refl, refl, refl, refl, refl),
+              (refl, refl, refl, refl, refl, refl, refl),
+              (refl, refl, refl),
+              (refl, refl, refl, refl, refl),
+              (refl, refl, refl, refl, refl),
+              (refl, refl, refl, refl, refl, refl, refl, refl),
+              (refl, refl, refl, refl, refl, refl, refl),
+              (refl, refl, refl, refl, refl, refl, refl, refl, refl, refl),
+              refl,
+              (refl, refl),
+              refl,
+              refl,
+              refl,
+            ),
+            ((refl, refl, refl, refl), (refl, refl), (refl, refl), (refl, refl), (refl, refl)),
           ),
-          ((refl, refl, refl, refl), (refl, refl), (refl, refl), (refl, refl), (refl, refl)),
         ),
       ),
     ),
