@@ -8,7 +8,7 @@ use native.Mathlib.Numerals.{add-one}
 use native.Mathlib.Omega.{arith}
 use lib.ListN.{length, getD, set, replicate, length-set}
 use lib.Seq.{getD-set-same, getD-set-other}
-use native.Mathlib.Decide.{decLt}
+use native.Mathlib.Decide.{decLe, decLt}
 use lib.Dec.{eqb, ltb}
 use borrow.Author.Tests.{eqb-true, eqb-false, eq-eqb, ne-eqb, lt-ltb, le-ltb}
 use Rattle.rules.specs.Names.{mostBids}
@@ -79,6 +79,17 @@ unfolding fill
 fill-stays l f n d e h v =
     e ∙ set-same (fill l f n) n d (omega (arith, fill-length l f n)) ∙ ap (set (fill l f n) n) (fill-rest l f n n d (omega arith) ∙ sym v)
     ∙ ap (λ (x : ℕ). fill l f x) (sym (add-one n))
+
+-- and so do all those up to m
+pub fill-rests : {A : Type 0} (l : List A) (f : ℕ → A) (n m : ℕ) (d : A) {out : List A} → out ≡ fill l f n → n ≤ m → m ≤ length l
+    → ((i : ℕ) → n ≤ i → i < m → f i ≡ getD l i d) → out ≡ fill l f m
+fill-rests l f n zero d e h g v = e ∙ ap (fill l f) (omega arith)
+fill-rests l f n (suc m) d e h g v =
+    elim (decLe n m) [
+      | yes y ↦ fill-stays l f m d (fill-rests l f n m d e y (omega arith) (λ i a b. v i a (omega arith))) (omega arith) (v m y (omega arith))
+          ∙ ap (fill l f) (add-one m)
+      | no z ↦ e ∙ ap (fill l f) (omega (arith, z))
+    ]
 
 -- an array into which values are laid has these at their places, and all else as it was
 pub placed-length : {A : Type 0} (f : ℕ → A) (l : List A) (at n : ℕ) → length (placed f l at n) ≡ length l

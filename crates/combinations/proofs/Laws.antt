@@ -19,9 +19,9 @@ use Rattle.sheet.specs.declared.Size.{Size}
 use Rattle.sheet.specs.Sheet.{columns, rowYear, rowDraw}
 use Rattle.totals.specs.Totals.{worthOf, totalOf, noRow, filled}
 use Rattle.combinations.specs.declared.Tied.{Tied}
-use Rattle.combinations.specs.Combinations.{partSize, partRows, repricedTo, baseAt, noBase, compactOf, listed, aboveOf, rankOf, startOf, ranksOf}
-use Rattle.combinations.specs.Combinations.{startsOf, tiedOf, ownAt, touchOf, touchedOf, combinedOf, oneAt, costsOf, oneYearAt, yearsOf, costsAt}
-use Rattle.combinations.specs.Combinations.{datesAt, tableLength, tableAt, noTable, tableBy, jointOf}
+use Rattle.combinations.specs.Combinations.{partSize, twoParts, threeParts, repricedTo, baseAt, noBase, compactOf, listed, aboveOf, rankOf, startOf}
+use Rattle.combinations.specs.Combinations.{ranksOf, startsOf, tiedOf, ownAt, touchOf, touchedOf, combinedOf, oneAt, costsOf, oneYearAt, yearsOf}
+use Rattle.combinations.specs.Combinations.{costsAt, datesAt, tableLength, tableAt, noTable, tableBy, partCost, jointOf}
 
 -- ---- the present winners
 module _ (prices : List ℕ) (p t d : ℕ) {b : Bool} {row : List ℕ} (eb : b ≡ has t d) (er : row ≡ repricedTo prices p t d) where
@@ -162,11 +162,11 @@ pub table-ends : (base own ranks starts : List ℕ) (k : ℕ) {costs dates out :
 unfolding tableBy
 table-ends base own ranks starts k {costs} {dates} {out} ec ed eo h g = rw (ec, ed) at (done (fill noTable (tableAt base costs dates)) eo h g)
 
-pub joint-is : (table : List ℕ) (mask t c : ℕ) {n : ℕ} → n ≡ mask
-    → getD table (t * columns + c) 0 + getD table (costsAt + n % partSize * columns + c) 0 + getD table (costsAt + partRows + n / partSize * columns + c) 0
-    ≡ jointOf table mask t c
+pub joint-is : (table : List ℕ) (mask t c : ℕ) {low second third high : ℕ} → low ≡ partCost table 0 (mask % partSize) c
+    → second ≡ partCost table 1 (mask / partSize % partSize) c → third ≡ partCost table 2 (mask / twoParts % partSize) c
+    → high ≡ partCost table 3 (mask / threeParts) c → getD table (t * columns + c) 0 + low + second + third + high ≡ jointOf table mask t c
 unfolding jointOf
-joint-is table mask t c e = rw e
+joint-is table mask t c el es et eh = rw (el, es, et, eh)
 
 -- ---- what is gathered
 pub tied-is : (sheet : List ℕ) (of : Size) (l : List Bool) (k : ℕ) {list ranks starts : List ℕ} → list ≡ compactOf l (of .bids) → ranks ≡ ranksOf sheet list k

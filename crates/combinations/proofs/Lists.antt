@@ -21,7 +21,7 @@ use Rattle.combinations.specs.Combinations.{yearSets, Bounded, repricedT
 use Rattle.combinations.specs.Combinations.{rankOf, ranksOf, startOf, startsOf, tiedOf, Few, Numbers, Gathered, ownAt, noOwn, ownsOf, Owned}
 
 -- ---- the list of a set is its members
-compact-length : (l : List Bool) (n : ℕ) → length (compactOf l n) ≡ 10
+compact-length : (l : List Bool) (n : ℕ) → length (compactOf l n) ≡ widestTie
 unfolding compactOf noList
 compact-length l zero = refl
 compact-length l (suc n) =
@@ -58,10 +58,11 @@ unfolding members
 members-miss l n f = rw f
 
 -- there is room for the next one
-pub compact-room : (l : List Bool) (i q : ℕ) {c : ℕ} → getD l i false ≡ true → i < q → c ≡ length (members l i) → length (members l q) ≤ 10 → c < 10
+pub compact-room : (l : List Bool) (i q : ℕ) {c : ℕ} → getD l i false ≡ true → i < q → c ≡ length (members l i) → length (members l q) ≤ widestTie
+    → c < widestTie
 compact-room l i q t h e g = omega (arith, members-less l (suc i) q h, ap length (members-hit l i t))
 
-pub listed-compact : (l : List Bool) (n : ℕ) → length (members l n) ≤ 10 → listed (compactOf l n) (length (members l n)) ≡ members l n
+pub listed-compact : (l : List Bool) (n : ℕ) → length (members l n) ≤ widestTie → listed (compactOf l n) (length (members l n)) ≡ members l n
 unfolding compactOf
 listed-compact l zero h = unfold listed members in refl
 listed-compact l (suc n) h =
@@ -73,7 +74,7 @@ listed-compact l (suc n) h =
     (λ f. rw (f, members-miss l n f) ih)
 
 -- the numbers of the list
-module _ (l : List Bool) (q : ℕ) {k : ℕ} {list : List ℕ} (ek : k ≡ length (members l q)) (h : k ≤ 10) (el : list ≡ compactOf l q) where
+module _ (l : List Bool) (q : ℕ) {k : ℕ} {list : List ℕ} (ek : k ≡ length (members l q)) (h : k ≤ widestTie) (el : list ≡ compactOf l q) where
   pub listed-is : listed list k ≡ members l q
   listed-is = rw (el, ek) (listed-compact l q (omega arith))
 
@@ -114,15 +115,15 @@ module _ (sheet : List ℕ) (of : Size) (list : List ℕ) (k : ℕ) (v : Ready s
       (λ f. rw f (omega arith)))
       (λ j. rw (zeros (widestTie * columns) j) (omega arith))
 
-  ten : length noList ≡ 10
+  widest : length noList ≡ widestTie
   unfolding noList
-  ten = refl
+  widest = refl
 
   pub rank-at : (j : ℕ) → j < k → getD (ranksOf sheet list k) j 0 ≡ rankOf sheet list k j
-  rank-at j g = fill-at noList (rankOf sheet list k) k j 0 (omega (arith, N .few, ten)) g
+  rank-at j g = fill-at noList (rankOf sheet list k) k j 0 (omega (arith, N .few, widest)) g
 
   pub start-at : (j : ℕ) → j < k → getD (startsOf sheet list k) j 0 ≡ startOf sheet list j
-  start-at j g = fill-at noList (startOf sheet list) k j 0 (omega (arith, N .few, ten)) g
+  start-at j g = fill-at noList (startOf sheet list) k j 0 (omega (arith, N .few, widest)) g
 
   -- a bid has no higher draw than its own
   rank-low : (j : ℕ) → j < k → rankOf sheet list k j < k
@@ -148,7 +149,7 @@ tied-gathered sheet of l k v F et = rw et (record {
   numbers = N;
   placed = record {
     few = F .few;
-    ranks = λ j g. omega (arith, F .few, rank-at sheet of (compactOf l (of .bids)) k v N j g, rank-low sheet of (compactOf l (of .bids)) k v N j g);
+    ranks = λ j g. omega (arith, rank-at sheet of (compactOf l (of .bids)) k v N j g, rank-low sheet of (compactOf l (of .bids)) k v N j g);
     starts = λ j g. rw (start-at sheet of (compactOf l (of .bids)) k v N j g) (start-low sheet of (compactOf l (of .bids)) k v N j g);
   };
 })

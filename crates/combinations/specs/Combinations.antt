@@ -18,22 +18,28 @@ use Rattle.combinations.specs.declared.Tied.{Tied}
 
 -- ---- numbers as sets, by their binary places
 
--- the sets of delivery years; the combinations of as many bids as a tie may have; the places of one part of a combination's number, the numbers of a
--- part, and these with a row of columns for each
+-- the sets of delivery years; the combinations of as many bids as a tie may have; the parts of a combination's number, and the places of one; the numbers of
+-- one part, of two and of three; and those of one with a row of columns for each
 abbrev pub yearSets : ℕ
 yearSets = 16
 
 abbrev pub combinations : ℕ
-combinations = 1024
+combinations = 1048576
 
 abbrev pub parts : ℕ
-parts = 2
+parts = 4
 
 abbrev pub partPlaces : ℕ
 partPlaces = 5
 
 abbrev pub partSize : ℕ
 partSize = 32
+
+abbrev pub twoParts : ℕ
+twoParts = partSize * partSize
+
+abbrev pub threeParts : ℕ
+threeParts = partSize * twoParts
 
 abbrev pub partRows : ℕ
 partRows = partSize * columns
@@ -114,7 +120,7 @@ pub record Numbers (list : List ℕ) (count m : ℕ) : Type 0 where
 
 pub record Placed (tied : Tied) : Type 0 where
   pub few : tied .count ≤ widestTie
-  pub ranks : (j : ℕ) → j < tied .count → getD (tied .ranks) j 0 < widestTie
+  pub ranks : (j : ℕ) → j < tied .count → getD (tied .ranks) j 0 < tied .count
   pub starts : (j : ℕ) → j < tied .count → getD (tied .starts) j 0 < mostDeliveries
 
 -- what is gathered of a set of few bids
@@ -148,7 +154,7 @@ pub record Owned (own : List ℕ) (tied : Tied) : Type 0 where
   pub bids : Bounded own dearest
   pub placed : Placed tied
 
--- ---- the same by the two parts of its number: v + 32 * u is that of its five low places and that of its five high ones
+-- ---- the same by the four parts of its number: that of its five lowest places, of the next five, of those after them and of the five highest
 
 -- what the bids of a combination count in column c
 unfoldable pub combinedOf : (own ranks : List ℕ) (mask c count : ℕ) → ℕ
@@ -206,20 +212,36 @@ noTable = replicate tableLength 0
 unfoldable pub tableBy : (base own ranks starts : List ℕ) (count : ℕ) → List ℕ
 tableBy base own ranks starts count = fill noTable (tableAt base (costsOf own ranks count) (yearsOf ranks starts count)) tableLength
 
+-- of the number v of one part what its bids count in column c, and the years that they touch
+abbrev pub partCost : (table : List ℕ) (part v c : ℕ) → ℕ
+partCost table part v c = getD table (costsAt + part * partRows + v * columns + c) 0
+
+abbrev pub partYears : (table : List ℕ) (part v : ℕ) → ℕ
+partYears table part v = getD table (datesAt + part * partSize + v) 0
+
 -- the total of a combination, and the years that it touches
 unfoldable pub jointOf : (table : List ℕ) (mask t c : ℕ) → ℕ
 jointOf table mask t c =
-    getD table (t * columns + c) 0 + getD table (costsAt + mask % partSize * columns + c) 0 + getD table (costsAt + partRows + mask / partSize * columns + c) 0
+    getD table (t * columns + c) 0 + partCost table 0 (mask % partSize) c + partCost table 1 (mask / partSize % partSize) c
+    + partCost table 2 (mask / twoParts % partSize) c + partCost table 3 (mask / threeParts) c
 
 unfoldable pub unionOf : (table : List ℕ) (mask : ℕ) → ℕ
-unionOf table mask = bitOr (getD table (datesAt + mask % partSize) 0) (getD table (datesAt + partSize + mask / partSize) 0)
+unionOf table mask =
+    bitOr (partYears table 0 (mask % partSize))
+    (bitOr (partYears table 1 (mask / partSize % partSize))
+    (bitOr (partYears table 2 (mask / twoParts % partSize)) (partYears table 3 (mask / threeParts))))
 
 -- what the table holds: no number above the dearest winners, and there are four delivery years
 pub record Tabled (table : List ℕ) : Type 0 where
   pub small : Bounded table mostBase
   pub years : (i : ℕ) → datesAt ≤ i → getD table i 0 < yearSets
 
--- what is read of the combination `mask`, which touches the years t
+-- what is read of the number v of one part; and of the combination `mask`, which touches the years t
+pub record Parted (table : List ℕ) (part v : ℕ) : Type 0 where
+  pub tables : Tabled table
+  pub among : part < parts
+  pub number : v < partSize
+
 pub record Joining (table : List ℕ) (mask t : ℕ) : Type 0 where
   pub tables : Tabled table
   pub number : mask < combinations

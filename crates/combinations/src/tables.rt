@@ -1,16 +1,20 @@
 // What the bids of a tie count in each column, and in which delivery years they start: of each bid, and of each combination of the places of one part of its
 // number; and beside what the present winners count, in one table, off which a combination is read.
 ghost use mathlib.Core.Path.{_≡_};
-ghost use Prim.Native.Nat.{_*_, _/_, _<_};
+ghost use Prim.Native.Nat.{_*_, _/_, _≤_, _<_};
 ghost use Rattle.sheet.specs.Sheet.{columns, Ready};
-ghost use Rattle.combinations.specs.Combinations.{yearSets, combinations, tableLength, Numbers, Placed, Owned, ownAt, ownsOf, touchedOf, combinedOf};
-ghost use Rattle.combinations.specs.Combinations.{onesOf, costsOf, oneYearsOf, yearsOf, tableAt, tableBy, jointOf, unionOf, Tabled, Joining};
+ghost use Rattle.combinations.specs.Combinations.{yearSets, combinations, mostBase, tableLength, Numbers, Placed, Owned, ownAt, ownsOf, touchedOf};
+ghost use Rattle.combinations.specs.Combinations.{combinedOf, onesOf, costsOf, oneYearsOf, yearsOf, tableAt, tableBy, partCost, partYears, jointOf};
+ghost use Rattle.combinations.specs.Combinations.{unionOf, Tabled, Parted, Joining};
 use super::Tied;
 use super::places::PART;
 use super::places::PART_PLACES;
 use super::places::PARTS;
 use super::places::SETS;
+use super::places::THREE_PARTS;
+use super::places::TWO_PARTS;
 use super::places::member;
+use super::places::parts_of;
 use super::places::power;
 use super::places::top;
 use super::places::touch;
@@ -99,14 +103,15 @@ fn combined(own: &Owns, tied: Tied, mask: u32, c: usize) -> u64
     sum
 }
 
-// The same for each binary place alone.
+// The same for each binary place alone. No bid has one of the places past the number of bids.
 fn ones(own: &Owns, tied: Tied) -> Owns
     requires { ⌜ Owned (now own) tied ⌝ }
     ensures { λ r. ⌜ r ≡ onesOf (now (own .entry)) (tied .ranks) (tied .count) ⌝ }
 {
     let mut out = [0u64; WIDEST_TIE * COLUMNS];
+    let end = tied.count * COLUMNS;
     let mut i: usize = 0;
-    while i < WIDEST_TIE * COLUMNS {
+    while i < end {
         let place = power((i / COLUMNS) as u32);
         out[i] = combined(own, tied, place, i % COLUMNS);
         i += 1;
@@ -121,8 +126,9 @@ fn costs(own: &Owns, tied: Tied) -> Costs
 {
     let one = ones(own, tied);
     let mut out = [0u64; PARTS * ROWS];
+    let end = parts_of(tied.count) * ROWS;
     let mut i: usize = 0;
-    while i < PARTS * ROWS {
+    while i < end {
         let v = i / COLUMNS % PART;
         if v > 0 {
             let r = top(v) as usize;
@@ -141,8 +147,9 @@ fn one_years(tied: Tied) -> [u64; WIDEST_TIE]
     ensures { λ r. ⌜ r ≡ oneYearsOf (tied .ranks) (tied .starts) (tied .count) ⌝ }
 {
     let mut out = [0u64; WIDEST_TIE];
+    let count = tied.count;
     let mut i: usize = 0;
-    while i < WIDEST_TIE {
+    while i < count {
         out[i] = touched(tied, power(i as u32)) as u64;
         i += 1;
     }
@@ -156,8 +163,9 @@ fn years(tied: Tied) -> Dates
 {
     let one = one_years(tied);
     let mut out = [0u64; PARTS * PART];
+    let end = parts_of(tied.count) * PART;
     let mut i: usize = 0;
-    while i < PARTS * PART {
+    while i < end {
         let v = i % PART;
         if v > 0 {
             let r = top(v) as usize;
@@ -199,13 +207,33 @@ pub fn table(base: &Base, own: &Owns, tied: Tied) -> Table
     out
 }
 
+// Of the number v of one part, what its bids count in column c.
+pub fn part_cost(table: &Table, part: usize, v: usize, c: usize) -> u64
+    requires { ⌜ Parted (now table) part v × (c < columns) ⌝ }
+    ensures { λ r. ⌜ (r ≡ partCost (now (table .entry)) part v c) × (r ≤ mostBase) ⌝ }
+{
+    table[COSTS_AT + part * ROWS + v * COLUMNS + c]
+}
+
+// And the delivery years that they touch.
+pub fn part_years(table: &Table, part: usize, v: usize) -> usize
+    requires { ⌜ Parted (now table) part v ⌝ }
+    ensures { λ r. ⌜ (r ≡ partYears (now (table .entry)) part v) × (r < yearSets) ⌝ }
+{
+    table[DATES_AT + part * PART + v] as usize
+}
+
 // The delivery years that a combination touches.
 pub fn union(table: &Table, mask: u32) -> usize
     requires { ⌜ Tabled (now table) × (mask < combinations) ⌝ }
     ensures { λ r. ⌜ (r ≡ unionOf (now (table .entry)) mask) × (r < yearSets) ⌝ }
 {
     let n = mask as usize;
-    (table[DATES_AT + n % PART] | table[DATES_AT + PART + n / PART]) as usize
+    let low = part_years(table, 0, n % PART);
+    let second = part_years(table, 1, n / PART % PART);
+    let third = part_years(table, 2, n / TWO_PARTS % PART);
+    let high = part_years(table, 3, n / THREE_PARTS);
+    low | (second | (third | high))
 }
 
 // The total in column c where a combination, which touches the years t, is added to the winners.
@@ -214,7 +242,9 @@ pub fn joint(table: &Table, mask: u32, t: usize, c: usize) -> u64
     ensures { λ r. ⌜ r ≡ jointOf (now (table .entry)) mask t c ⌝ }
 {
     let n = mask as usize;
-    let low = table[COSTS_AT + n % PART * COLUMNS + c];
-    let high = table[COSTS_AT + ROWS + n / PART * COLUMNS + c];
-    table[t * COLUMNS + c] + low + high
+    let low = part_cost(table, 0, n % PART, c);
+    let second = part_cost(table, 1, n / PART % PART, c);
+    let third = part_cost(table, 2, n / TWO_PARTS % PART, c);
+    let high = part_cost(table, 3, n / THREE_PARTS, c);
+    table[t * COLUMNS + c] + low + second + third + high
 }

@@ -27,7 +27,8 @@ element-copy-out-member : tie.Need-element-copy-out-member Inv-loop μ-loop
 element-copy-out-member c = omega (arith, c .loop-test .taken, c .before .before .pre .few)
 
 member-requires : tie.Need-member-requires Inv-loop μ-loop
-member-requires c κs = let low = c .before .before .before .pre .ranks _ (c .before .loop-test .taken) in omega arith
+member-requires c κs =
+    let placed = c .before .before .before .pre in let low = placed .ranks _ (c .before .loop-test .taken) in omega (arith, placed .few)
 
 mul-touch : tie.Need-mul-touch Inv-loop μ-loop
 mul-touch c = omega (arith, c .before .before .before .loop-test .taken, c .before .before .before .before .before .pre .few)
