@@ -41,6 +41,40 @@ alike-map f {a} {b} A = record {
   back = λ k i. let r = map-in f b i in rw (r .2) (in-map f (A .back (r .0) (r .1)));
 }
 
+-- ---- the best number
+
+pub record Best (ok : ℕ → Bool) (tot : ℕ → ℕ) (n r : ℕ) : Type 0 where
+  pub fit : ok r ≡ true
+  pub small : r ≤ n - 1
+  pub top : (m : ℕ) → m < n → ok m ≡ true → (tot m < tot r) ⊎ ((tot m ≤ tot r) × (m ≤ r))
+
+pub best-is : (ok : ℕ → Bool) (tot : ℕ → ℕ) → ok 0 ≡ true → (n : ℕ) → Best ok tot n (best ok tot n)
+unfolding best
+best-is ok tot z zero = record { fit = z; small = omega arith; top = λ m h t. absurd (omega arith) }
+best-is ok tot z (suc n) = go (best-is ok tot z n)
+  where
+    go : {r : ℕ} → Best ok tot n r → Best ok tot (suc n) (pick (ok n && leb (tot r) (tot n)) n r)
+    go {r} B =
+        case (ok n && leb (tot r) (tot n))
+        (λ t.
+        let a = and-true (ok n) (leb (tot r) (tot n)) t in
+        let le = leb-true (tot r) (tot n) (a .1) in
+        rw t (record {
+          fit = a .0;
+          small = omega arith;
+          top = λ m h u. case (eqb m n)
+              (λ e. let q = eqb-true m n e in inr (rw q (omega arith), omega arith))
+              (λ e. let d = eqb-false m n e in ⊎-elim (λ v. inl (omega arith)) (λ v. inr (omega arith)) (B .top m (omega arith) u));
+        }))
+        (λ f. rw f (record {
+          fit = B .fit;
+          small = omega (arith, B .small);
+          top = λ m h u. case (eqb m n)
+              (λ e. let q = eqb-true m n e in
+              ⊎-elim (λ v. clash (ap ok (sym q) ∙ u) v) (λ v. let w = leb-false (tot r) (tot n) v in inl (rw q w)) (and-false (ok n) (leb (tot r) (tot n)) f))
+              (λ e. let d = eqb-false m n e in B .top m (omega arith) u);
+        }))
+
 module _ (P : Pot) where
   -- ---- the ranks
 
@@ -112,40 +146,6 @@ module _ (P : Pot) where
 
     more : m < 2 ^ length r → (n : ℕ) × (m < n) × (n < 2 ^ length r) × Alike (combination P r n) (c ∷ combination P r m)
     more h = (m + 2 ^ rank P r c, omega (arith, pow-pos (rank P r c)), add-lt m (rank P r c) (length r) free (rank-lt r c i) h, with-one)
-
-  -- ---- the best number
-
-  pub record Best (ok : ℕ → Bool) (tot : ℕ → ℕ) (n r : ℕ) : Type 0 where
-    pub fit : ok r ≡ true
-    pub small : r ≤ n - 1
-    pub top : (m : ℕ) → m < n → ok m ≡ true → (tot m < tot r) ⊎ ((tot m ≤ tot r) × (m ≤ r))
-
-  best-is : (ok : ℕ → Bool) (tot : ℕ → ℕ) → ok 0 ≡ true → (n : ℕ) → Best ok tot n (best ok tot n)
-  unfolding best
-  best-is ok tot z zero = record { fit = z; small = omega arith; top = λ m h t. absurd (omega arith) }
-  best-is ok tot z (suc n) = go (best-is ok tot z n)
-    where
-      go : {r : ℕ} → Best ok tot n r → Best ok tot (suc n) (pick (ok n && leb (tot r) (tot n)) n r)
-      go {r} B =
-          case (ok n && leb (tot r) (tot n))
-          (λ t.
-          let a = and-true (ok n) (leb (tot r) (tot n)) t in
-          let le = leb-true (tot r) (tot n) (a .1) in
-          rw t (record {
-            fit = a .0;
-            small = omega arith;
-            top = λ m h u. case (eqb m n)
-                (λ e. let q = eqb-true m n e in inr (rw q (omega arith), omega arith))
-                (λ e. let d = eqb-false m n e in ⊎-elim (λ v. inl (omega arith)) (λ v. inr (omega arith)) (B .top m (omega arith) u));
-          }))
-          (λ f. rw f (record {
-            fit = B .fit;
-            small = omega (arith, B .small);
-            top = λ m h u. case (eqb m n)
-                (λ e. let q = eqb-true m n e in
-                ⊎-elim (λ v. clash (ap ok (sym q) ∙ u) v) (λ v. let w = leb-false (tot r) (tot n) v in inl (rw q w)) (and-false (ok n) (leb (tot r) (tot n)) f))
-                (λ e. let d = eqb-false m n e in B .top m (omega arith) u);
-          }))
 
   -- ---- what a list of winners costs hangs on its members alone, where the new ones are at one price
 

@@ -79,7 +79,7 @@ module _ (sheet : List ℕ) (of : Size) (ok : Ready sheet of) where
         tie.of-rest sheet of ok ws (s .marks) (s .prices) (holds-rep R .marked) (R .sizes .prices) (R .price) p refl a l (of-set)
         (link.taken-part sheet of ok t) at-price new rest rest-is
 
-    module _ (h : k ≤ 10) where
+    module _ (h : k ≤ widestTie) where
       abbrev ch : List ℕ
       ch = choose P (drawnAfter P t) ws l
 

@@ -53,7 +53,7 @@ impl PotState {
             return self.too_wide();
         }
         let tied = combinations::gathered(sheet, of, rest, count);
-        let choice = ties::choose(sheet, of, &base, tied, price, self.drawn);
+        let choice = search::choose(sheet, of, &base, tied, price, self.drawn);
         let t = self.shared(sheet, of, set, choice, price);
         t.revalued(sheet, of)
     }

@@ -19,13 +19,15 @@ use Rattle.sheet.specs.declared.Size.{Size}
 use Rattle.sheet.specs.Sheet.{columns, limitAt, rowYear}
 use Rattle.totals.specs.Totals.{worthOf, fitsTo}
 use Rattle.combinations.specs.declared.Tied.{Tied}
-use Rattle.combinations.specs.Combinations.{combinations, ownsOf, tableBy, jointOf, unionOf}
-use Rattle.ties.specs.declared.search.Best.{Best}
-use Rattle.ties.specs.declared.draw.Listed.{Listed}
-use Rattle.ties.specs.declared.draw.Drawn.{Drawn}
+use Rattle.combinations.specs.Combinations.{combinations, ownsOf, tableBy, jointOf, unionOf, Gathered}
+use Rattle.combinations.proofs.Lists.{gathered-owned}
+use Rattle.combinations.proofs.Parts.{tabled}
+use Rattle.ties.specs.declared.best.Best.{Best}
+use Rattle.ties.specs.declared.listing.Listed.{Listed}
+use Rattle.ties.specs.declared.listing.Answer.{Answer}
 use Rattle.ties.specs.declared.Choice.{Choice}
 use Rattle.ties.specs.Ties.{aloneTotal, aloneFits, keepsOf, bestOf, combinationOf, okBy, lastBy, betterOf, addableOf, fullTo, keptBy, listedOf}
-use Rattle.ties.specs.Ties.{countedOf, topBy, waysBy, drawBy, choiceOf}
+use Rattle.ties.specs.Ties.{Based, Drawing, countedOf, topBy, waysBy, answerBy, answerOf, leftOf, chosenOf}
 
 -- ---- a bid alone
 pub pow-low : (d : ℕ) → d < 4 → 2 ^ d ≤ 8
@@ -137,7 +139,7 @@ best-alike f g t u most (suc n) l h k =
 
 -- numbers of combinations
 pub mask-low : {k e mask : ℕ} → k ≤ widestTie → e ≡ 2 ^ k → mask < e → mask < combinations
-mask-low {k} {e} {mask} h q g = let m : 2 ^ k ≤ 1024 = pow-mono {j = 10} h in omega arith
+mask-low {k} {e} {mask} h q g = let m : 2 ^ k ≤ combinations = pow-mono {j = widestTie} h in omega arith
 
 pub add-low : {mask i p : ℕ} {b : Bool} → mask < combinations → b ≡ has mask i → b ≡ false → i < widestTie → p ≡ 2 ^ i → mask + p < combinations
 add-low {mask} {i} h eb f l ep = rw ep (add-lt mask i widestTie (sym eb ∙ f) l h)
@@ -210,42 +212,65 @@ module _ (f : ℕ → Bool) (place : ℕ) where
       unfolding listedOf
       listed-same h = rw (el, add-one n, sym eb ∙ h)
 
--- ---- what a drawn number takes
+-- ---- what a tie takes
 module _ (sheet : List ℕ) (of : Size) (table : List ℕ) (tied : Tied) {b : Best}
     (eb : b ≡ bestOf (okBy sheet of table) (lastBy of table) (2 ^ (tied .count))) where
-  pub draw-top : {drawn : ℕ} → drawn ≡ 0 → _≡_ {A = Drawn} (record { mask = b .mask; drawn = 0 }) (drawBy sheet of table tied drawn)
-  unfolding drawBy topBy
-  draw-top e = rw (e, eb)
-
   ways-are : (place : ℕ) {l : Listed} → l ≡ listedOf (keptBy sheet of table tied (b .total)) place (2 ^ (tied .count))
       → l ≡ record { count = length (waysBy sheet of table tied); mask = atPlace place (waysBy sheet of table tied) }
   unfolding listedOf waysBy topBy
   ways-are place el = rw (el, eb)
 
-  -- d is the drawn number, and `first` has counted those kept
-  module _ (d : ℕ) {drawn : ℕ} {first : Listed} (ed : drawn ≡ suc d)
-      (ef : first ≡ listedOf (keptBy sheet of table tied (b .total)) 0 (2 ^ (tied .count))) where
+  -- `first` has counted those kept
+  module _ {first : Listed} (ef : first ≡ listedOf (keptBy sheet of table tied (b .total)) 0 (2 ^ (tied .count))) where
     many : first .count ≡ length (waysBy sheet of table tied)
     many = ap (λ (x : Listed). x .count) (ways-are 0 ef)
 
-    pub draw-none : first .count ≡ 0 → _≡_ {A = Drawn} (record { mask = 0; drawn = 1 }) (drawBy sheet of table tied drawn)
-    unfolding drawBy
-    draw-none e = rw ed (go (waysBy sheet of table tied) (sym many ∙ e))
-      where
-        go : (l : List ℕ) → length l ≡ 0
-            → _≡_ {A = Drawn} (record { mask = 0; drawn = 1 }) (record { mask = atPlace (d % length l) l; drawn = suc (d / length l) })
-        go [] q = unfold atPlace in rw (div-zero d)
-        go (x ∷ l) q = absurd (omega arith)
+    pub answer-top : {drawn : ℕ} → drawn ≡ 0 → _≡_ {A = Answer} (record { mask = b .mask; ways = first .count }) (answerBy sheet of table tied drawn)
+    unfolding answerBy topBy
+    answer-top e = rw (e, many, eb)
 
-    pub draw-place : (place : ℕ) {l : Listed} → place ≡ d % first .count → l ≡ listedOf (keptBy sheet of table tied (b .total)) place (2 ^ (tied .count))
-        → _≡_ {A = Drawn} (record { mask = l .mask; drawn = d / first .count + 1 }) (drawBy sheet of table tied drawn)
-    unfolding drawBy
-    draw-place place ep el = rw (ed, ap (λ (x : Listed). x .mask) (ways-are place el), ep, many, add-one (d / length (waysBy sheet of table tied)))
+    -- d is the drawn number
+    module _ (d : ℕ) {drawn : ℕ} (ed : drawn ≡ suc d) where
+      pub answer-none : first .count ≡ 0 → _≡_ {A = Answer} (record { mask = 0; ways = first .count }) (answerBy sheet of table tied drawn)
+      unfolding answerBy
+      answer-none e = rw (ed, many) (go (waysBy sheet of table tied) (sym many ∙ e))
+        where
+          go : (l : List ℕ) → length l ≡ 0 → _≡_ {A = Answer} (record { mask = 0; ways = length l }) (record { mask = atPlace (d % length l) l; ways = length l })
+          go [] q = unfold atPlace in refl
+          go (x ∷ l) q = absurd (omega arith)
 
--- the parts of a choice
-pub choice-is : (sheet : List ℕ) (of : Size) (base : List ℕ) (tied : Tied) (p drawn : ℕ) {own table : List ℕ} {found : Drawn} {w : List Bool}
+      pub answer-place : (place : ℕ) {l : Listed} → place ≡ d % first .count → l ≡ listedOf (keptBy sheet of table tied (b .total)) place (2 ^ (tied .count))
+          → _≡_ {A = Answer} (record { mask = l .mask; ways = first .count }) (answerBy sheet of table tied drawn)
+      unfolding answerBy
+      answer-place place ep el = rw (ed, ap (λ (x : Listed). x .mask) (ways-are place el), ep, many)
+
+-- what the gathered bids give the listing to read
+pub drawing : (sheet : List ℕ) (of : Size) (base : List ℕ) (tied : Tied) (p : ℕ) {own table : List ℕ} → Based sheet of base → Gathered of tied
+    → own ≡ ownsOf sheet of (tied .bids) p (tied .count) → table ≡ tableBy base own (tied .ranks) (tied .starts) (tied .count) → Drawing sheet of table tied
+drawing sheet of base tied p B G eo et =
+    let O = gathered-owned sheet of p (B .ready) G eo in
+    record {
+      searching = record { ready = B .ready; tables = tabled _ _ _ _ _ (G .placed .starts) (G .placed .few) (B .winners) (O .bids) et };
+      placed = G .placed;
+    }
+
+pub answer-is : (sheet : List ℕ) (of : Size) (base : List ℕ) (tied : Tied) (p drawn : ℕ) {own table : List ℕ} {a : Answer}
     → own ≡ ownsOf sheet of (tied .bids) p (tied .count) → table ≡ tableBy base own (tied .ranks) (tied .starts) (tied .count)
-    → found ≡ drawBy sheet of table tied drawn → w ≡ combinationOf (tied .bids) (tied .ranks) (found .mask) (tied .count)
-    → _≡_ {A = Choice} (record { wins = w; drawn = found .drawn }) (choiceOf sheet of base tied p drawn)
-unfolding choiceOf
-choice-is sheet of base tied p drawn eo et ef ew = rw (ew, ef, et, eo)
+    → a ≡ answerBy sheet of table tied drawn → a ≡ answerOf sheet of base tied p drawn
+unfolding answerOf
+answer-is sheet of base tied p drawn eo et ea = rw (ea, et, eo)
+
+-- ---- what is chosen then, and what is left of the drawn number
+module _ (tied : Tied) (a : Answer) {w : List Bool} (ew : w ≡ combinationOf (tied .bids) (tied .ranks) (a .mask) (tied .count)) where
+  pub chosen-undrawn : {drawn : ℕ} → drawn ≡ 0 → _≡_ {A = Choice} (record { wins = w; drawn = drawn }) (chosenOf tied a drawn)
+  unfolding chosenOf leftOf
+  chosen-undrawn e = rw (ew, e)
+
+  module _ (d : ℕ) {drawn : ℕ} (ed : drawn ≡ suc d) where
+    pub chosen-none : a .ways ≡ 0 → _≡_ {A = Choice} (record { wins = w; drawn = 1 }) (chosenOf tied a drawn)
+    unfolding chosenOf leftOf
+    chosen-none e = rw (ew, ed, e, div-zero d)
+
+    pub chosen-left : _≡_ {A = Choice} (record { wins = w; drawn = d / a .ways + 1 }) (chosenOf tied a drawn)
+    unfolding chosenOf leftOf
+    chosen-left = rw (ew, ed, add-one (d / a .ways))

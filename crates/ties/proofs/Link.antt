@@ -10,7 +10,7 @@ use lib.Pow.{pow-pos, pow-mono}
 use lib.ListN.{length, getD, length-set}
 use lib.Dec.{eqb, ltb}
 use borrow.Author.Tests.{eqb-true, eqb-false, eq-eqb, ne-eqb, lt-ltb}
-use Rattle.rules.specs.Names.{mostBids, noPrice}
+use Rattle.rules.specs.Names.{mostBids, noPrice, widestTie}
 use Rattle.rules.specs.Lists.{pick, memb, sift, below, sum}
 use Rattle.rules.specs.Pot.{Pot, has, best, all, atPlace, divided, priceFrom, clearing, tally, fits, remaining, rank, combination, fitsAt, lastAt, topNumber}
 use Rattle.rules.specs.Pot.{full, keeps, kept, number, chosen, choose, waysOf}
@@ -29,7 +29,9 @@ use Rattle.ties.specs.declared.Choice.{Choice}
 use Rattle.combinations.specs.Combinations.{yearSets, combinations, repricedTo, baseAt, noBase, basesOf, compactOf, listed, aboveOf, rankOf, ranksOf}
 use Rattle.combinations.specs.Combinations.{startOf, startsOf, tiedOf, ownAt, noOwn, ownsOf, Numbers, touchOf, touchedOf, combinedOf, tableBy, jointOf}
 use Rattle.combinations.specs.Combinations.{unionOf}
-use Rattle.ties.specs.Ties.{aloneTotal, aloneFits, keepsOf, combinationOf, okBy, lastBy, addableOf, fullTo, keptBy, topBy, waysBy, drawBy, choiceOf}
+use Rattle.ties.specs.declared.listing.Answer.{Answer}
+use Rattle.ties.specs.Ties.{aloneTotal, aloneFits, keepsOf, combinationOf, okBy, lastBy, addableOf, fullTo, keptBy, topBy, waysBy, answerBy}
+use Rattle.ties.specs.Ties.{leftOf, answerOf, chosenOf, choiceOf}
 use Rattle.combinations.proofs.Parts.{touch-low, joint-total}
 use Rattle.combinations.proofs.Lists.{in-listed, listed-is, numbers, rank-at, start-at}
 use Rattle.ties.proofs.Laws.{pow-low, best-less, best-alike}
@@ -77,7 +79,7 @@ one-year d e =
     zero-add : {x : ℕ} → x ≡ 0 + x
     zero-add = omega arith
 
-touch-has : (t d e : ℕ) → has (touchOf t d) e ≡ (eqb e d || has t e)
+pub touch-has : (t d e : ℕ) → has (touchOf t d) e ≡ (eqb e d || has t e)
 unfolding touchOf
 touch-has t d e =
     case (has t d)
@@ -256,7 +258,7 @@ module _ (sheet : List ℕ) (of : Size) (ok : Ready sheet of) where
         part-r = part-sift P (λ c. fits P (c ∷ ws)) Q
 
         -- ---- combinations of the k bids that remain
-        module _ {k : ℕ} (ek : k ≡ length (members s (of .bids))) (few : k ≤ 10) where
+        module _ {k : ℕ} (ek : k ≡ length (members s (of .bids))) (few : k ≤ widestTie) where
           abbrev list : List ℕ
           list = compactOf s (of .bids)
 
@@ -408,7 +410,7 @@ module _ (sheet : List ℕ) (of : Size) (ok : Ready sheet of) where
 
           -- ---- those kept
           few-numbers : 2 ^ k ≤ combinations
-          few-numbers = pow-mono {j = 10} few
+          few-numbers = pow-mono {j = widestTie} few
 
           remains : (j : ℕ) → j < k → In (getD list j 0) r
           remains j g = rw in-list at (in-listed list j k g)
@@ -438,7 +440,7 @@ module _ (sheet : List ℕ) (of : Size) (ok : Ready sheet of) where
               ∙ fits-alike P p (combination P r (mask + 2 ^ rank P r c)) (c ∷ combination P r mask) ws (with-one P r mask c (λ d j e. apart d c j i e) i f)
               (λ x j. ⊎-elim (λ e. rw e (price-is c i)) (λ h. price-is x (combination-in P x mask r h)) (in-tail j))
 
-          rank-low : (c : ℕ) → In c r → rank P r c < 10
+          rank-low : (c : ℕ) → In c r → rank P r c < widestTie
           rank-low c i = omega (arith, rank-lt P r c i, ek, ap length of-rest)
 
           full-at : (mask j : ℕ) → mask < combinations → j < k → not (addableOf (okBy sheet of table) mask (getD ranks j 0))
@@ -450,7 +452,7 @@ module _ (sheet : List ℕ) (of : Size) (ok : Ready sheet of) where
               let e : memb c (combination P r mask) ≡ has mask (rank P r c) = in-com mask c i in
               rw (rank-is j g)
               (case (has mask (rank P r c)) (λ t. rw (t, e ∙ t))
-              (λ f. rw (f, e ∙ f) (ap not (added-is mask c i (e ∙ f) (add-lt mask (rank P r c) 10 f (rank-low c i) h)))))
+              (λ f. rw (f, e ∙ f) (ap not (added-is mask c i (e ∙ f) (add-lt mask (rank P r c) widestTie f (rank-low c i) h)))))
             where
               in-com : (mask c : ℕ) → In c r → memb c (combination P r mask) ≡ has mask (rank P r c)
               in-com mask c i = unfold combination in memb-sift (λ b. has mask (rank P r b)) c r ∙ rw (in-memb i)
@@ -496,26 +498,29 @@ module _ (sheet : List ℕ) (of : Size) (ok : Ready sheet of) where
               most = lastAt P ws r (topNumber P ws r)
 
           -- ---- what a drawn number takes, and what it leaves
-          number-is : (drawn : ℕ) → (drawBy sheet of table (tiedOf sheet of s k) drawn) .mask ≡ number P (numberIn drawn) ws r
-          unfolding drawBy tiedOf number numberIn
+          abbrev answer : (drawn : ℕ) → Answer
+          answer drawn = answerBy sheet of table (tiedOf sheet of s k) drawn
+
+          number-is : (drawn : ℕ) → (answer drawn) .mask ≡ number P (numberIn drawn) ws r
+          unfolding answerBy tiedOf number numberIn
           number-is zero = top-is
           number-is (suc d) = ap (λ (x : List ℕ). atPlace (d % length x) x) ways-is
 
-          left-is : (drawn : ℕ) → numberIn ((drawBy sheet of table (tiedOf sheet of s k) drawn) .drawn) ≡ divided (numberIn drawn) (waysOf P ws l)
-          unfolding drawBy numberIn divided waysOf
+          left-is : (drawn : ℕ) → numberIn (leftOf drawn ((answer drawn) .ways)) ≡ divided (numberIn drawn) (waysOf P ws l)
+          unfolding answerBy leftOf numberIn divided waysOf
           left-is zero = refl
           left-is (suc d) = ap (λ (x : List ℕ). some (d / length x)) ways-is
 
           module _ (drawn : ℕ) {d : Option ℕ} (ed : d ≡ numberIn drawn) {w : Choice}
               (ew : w ≡ choiceOf sheet of base (tiedOf sheet of s k) p drawn) where
             abbrev mask : ℕ
-            mask = (drawBy sheet of table (tiedOf sheet of s k) drawn) .mask
+            mask = (answer drawn) .mask
 
             number-taken : mask ≡ number P d ws r
             number-taken = number-is drawn ∙ ap (λ (x : Option ℕ). number P x ws r) (sym ed)
 
             wins-are : w .wins ≡ combinationOf list ranks mask k
-            unfolding choiceOf tiedOf
+            unfolding choiceOf chosenOf answerOf tiedOf
             wins-are = ap (λ (x : Choice). x .wins) ew
 
             pub of-choice : members (w .wins) (of .bids) ≡ choose P d ws l
@@ -531,7 +536,7 @@ module _ (sheet : List ℕ) (of : Size) (ok : Ready sheet of) where
 
             -- what is left of the drawn number
             pub number-left : numberIn (w .drawn) ≡ divided d (waysOf P ws l)
-            unfolding choiceOf tiedOf
+            unfolding choiceOf chosenOf answerOf tiedOf
             number-left = ap (λ (x : Choice). numberIn (x .drawn)) ew ∙ left-is drawn ∙ ap (λ (x : Option ℕ). divided x (waysOf P ws l)) (sym ed)
 
           pub chosen-among : (d : Option ℕ) (i : ℕ) → In i (choose P d ws l) → In i l

@@ -12,9 +12,9 @@ use Rattle.sheet.specs.Sheet.{columns, rowYear, Ready}
 use Rattle.totals.specs.Totals.{worthOf, fitsTo}
 use Rattle.combinations.specs.declared.Tied.{Tied}
 use Rattle.combinations.specs.Combinations.{Bounded, mostBase, Placed, ownsOf, tableBy, jointOf, unionOf, Tabled}
-use Rattle.ties.specs.declared.search.Best.{Best}
-use Rattle.ties.specs.declared.draw.Listed.{Listed}
-use Rattle.ties.specs.declared.draw.Drawn.{Drawn}
+use Rattle.ties.specs.declared.best.Best.{Best}
+use Rattle.ties.specs.declared.listing.Listed.{Listed}
+use Rattle.ties.specs.declared.listing.Answer.{Answer}
 use Rattle.ties.specs.declared.Choice.{Choice}
 
 -- ---- a bid alone
@@ -90,21 +90,36 @@ listedOf f place n = record { count = length (sift f (below n)); mask = atPlace 
 unfoldable pub countedOf : Listed → (mask place : ℕ) → Listed
 countedOf l mask place = record { count = l .count + 1; mask = pick (eqb (l .count) place) mask (l .mask) }
 
--- the number of the best combination; those kept; and what a drawn number takes, and what it leaves
+-- the number of the best combination; those kept; and the combination that is taken, by one more than the drawn number, with the number of those kept
 unfoldable pub topBy : (sheet : List ℕ) (of : Size) (table : List ℕ) (count : ℕ) → ℕ
 topBy sheet of table count = best (okBy sheet of table) (lastBy of table) (2 ^ count)
 
 unfoldable pub waysBy : (sheet : List ℕ) (of : Size) (table : List ℕ) (tied : Tied) → List ℕ
 waysBy sheet of table tied = sift (keptBy sheet of table tied (lastBy of table (topBy sheet of table (tied .count)))) (below (2 ^ (tied .count)))
 
-unfoldable pub drawBy : (sheet : List ℕ) (of : Size) (table : List ℕ) (tied : Tied) (drawn : ℕ) → Drawn
-drawBy sheet of table tied zero = record { mask = topBy sheet of table (tied .count); drawn = 0 }
-drawBy sheet of table tied (suc d) =
+unfoldable pub answerBy : (sheet : List ℕ) (of : Size) (table : List ℕ) (tied : Tied) (drawn : ℕ) → Answer
+answerBy sheet of table tied zero = record { mask = topBy sheet of table (tied .count); ways = length (waysBy sheet of table tied) }
+answerBy sheet of table tied (suc d) =
     let l = waysBy sheet of table tied in
-    record { mask = atPlace (d % length l) l; drawn = suc (d / length l) }
+    record { mask = atPlace (d % length l) l; ways = length l }
 
--- ---- the combination that is chosen among the gathered bids, and what is left of the drawn number
+-- what is left of a drawn number, one more than it
+unfoldable pub leftOf : (drawn ways : ℕ) → ℕ
+leftOf zero ways = 0
+leftOf (suc d) ways = suc (d / ways)
+
+-- ---- the table of the gathered bids at a price; what a tie of them takes; and what is chosen then
+abbrev pub tableFor : (sheet : List ℕ) (of : Size) (base : List ℕ) (tied : Tied) (price : ℕ) → List ℕ
+tableFor sheet of base tied price = tableBy base (ownsOf sheet of (tied .bids) price (tied .count)) (tied .ranks) (tied .starts) (tied .count)
+
+unfoldable pub answerOf : (sheet : List ℕ) (of : Size) (base : List ℕ) (tied : Tied) (price drawn : ℕ) → Answer
+answerOf sheet of base tied price drawn = answerBy sheet of (tableFor sheet of base tied price) tied drawn
+
+unfoldable pub chosenOf : Tied → Answer → (drawn : ℕ) → Choice
+chosenOf tied answer drawn = record {
+  wins = combinationOf (tied .bids) (tied .ranks) (answer .mask) (tied .count);
+  drawn = leftOf drawn (answer .ways);
+}
+
 unfoldable pub choiceOf : (sheet : List ℕ) (of : Size) (base : List ℕ) (tied : Tied) (price drawn : ℕ) → Choice
-choiceOf sheet of base tied price drawn =
-    let d = drawBy sheet of (tableBy base (ownsOf sheet of (tied .bids) price (tied .count)) (tied .ranks) (tied .starts) (tied .count)) tied drawn in
-    record { wins = combinationOf (tied .bids) (tied .ranks) (d .mask) (tied .count); drawn = d .drawn }
+choiceOf sheet of base tied price drawn = chosenOf tied (answerOf sheet of base tied price drawn) drawn

@@ -1,21 +1,18 @@
 // Ties: several bids at one price that do not fit together. Those that do not fit alone are dropped; of those that remain the best combination is taken, or by
-// a drawn number one of the best. specs/Ties.antt says what each function computes.
+// a drawn number one of the best: here by a plain listing of all, in `search` with branches cut off. specs/Ties.antt says what each function computes.
 ghost use mathlib.Core.Path.{_≡_};
 ghost use Rattle.rules.specs.Names.{mostBids};
-ghost use Rattle.combinations.specs.Combinations.{Gathered, Numbers, Placed};
-ghost use Rattle.ties.specs.Ties.{Based, combinationOf, choiceOf};
+ghost use Rattle.combinations.specs.Combinations.{Numbers, Placed};
+ghost use Rattle.ties.specs.Ties.{combinationOf, chosenOf};
 
 pub mod alone;
-mod draw;
-mod search;
+pub mod best;
+pub mod listing;
 
 use combinations::Tied;
 use combinations::places::member;
-use combinations::tables;
-use combinations::winners::Base;
+use listing::Answer;
 use names::BIDS;
-use sheet::Sheet;
-use sheet::Size;
 
 // The chosen bids, as a set; and one more than the number that the pot's next tie is drawn by, 0 where there is none.
 pub struct Choice {
@@ -40,15 +37,22 @@ fn combination(tied: Tied, mask: u32) -> [bool; BIDS]
     out
 }
 
-// The combination that is chosen among the gathered bids, at a price and by the pot's drawn number: one more than it, and 0 where there is none.
-pub fn choose(sheet: &Sheet, of: Size, base: &Base, tied: Tied, price: u64, drawn: u64) -> Choice
-    requires { ⌜ Based (now sheet) of (now base) × Gathered of tied ⌝ }
-    ensures { λ r. ⌜ r ≡ choiceOf (now (sheet .entry)) of (now (base .entry)) tied price drawn ⌝ }
+// What is chosen where a tie takes a combination, and what that leaves of the drawn number: "go on with the drawn number divided by m".
+pub fn chosen(tied: Tied, answer: Answer, drawn: u64) -> Choice
+    requires { ⌜ Numbers (tied .bids) (tied .count) mostBids × Placed tied ⌝ }
+    ensures { λ r. ⌜ r ≡ chosenOf tied answer drawn ⌝ }
 {
-    let own = tables::owns(sheet, of, tied, price);
-    let table = tables::table(base, &own, tied);
-    let found = draw::draw(sheet, of, &table, tied, drawn);
-    let wins = combination(tied, found.mask);
-    let left = found.drawn;
-    Choice { wins, drawn: left }
+    let wins = combination(tied, answer.mask);
+    let ways = answer.ways;
+    if drawn == 0 {
+        return Choice { wins, drawn };
+    }
+    if ways == 0 {
+        return Choice { wins, drawn: 1 };
+    }
+    let left = (drawn - 1) / ways;
+    Choice {
+        wins,
+        drawn: left + 1,
+    }
 }

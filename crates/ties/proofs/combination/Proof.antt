@@ -28,7 +28,8 @@ element-copy-out-member : tie.Need-element-copy-out-member Inv-loop μ-loop
 element-copy-out-member c = omega (arith, c .loop-test .taken, c .before .before .pre .1 .few)
 
 member-requires : tie.Need-member-requires Inv-loop μ-loop
-member-requires c κs = let low = c .before .before .before .pre .1 .ranks _ (c .before .loop-test .taken) in omega arith
+member-requires c κs =
+    let placed = c .before .before .before .pre .1 in let low = placed .ranks _ (c .before .loop-test .taken) in omega (arith, placed .few)
 
 mul-out : tie.Need-mul-out Inv-loop μ-loop
 mul-out c = omega (arith, c .before .before .before .loop-test .taken, c .before .before .before .before .before .pre .1 .few)

@@ -1,0 +1,4 @@
+pub mod Branch
+pub mod Rise
+pub mod Best
+pub mod Ways

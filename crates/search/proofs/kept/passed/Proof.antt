@@ -1,0 +1,44 @@
+-- `search::kept::passed` meets its contract.
+use native.Mathlib.Omega.{arith}
+use mathlib.Core.Path.{refl, sym, _∙_}
+use mathlib.Core.Logic.{inl, inr}
+use Rattle.search.proofs.Branch.{sized-some, starts-at}
+use Rattle.search.proofs.kept.passed.Statement.{statement}
+use Rattle.search.proofs.kept.passed.Tie as tie
+
+rem-if1 : tie.Need-rem-if1
+rem-if1 c = omega (arith, sized-some (c .before .pre .1 .1))
+
+returns : tie.Need-returns
+returns c = inl refl
+
+returns-2 : tie.Need-returns-2
+returns-2 c = inl refl
+
+cut-requires : tie.Need-cut-requires
+cut-requires c κs = (c .before .before .before .before .pre .0 .0, c .before .before .before .before .pre .0 .1, starts-at (c .before .before .before .before .pre .1 .1) (c .before .before .if1 .left) (omega (arith, c .if2 .left, c .before .before .before .before .pre .1 .0)))
+
+returns-3 : tie.Need-returns-3
+returns-3 c = inr (record { branch = starts-at (c .before .before .before .before .before .before .pre .1 .1) (c .before .before .before .before .if1 .left) (omega (arith, c .before .before .if2 .left, c .before .before .before .before .before .before .pre .1 .0)); room = c .before .before .if2 .left }, inl (refl, c .before .cut .ensures (c .if3 .taken)))
+
+sub-fitting : tie.Need-sub-fitting
+sub-fitting c = omega (arith, sized-some (c .before .before .before .before .before .before .pre .1 .1))
+
+add-fitting : tie.Need-add-fitting
+add-fitting c = omega (arith, sized-some (c .before .before .before .before .before .before .before .pre .1 .1), c .before .before .before .if2 .left, c .before .before .before .before .before .before .before .pre .1 .0)
+
+fitting-requires : tie.Need-fitting-requires
+fitting-requires c κs = (c .before .before .before .before .before .before .before .pre .0 .0, omega (arith, sized-some (c .before .before .before .before .before .before .before .pre .1 .1), c .before .before .before .if2 .left, c .before .before .before .before .before .before .before .pre .1 .0))
+
+sub-result : tie.Need-sub-result
+sub-result c = omega (arith, sized-some (c .before .before .before .before .before .before .before .before .before .pre .1 .1))
+
+returns-4 : tie.Need-returns-4
+returns-4 c = inr (record { branch = starts-at (c .before .before .before .before .before .before .before .before .before .pre .1 .1) (c .before .before .before .before .before .before .before .if1 .left) (omega (arith, c .before .before .before .before .before .if2 .left, c .before .before .before .before .before .before .before .before .before .pre .1 .0)); room = c .before .before .before .before .before .if2 .left }, inr (refl, sym (c .before .fitting .ensures) ∙ c .if4 .taken))
+
+returns-5 : tie.Need-returns-5
+returns-5 c = inl refl
+
+pub passed-spec : {M : Type 1} → statement M
+passed-spec =
+    tie.close (tie.spec rem-if1 returns returns-2 cut-requires returns-3 sub-fitting add-fitting fitting-requires sub-result returns-4 returns-5)

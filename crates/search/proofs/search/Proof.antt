@@ -1,0 +1,59 @@
+-- `search::search` meets its contract.
+use borrow.Author.Needs.{needs}
+use native.Mathlib.Omega.{arith}
+use Prim.Native.Nat.{_-_}
+use mathlib.Core.Path.{refl}
+use Rattle.laws_pot.specs.Lists.{not-is-false}
+use Rattle.combinations.proofs.Lists.{gathered-owned}
+use Rattle.ties.proofs.Laws.{drawing, answer-is, answer-top, answer-none, answer-place}
+use Rattle.search.proofs.Ways.{cuts-of, kept-ready}
+use Rattle.search.proofs.search.Statement.{statement}
+use Rattle.search.proofs.search.Tie as tie
+
+sound-requires : tie.Need-sound-requires
+sound-requires c κs = c .pre .1 .placed
+
+listing-requires : tie.Need-listing-requires
+listing-requires c κs = c .before .before .pre
+
+returns : tie.Need-returns
+returns c = c .listing .ensures
+
+owns-requires : tie.Need-owns-requires
+owns-requires c κs = (c .before .before .pre .0 .ready, c .before .before .pre .1 .numbers)
+
+table-requires : tie.Need-table-requires
+table-requires c κs = gathered-owned _ _ _ (c .before .before .before .before .pre .0 .ready) (c .before .before .before .before .pre .1) (c .before .owns .ensures)
+
+greatest-requires : tie.Need-greatest-requires
+greatest-requires c κs = (drawing _ _ _ _ _ (c .before .before .before .before .before .before .pre .0) (c .before .before .before .before .before .before .pre .1) (c .before .before .before .owns .ensures) (c .before .table .ensures) .searching, cuts-of _ _ _ _ _ (c .before .before .before .before .before .before .pre .0) (c .before .before .before .before .before .before .pre .1) (c .before .before .before .before .before .sound .ensures (not-is-false _ (c .before .before .before .before .if1 .left)) .rising) (c .before .before .before .owns .ensures) (c .before .table .ensures), c .before .before .before .before .before .before .pre .1 .placed .few)
+
+idle-requires : tie.Need-idle-requires
+idle-requires c κs = (c .before .before .before .before .before .before .before .before .pre .1 .placed, c .before .before .before .before .before .before .before .before .pre .0 .ready .some, omega (arith, c .before .before .before .before .before .before .before .before .pre .0 .ready .years))
+
+search-kept-requires : tie.Need-search-kept-requires
+search-kept-requires c κs = let s = c .before .before .before .before .before .before .before .before .before .sound .ensures (not-is-false _ (c .before .before .before .before .before .before .before .before .if1 .left)) in
+    kept-ready _ _ _ _ _ (c .before .before .before .before .before .before .before .before .before .before .pre .0) (c .before .before .before .before .before .before .before .before .before .before .pre .1) (s .rising) (c .before .before .before .before .before .before .before .owns .ensures) (c .before .before .before .before .before .table .ensures) (s .onto) (c .before .before .before .greatest .ensures) (c .before .idle .ensures)
+
+returns-2 : tie.Need-returns-2
+returns-2 c = answer-is _ _ _ _ _ _ (c .before .before .before .before .before .before .before .before .before .owns .ensures) (c .before .before .before .before .before .before .before .table .ensures)
+    (answer-top _ _ _ _ (c .before .before .before .before .before .greatest .ensures) (c .before .search-kept .ensures) (c .if2 .taken))
+
+returns-3 : tie.Need-returns-3
+returns-3 c = answer-is _ _ _ _ _ _ (c .before .before .before .before .before .before .before .before .before .before .owns .ensures) (c .before .before .before .before .before .before .before .before .table .ensures)
+    (answer-none _ _ _ _ (c .before .before .before .before .before .before .greatest .ensures) (c .before .before .search-kept .ensures) (c .before .before .before .before .before .before .before .before .before .before .before .before .before .args .drawn - 1) (omega (arith, c .before .if2 .left)) (c .if3 .taken))
+
+sub-place : tie.Need-sub-place
+sub-place c = omega (arith, c .before .if2 .left)
+
+search-kept-requires-2 : tie.Need-search-kept-requires-2
+search-kept-requires-2 c κs = let s = c .before .before .before .before .before .before .before .before .before .before .before .before .before .sound .ensures (not-is-false _ (c .before .before .before .before .before .before .before .before .before .before .before .before .if1 .left)) in
+    kept-ready _ _ _ _ _ (c .before .before .before .before .before .before .before .before .before .before .before .before .before .before .pre .0) (c .before .before .before .before .before .before .before .before .before .before .before .before .before .before .pre .1) (s .rising) (c .before .before .before .before .before .before .before .before .before .before .before .owns .ensures) (c .before .before .before .before .before .before .before .before .before .table .ensures) (s .onto) (c .before .before .before .before .before .before .before .greatest .ensures) (c .before .before .before .before .before .idle .ensures)
+
+returns-4 : tie.Need-returns-4
+returns-4 c = answer-is _ _ _ _ _ _ (c .before .before .before .before .before .before .before .before .before .before .before .before .owns .ensures) (c .before .before .before .before .before .before .before .before .before .before .table .ensures)
+    (answer-place _ _ _ _ (c .before .before .before .before .before .before .before .before .greatest .ensures) (c .before .before .before .before .search-kept .ensures) (c .before .before .before .before .before .before .before .before .before .before .before .before .before .before .before .args .drawn - 1) (omega (arith, c .before .before .before .if2 .left)) _ refl (c .search-kept2 .ensures))
+
+pub search-spec : {M : Type 1} → statement M
+search-spec =
+    tie.close (tie.spec sound-requires listing-requires returns owns-requires table-requires greatest-requires idle-requires search-kept-requires returns-2 returns-3 sub-place (λ c. search needs) search-kept-requires-2 returns-4)

@@ -1,0 +1,111 @@
+// The best combination, from the largest number down: of equals the first that is found is taken, so that from then on a branch must have more to be gone through.
+ghost use mathlib.Core.Bool.{true};
+ghost use mathlib.Core.Path.{_≡_};
+ghost use Prim.Native.Nat.{_^_, _≤_, _<_};
+ghost use Rattle.rules.specs.Names.{widestTie};
+ghost use Rattle.combinations.specs.Combinations.{combinations};
+ghost use Rattle.ties.specs.Ties.{Searching, okBy, lastBy, bestOf};
+ghost use Rattle.search.specs.Search.{Cuttable, Fallen, Sized, metOf};
+use super::branches::BOUGH;
+use super::branches::LIMB;
+use super::branches::SHOOT;
+use super::branches::TWIG;
+use super::branches::cut;
+use combinations::places::power;
+use combinations::tables::Table;
+use sheet::Sheet;
+use sheet::Size;
+use ties::best::Best;
+use ties::best::fitting;
+use ties::best::last;
+
+// A combination, and what another must have in the last year to be better: one more than it has, and 0 where none is found.
+pub struct Found {
+    pub mask: u32,
+    pub goal: u64,
+}
+
+// Does a branch of so many combinations end before `left`, and can it be cut off?
+fn ends(sheet: &Sheet, of: Size, table: &Table, goal: u64, left: u32, size: u32) -> bool
+    requires { ⌜ Searching (now sheet) of (now table) × Cuttable (okBy (now sheet) of (now table)) (lastBy of (now table)) ⌝ }
+    requires { ⌜ (0 < left) × (left ≤ combinations) × Sized size ⌝ }
+    ensures { λ r. ⌜ (r ≡ true → Fallen (okBy (now (sheet .entry)) of (now (table .entry))) (lastBy of (now (table .entry))) goal left size) ⌝ }
+{
+    if left % size > 0 {
+        return false;
+    }
+    cut(sheet, of, table, goal, left - size, size)
+}
+
+// How many combinations before `left` can be passed over.
+fn fall(sheet: &Sheet, of: Size, table: &Table, goal: u64, left: u32) -> u32
+    requires { ⌜ Searching (now sheet) of (now table) × Cuttable (okBy (now sheet) of (now table)) (lastBy of (now table)) ⌝ }
+    requires { ⌜ (0 < left) × (left ≤ combinations) ⌝ }
+    ensures { λ r. ⌜ Fallen (okBy (now (sheet .entry)) of (now (table .entry))) (lastBy of (now (table .entry))) goal left r ⌝ }
+{
+    if left % SHOOT > 0 {
+        return 0;
+    }
+    // a full budget cannot be bettered
+    if sheet::limit(sheet, of.years - 1) < goal {
+        return left;
+    }
+    if ends(sheet, of, table, goal, left, LIMB) {
+        return LIMB;
+    }
+    if ends(sheet, of, table, goal, left, BOUGH) {
+        return BOUGH;
+    }
+    if ends(sheet, of, table, goal, left, TWIG) {
+        return TWIG;
+    }
+    if ends(sheet, of, table, goal, left, SHOOT) {
+        return SHOOT;
+    }
+    0
+}
+
+// The one found, or a combination with a smaller number, if it is better.
+fn meet(sheet: &Sheet, of: Size, table: &Table, found: Found, mask: u32) -> Found
+    requires { ⌜ Searching (now sheet) of (now table) × (mask < combinations) ⌝ }
+    ensures { λ r. ⌜ r ≡ metOf (okBy (now (sheet .entry)) of (now (table .entry))) (lastBy of (now (table .entry))) mask found ⌝ }
+{
+    let total = last(of, table, mask);
+    if total < found.goal {
+        return found;
+    }
+    if fitting(sheet, of, table, mask) {
+        return Found {
+            mask,
+            goal: total + 1,
+        };
+    }
+    found
+}
+
+// The best combination of so many bids.
+pub fn greatest(sheet: &Sheet, of: Size, table: &Table, count: usize) -> Best
+    requires { ⌜ Searching (now sheet) of (now table) × Cuttable (okBy (now sheet) of (now table)) (lastBy of (now table)) × (count ≤ widestTie) ⌝ }
+    ensures { λ r. ⌜ r ≡ bestOf (okBy (now (sheet .entry)) of (now (table .entry))) (lastBy of (now (table .entry))) (2 ^ count) ⌝ }
+{
+    let mut found = Found { mask: 0, goal: 0 };
+    let mut left = power(count as u32);
+    while left > 0 {
+        let passed = fall(sheet, of, table, found.goal, left);
+        if passed > 0 {
+            left -= passed;
+        } else {
+            left -= 1;
+            found = meet(sheet, of, table, found, left);
+        }
+    }
+    if found.goal == 0 {
+        let total = last(of, table, 0);
+        return Best { mask: 0, total };
+    }
+    let mask = found.mask;
+    Best {
+        mask,
+        total: found.goal - 1,
+    }
+}

@@ -1,0 +1,129 @@
+// Those kept, from the smallest number on: how many, and the one at a place.
+ghost use mathlib.Core.Path.{_≡_};
+ghost use Prim.Native.Nat.{_+_, _^_, _≤_, _<_};
+ghost use Rattle.combinations.specs.Combinations.{combinations};
+ghost use Rattle.ties.specs.Ties.{Searching, Drawing, okBy, lastBy, keptBy, listedOf};
+ghost use Rattle.search.specs.Search.{Cuttable, Sized, Passed, Unkept, Aiming, Gaining};
+use super::branches::BOUGH;
+use super::branches::LIMB;
+use super::branches::SHOOT;
+use super::branches::TWIG;
+use super::branches::cut;
+use combinations::Tied;
+use combinations::places::power;
+use combinations::tables::Table;
+use sheet::Sheet;
+use sheet::Size;
+use ties::best::fitting;
+use ties::best::last;
+use ties::listing::Listed;
+use ties::listing::counted;
+use ties::listing::full;
+
+// The greatest total in the last year, and whether a bid is worth nothing then: if none is, no bid can be added to a combination that has the greatest.
+pub struct Aim {
+    pub most: u64,
+    pub idle: bool,
+}
+
+// A combination, and so many of the tie from it on.
+pub struct From {
+    pub mask: u32,
+    pub left: u32,
+}
+
+// Of the branch of so many combinations that starts there, if one does, how many from its first on are not kept: all where it can be cut off; all but the last
+// where all undecided bids fit, for then one of them can be added to any other; else none is passed over.
+fn passed(sheet: &Sheet, of: Size, table: &Table, most: u64, from: From, size: u32) -> u32
+    requires { ⌜ Searching (now sheet) of (now table) × Cuttable (okBy (now sheet) of (now table)) (lastBy of (now table)) ⌝ }
+    requires { ⌜ (from .mask + from .left ≤ combinations) × Sized size ⌝ }
+    ensures { λ r. ⌜ Passed (okBy (now (sheet .entry)) of (now (table .entry))) (lastBy of (now (table .entry))) most (from .mask) (from .left) size r ⌝ }
+{
+    if from.mask % size > 0 {
+        return 0;
+    }
+    if size > from.left {
+        return 0;
+    }
+    if cut(sheet, of, table, most, from.mask, size) {
+        return size;
+    }
+    if fitting(sheet, of, table, from.mask + (size - 1)) {
+        return size - 1;
+    }
+    0
+}
+
+// How many combinations from `mask` on can be passed over.
+fn rise(sheet: &Sheet, of: Size, table: &Table, tied: Tied, most: u64, mask: u32) -> u32
+    requires { ⌜ Drawing (now sheet) of (now table) tied × Aiming (now sheet) of (now table) tied most × (mask < 2 ^ tied .count) ⌝ }
+    ensures { λ r. ⌜ Unkept (keptBy (now (sheet .entry)) of (now (table .entry)) tied most) mask (2 ^ tied .count) r ⌝ }
+{
+    if mask % SHOOT > 0 {
+        return 0;
+    }
+    let from = From {
+        mask,
+        left: power(tied.count as u32) - mask,
+    };
+    let limb = passed(sheet, of, table, most, from, LIMB);
+    if limb > 0 {
+        return limb;
+    }
+    let bough = passed(sheet, of, table, most, from, BOUGH);
+    if bough > 0 {
+        return bough;
+    }
+    let twig = passed(sheet, of, table, most, from, TWIG);
+    if twig > 0 {
+        return twig;
+    }
+    passed(sheet, of, table, most, from, SHOOT)
+}
+
+// Is a combination kept? Where no bid is idle, one that has the greatest total is full.
+fn keeps(sheet: &Sheet, of: Size, table: &Table, tied: Tied, aim: Aim, mask: u32) -> bool
+    requires { ⌜ Drawing (now sheet) of (now table) tied × Aiming (now sheet) of (now table) tied (aim .most) ⌝ }
+    requires { ⌜ Gaining of (now table) tied (aim .idle) × (mask < 2 ^ tied .count) ⌝ }
+    ensures { λ r. ⌜ r ≡ keptBy (now (sheet .entry)) of (now (table .entry)) tied (aim .most) mask ⌝ }
+{
+    if last(of, table, mask) != aim.most {
+        return false;
+    }
+    if !fitting(sheet, of, table, mask) {
+        return false;
+    }
+    if aim.idle {
+        return full(sheet, of, table, tied, mask);
+    }
+    true
+}
+
+// Those kept: how many, and the one at a place.
+pub fn search_kept(
+    sheet: &Sheet,
+    of: Size,
+    table: &Table,
+    tied: Tied,
+    aim: Aim,
+    place: u64,
+) -> Listed
+    requires { ⌜ Drawing (now sheet) of (now table) tied × Aiming (now sheet) of (now table) tied (aim .most) × Gaining of (now table) tied (aim .idle) ⌝ }
+    ensures { λ r. ⌜ r ≡ listedOf (keptBy (now (sheet .entry)) of (now (table .entry)) tied (aim .most)) place (2 ^ tied .count) ⌝ }
+{
+    let end = power(tied.count as u32);
+    let mut list = Listed { count: 0, mask: 0 };
+    let mut mask: u32 = 0;
+    while mask < end {
+        let passed = rise(sheet, of, table, tied, aim.most, mask);
+        if passed > 0 {
+            mask += passed;
+        } else {
+            if keeps(sheet, of, table, tied, aim, mask) {
+                list = counted(list, mask, place);
+            }
+            mask += 1;
+        }
+    }
+    list
+}
