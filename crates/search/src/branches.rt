@@ -10,9 +10,7 @@ use sheet::Size;
 use ties::best::fitting;
 use ties::best::last;
 
-// How many combinations a branch has: one in which two binary places are undecided, five, ten or fifteen.
-pub const SHOOT: u32 = 4;
-
+// How many combinations a branch has: one in which five binary places are undecided, ten or fifteen.
 pub const TWIG: u32 = 32;
 
 pub const BOUGH: u32 = 1024;

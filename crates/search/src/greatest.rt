@@ -8,7 +8,6 @@ ghost use Rattle.ties.specs.Ties.{Searching, okBy, lastBy, bestOf};
 ghost use Rattle.search.specs.Search.{Cuttable, Fallen, Sized, metOf};
 use super::branches::BOUGH;
 use super::branches::LIMB;
-use super::branches::SHOOT;
 use super::branches::TWIG;
 use super::branches::cut;
 use combinations::places::power;
@@ -43,7 +42,7 @@ fn fall(sheet: &Sheet, of: Size, table: &Table, goal: u64, left: u32) -> u32
     requires { ⌜ (0 < left) × (left ≤ combinations) ⌝ }
     ensures { λ r. ⌜ Fallen (okBy (now (sheet .entry)) of (now (table .entry))) (lastBy of (now (table .entry))) goal left r ⌝ }
 {
-    if left % SHOOT > 0 {
+    if left % TWIG > 0 {
         return 0;
     }
     // a full budget cannot be bettered
@@ -58,9 +57,6 @@ fn fall(sheet: &Sheet, of: Size, table: &Table, goal: u64, left: u32) -> u32
     }
     if ends(sheet, of, table, goal, left, TWIG) {
         return TWIG;
-    }
-    if ends(sheet, of, table, goal, left, SHOOT) {
-        return SHOOT;
     }
     0
 }

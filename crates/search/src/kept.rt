@@ -6,7 +6,6 @@ ghost use Rattle.ties.specs.Ties.{Searching, Drawing, okBy, lastBy, keptBy, lis
 ghost use Rattle.search.specs.Search.{Cuttable, Sized, Passed, Unkept, Aiming, Gaining};
 use super::branches::BOUGH;
 use super::branches::LIMB;
-use super::branches::SHOOT;
 use super::branches::TWIG;
 use super::branches::cut;
 use combinations::Tied;
@@ -19,6 +18,9 @@ use ties::best::last;
 use ties::listing::Listed;
 use ties::listing::counted;
 use ties::listing::full;
+
+// Where a bid is worth nothing in the last year, branches of so many are looked at too: two binary places are undecided.
+const SHOOT: u32 = 4;
 
 // The greatest total in the last year, and whether a bid is worth nothing then: if none is, no bid can be added to a combination that has the greatest.
 pub struct Aim {
@@ -48,37 +50,41 @@ fn passed(sheet: &Sheet, of: Size, table: &Table, most: u64, from: From, size: u
     if cut(sheet, of, table, most, from.mask, size) {
         return size;
     }
-    if fitting(sheet, of, table, from.mask + (size - 1)) {
+    let all = from.mask + (size - 1);
+    // what has more than the greatest total does not fit
+    if last(of, table, all) > most {
+        return 0;
+    }
+    if fitting(sheet, of, table, all) {
         return size - 1;
     }
     0
 }
 
-// How many combinations from `mask` on can be passed over.
-fn rise(sheet: &Sheet, of: Size, table: &Table, tied: Tied, most: u64, mask: u32) -> u32
-    requires { ⌜ Drawing (now sheet) of (now table) tied × Aiming (now sheet) of (now table) tied most × (mask < 2 ^ tied .count) ⌝ }
-    ensures { λ r. ⌜ Unkept (keptBy (now (sheet .entry)) of (now (table .entry)) tied most) mask (2 ^ tied .count) r ⌝ }
+// How many combinations from `mask` on can be passed over. Small branches are looked at only where one that has the greatest total may yet not be kept.
+fn rise(sheet: &Sheet, of: Size, table: &Table, tied: Tied, aim: Aim, mask: u32) -> u32
+    requires { ⌜ Drawing (now sheet) of (now table) tied × Aiming (now sheet) of (now table) tied (aim .most) × (mask < 2 ^ tied .count) ⌝ }
+    ensures { λ r. ⌜ Unkept (keptBy (now (sheet .entry)) of (now (table .entry)) tied (aim .most)) mask (2 ^ tied .count) r ⌝ }
 {
-    if mask % SHOOT > 0 {
-        return 0;
-    }
     let from = From {
         mask,
         left: power(tied.count as u32) - mask,
     };
-    let limb = passed(sheet, of, table, most, from, LIMB);
+    if mask % TWIG > 0 {
+        if aim.idle {
+            return passed(sheet, of, table, aim.most, from, SHOOT);
+        }
+        return 0;
+    }
+    let limb = passed(sheet, of, table, aim.most, from, LIMB);
     if limb > 0 {
         return limb;
     }
-    let bough = passed(sheet, of, table, most, from, BOUGH);
+    let bough = passed(sheet, of, table, aim.most, from, BOUGH);
     if bough > 0 {
         return bough;
     }
-    let twig = passed(sheet, of, table, most, from, TWIG);
-    if twig > 0 {
-        return twig;
-    }
-    passed(sheet, of, table, most, from, SHOOT)
+    passed(sheet, of, table, aim.most, from, TWIG)
 }
 
 // Is a combination kept? Where no bid is idle, one that has the greatest total is full.
@@ -115,7 +121,7 @@ pub fn search_kept(
     let mut list = Listed { count: 0, mask: 0 };
     let mut mask: u32 = 0;
     while mask < end {
-        let passed = rise(sheet, of, table, tied, aim.most, mask);
+        let passed = rise(sheet, of, table, tied, aim, mask);
         if passed > 0 {
             mask += passed;
         } else {

@@ -35,15 +35,9 @@ ends-requires-3 c κs = (c .before .before .before .before .before .before .befo
 returns-5 : tie.Need-returns-5
 returns-5 c = c .before .ends3 .ensures (c .if5 .taken)
 
-ends-requires-4 : tie.Need-ends-requires-4
-ends-requires-4 c κs = (c .before .before .before .before .before .before .before .before .before .before .pre .0, (c .before .before .before .before .before .before .before .before .before .before .pre .1 .0, c .before .before .before .before .before .before .before .before .before .before .pre .1 .1, record { places = 2; is = refl }))
-
 returns-6 : tie.Need-returns-6
-returns-6 c = c .before .ends4 .ensures (c .if6 .taken)
-
-returns-7 : tie.Need-returns-7
-returns-7 c = fallen-none
+returns-6 c = fallen-none
 
 pub fall-spec : {M : Type 1} → statement M
 fall-spec =
-    tie.close (tie.spec returns sub-limit limit-requires returns-2 ends-requires returns-3 ends-requires-2 returns-4 ends-requires-3 returns-5 ends-requires-4 returns-6 returns-7)
+    tie.close (tie.spec returns sub-limit limit-requires returns-2 ends-requires returns-3 ends-requires-2 returns-4 ends-requires-3 returns-5 returns-6)

@@ -21,24 +21,30 @@ cut-requires c κs = (c .before .before .before .before .pre .0 .0, c .before .b
 returns-3 : tie.Need-returns-3
 returns-3 c = inr (record { branch = starts-at (c .before .before .before .before .before .before .pre .1 .1) (c .before .before .before .before .if1 .left) (omega (arith, c .before .before .if2 .left, c .before .before .before .before .before .before .pre .1 .0)); room = c .before .before .if2 .left }, inl (refl, c .before .cut .ensures (c .if3 .taken)))
 
-sub-fitting : tie.Need-sub-fitting
-sub-fitting c = omega (arith, sized-some (c .before .before .before .before .before .before .pre .1 .1))
+sub-all : tie.Need-sub-all
+sub-all c = omega (arith, sized-some (c .before .before .before .before .before .before .pre .1 .1))
 
-add-fitting : tie.Need-add-fitting
-add-fitting c = omega (arith, sized-some (c .before .before .before .before .before .before .before .pre .1 .1), c .before .before .before .if2 .left, c .before .before .before .before .before .before .before .pre .1 .0)
+add-all : tie.Need-add-all
+add-all c = omega (arith, sized-some (c .before .before .before .before .before .before .before .pre .1 .1), c .before .before .before .if2 .left, c .before .before .before .before .before .before .before .pre .1 .0)
 
-fitting-requires : tie.Need-fitting-requires
-fitting-requires c κs = (c .before .before .before .before .before .before .before .pre .0 .0, omega (arith, sized-some (c .before .before .before .before .before .before .before .pre .1 .1), c .before .before .before .if2 .left, c .before .before .before .before .before .before .before .pre .1 .0))
-
-sub-result : tie.Need-sub-result
-sub-result c = omega (arith, sized-some (c .before .before .before .before .before .before .before .before .before .pre .1 .1))
+last-requires : tie.Need-last-requires
+last-requires c κs = let s = c .before .before .before .before .before .before .before .pre .0 .0 in (s .tables, s .ready .some, s .ready .years, omega (arith, sized-some (c .before .before .before .before .before .before .before .pre .1 .1), c .before .before .before .if2 .left, c .before .before .before .before .before .before .before .pre .1 .0))
 
 returns-4 : tie.Need-returns-4
-returns-4 c = inr (record { branch = starts-at (c .before .before .before .before .before .before .before .before .before .pre .1 .1) (c .before .before .before .before .before .before .before .if1 .left) (omega (arith, c .before .before .before .before .before .if2 .left, c .before .before .before .before .before .before .before .before .before .pre .1 .0)); room = c .before .before .before .before .before .if2 .left }, inr (refl, sym (c .before .fitting .ensures) ∙ c .if4 .taken))
+returns-4 c = inl refl
+
+fitting-requires : tie.Need-fitting-requires
+fitting-requires c κs = (c .before .before .before .before .before .before .before .before .before .pre .0 .0, omega (arith, sized-some (c .before .before .before .before .before .before .before .before .before .pre .1 .1), c .before .before .before .before .before .if2 .left, c .before .before .before .before .before .before .before .before .before .pre .1 .0))
+
+sub-result : tie.Need-sub-result
+sub-result c = omega (arith, sized-some (c .before .before .before .before .before .before .before .before .before .before .before .pre .1 .1))
 
 returns-5 : tie.Need-returns-5
-returns-5 c = inl refl
+returns-5 c = inr (record { branch = starts-at (c .before .before .before .before .before .before .before .before .before .before .before .pre .1 .1) (c .before .before .before .before .before .before .before .before .before .if1 .left) (omega (arith, c .before .before .before .before .before .before .before .if2 .left, c .before .before .before .before .before .before .before .before .before .before .before .pre .1 .0)); room = c .before .before .before .before .before .before .before .if2 .left }, inr (refl, sym (c .before .fitting .ensures) ∙ c .if5 .taken))
+
+returns-6 : tie.Need-returns-6
+returns-6 c = inl refl
 
 pub passed-spec : {M : Type 1} → statement M
 passed-spec =
-    tie.close (tie.spec rem-if1 returns returns-2 cut-requires returns-3 sub-fitting add-fitting fitting-requires sub-result returns-4 returns-5)
+    tie.close (tie.spec rem-if1 returns returns-2 cut-requires returns-3 sub-all add-all last-requires returns-4 fitting-requires sub-result returns-5 returns-6)
