@@ -19,9 +19,9 @@ use Rattle.sheet.specs.Sheet.{columns, limitAt, Ready}
 use Rattle.totals.specs.Totals.{fitsTo}
 use Rattle.combinations.specs.Combinations.{combinations, partSize, twoParts, threeParts, partRows, costsAt, mostBase, jointOf, unionOf, Tabled}
 use Rattle.ties.specs.declared.best.Best as declared
-use Rattle.ties.specs.Ties.{bestOf, okBy, lastBy}
+use Rattle.ties.specs.Ties.{bestOf, okBy, lastBy, Searching}
 use Rattle.search.specs.declared.greatest.Found.{Found}
-use Rattle.search.specs.Search.{Cuttable, Past, Fallen, metOf}
+use Rattle.search.specs.Search.{Cuttable, Lasting, Short, Fallen, metOf}
 
 module _ (ok : ℕ → Bool) (tot : ℕ → ℕ) where
   -- ---- a look at one more
@@ -148,6 +148,27 @@ over sheet of table {goal} R e h m =
     (λ t. rw (t, lt-leb goal (f (of .years - 1)) (omega (arith, e, fits-at f sheet (of .years - 1) (of .columns) t (omega (arith, R .some, R .columns-least))))))
     (λ u. rw u)
 
+-- nor any that falls short of the goal
+pub fallen-short : (sheet : List ℕ) (of : Size) (table : List ℕ) {goal q left r : ℕ} → Ready sheet of → q ≡ limitAt sheet (of .years - 1)
+    → Short (lastBy of table) goal q left r → Fallen (okBy sheet of table) (lastBy of table) goal left r
+fallen-short sheet of table {goal} {q} {left} {r} R e S = record {
+  few = S .few;
+  past = λ j l.
+      ⊎-elim (λ h. rw (lt-leb goal (lastBy of table (left - r + j)) h) (no (okBy sheet of table (left - r + j)))) (λ h. beyond (left - r + j) h)
+      (S .none (left - r + j) (omega arith) (omega (arith, S .few)));
+}
+  where
+    no : (b : Bool) → (b && false) ≡ false
+    no true = refl
+    no false = refl
+
+    within : (m : ℕ) → okBy sheet of table m ≡ true → lastBy of table m ≤ limitAt sheet (of .years - 1)
+    within m t = unfold okBy lastBy in
+        fits-at (jointOf table m (unionOf table m)) sheet (of .years - 1) (of .columns) t (omega (arith, R .some, R .columns-least))
+
+    beyond : (m : ℕ) → q < lastBy of table m → (okBy sheet of table m && leb goal (lastBy of table m)) ≡ false
+    beyond m h = case (okBy sheet of table m) (λ t. absurd (omega (arith, e, h, within m t))) (λ u. rw u)
+
 -- no total is large
 pub last-small : (of : Size) (table : List ℕ) (m : ℕ) → Tabled table → lastBy of table m ≤ mostBase * 5
 unfolding lastBy jointOf
@@ -161,6 +182,9 @@ last-small of table m T =
       T .small .small (costsAt + 2 * partRows + m / twoParts % partSize * columns + c),
       T .small .small (costsAt + 3 * partRows + m / threeParts * columns + c),
     )
+
+pub lasting : {sheet : List ℕ} {of : Size} {table : List ℕ} → Searching sheet of table → Lasting of table
+lasting S = record { tables = S .tables; some = S .ready .some; years = S .ready .years }
 
 pub power-low : {k : ℕ} → k ≤ widestTie → 2 ^ k ≤ combinations
 power-low h = pow-mono {j = widestTie} h

@@ -1,4 +1,5 @@
 pub mod Branch
 pub mod Rise
+pub mod Scans
 pub mod Best
 pub mod Ways

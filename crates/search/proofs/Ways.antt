@@ -1,18 +1,18 @@
 -- Those kept: of which combinations it is known that they are not, and when one that has the greatest total is. Assumes nothing.
 use Prim.Native.Nat.{ℕ, zero, suc, _+_, _-_, _*_, _^_, _≤_, _<_}
-use mathlib.Core.Path.{_≡_, refl, sym, ap, _∙_}
+use mathlib.Core.Path.{_≡_, refl, sym, ap, subst, _∙_}
 use mathlib.Core.Bool.{Bool, true, false, not, _&&_}
-use mathlib.Core.Logic.{⊎-elim}
+use mathlib.Core.Logic.{_⊎_, inl, inr, ⊎-elim}
 use mathlib.Core.List.{List}
 use native.Mathlib.Numerals.{add-one}
 use native.Mathlib.Nat.{add-zero, add-suc, add-assoc}
 use native.Mathlib.Omega.{arith}
 use lib.ListN.{getD}
-use lib.Pow.{pow-pos, pow-lt}
+use lib.Pow.{pow-pos, pow-mono}
 use lib.Dec.{eqb, leb, ltb}
-use borrow.Author.Tests.{eqb-true, ne-eqb, le-leb, ltb-true, ltb-false}
+use borrow.Author.Tests.{eqb-true, eq-eqb, ne-eqb, le-leb, ltb-true, ltb-false}
 use Rattle.rules.specs.Pot.{has}
-use Rattle.laws_pot.specs.Lists.{case, clash, and-true}
+use Rattle.laws_pot.specs.Lists.{case, clash, and-true, and-false}
 use Rattle.laws_pot.specs.Bits.{has-none, add-lt}
 use Rattle.laws_pot.specs.Tie.{best-is}
 use Rattle.sheet.specs.declared.Size.{Size}
@@ -25,10 +25,10 @@ use Rattle.ties.specs.declared.listing.Answer.{Answer}
 use Rattle.ties.specs.declared.Choice.{Choice}
 use Rattle.ties.specs.Ties.{Based, Drawing, okBy, lastBy, addableOf, fullTo, keptBy, listedOf, bestOf, topBy, answerBy, leftOf, tableFor, answerOf, chosenOf, choiceOf}
 use Rattle.ties.proofs.Laws.{listed-same, full-stops, drawing}
-use Rattle.search.specs.Search.{Cuttable, Rising, Onto, Busy, Whole, Passed, Unkept, Aiming, Gaining}
+use Rattle.search.specs.Search.{Cuttable, Rising, Onto, Busy, Branch, Past, Other, Open, Unsought, Passed, nearBy, Aiming, Gaining}
 use Rattle.search.proofs.Rise.{cuttable, gains}
 use Rattle.search.proofs.Best.{power-low}
-use Rattle.search.proofs.Branch.{free-place, place-free, added-low, within-all}
+use Rattle.search.proofs.Branch.{free-place, place-free, added-low, within-all, some-size}
 
 -- numbers that are passed over are not counted
 pub listed-past : (f : ℕ → Bool) (place n r : ℕ) {l : Listed} → l ≡ listedOf f place n → ((j : ℕ) → j < r → f (n + j) ≡ false) → l ≡ listedOf f place (n + r)
@@ -77,40 +77,23 @@ module _ (sheet : List ℕ) (of : Size) (table : List ℕ) (tied : Tied) (most :
       none true = refl
       none false = refl
 
-  -- ---- a branch all of whose undecided bids fit: its last combination alone can be kept
-  module _ (A : Aiming sheet of table tied most) {mask size left : ℕ} (room : mask + left ≡ 2 ^ (tied .count)) (W : Whole mask left size) where
-    abbrev places : ℕ
-    places = W .branch .sized .places
+  -- nor is any that is passed over
+  unsought : Aiming sheet of table tied most → {m : ℕ} → Unsought ok tot most (2 ^ (tied .count)) m → kept m ≡ false
+  unsought A {m} u = ⊎-elim (kept-past m) (λ v. ⊎-elim (λ n. sym (kept-other m refl n))
+      (λ o.
+      let b = A .onto (o .place) (low (o .place) (o .low)) in
+      kept-addable m (b .bid) (b .low) (opened (b .is) (o .free) (o .fits))) v) u
+    where
+      low : (i : ℕ) → m + 2 ^ i < 2 ^ (tied .count) → i < tied .count
+      low i h = case (ltb i (tied .count)) (λ t. ltb-true i (tied .count) t)
+          (λ f. absurd (omega (arith, pow-mono {i = tied .count} {j = i} (ltb-false i (tied .count) f))))
 
-    few : places ≤ tied .count
-    few = case (ltb (tied .count) places)
-        (λ t. absurd (omega (arith, pow-lt (ltb-true (tied .count) places t), W .room, W .branch .sized .is)))
-        (λ f. ltb-false (tied .count) places f)
+      opened : {p i : ℕ} → p ≡ i → has m i ≡ false → ok (m + 2 ^ i) ≡ true → addableOf ok m p ≡ true
+      opened e f t = unfold addableOf in rw (e, f, t)
 
-    only-last : ok (mask + (size - 1)) ≡ true → (j : ℕ) → j < size - 1 → kept (mask + j) ≡ false
-    only-last t j l =
-        let B = W .branch in
-        let q = free-place places j (omega (arith, B .sized .is)) in
-        let i = q .0 in
-        let small : j < size = omega arith in
-        let b = A .onto i (omega (arith, q .1, few)) in
-        let more : mask + j + 2 ^ i ≡ mask + (j + 2 ^ i) = omega arith in
-        let h = added-low B j i small (q .1) (q .2) in
-        let fit : ok (mask + (j + 2 ^ i)) ≡ true
-        = A .cuts .down (mask + (j + 2 ^ i)) (mask + (size - 1)) (omega (arith, B .room, h)) (omega (arith, B .room)) (within-all B (j + 2 ^ i) h) t in
-        kept-addable (mask + j) (b .bid) (b .low) (opened (mask + j) (b .is) (place-free B j i small (q .1) (q .2)) (ap ok more ∙ fit))
-      where
-        opened : (m : ℕ) {p i : ℕ} → p ≡ i → has m i ≡ false → ok (m + 2 ^ i) ≡ true → addableOf ok m p ≡ true
-        opened m e f t = unfold addableOf in rw (e, f, t)
-
-  pub passed-unkept : Aiming sheet of table tied most → {mask left size n : ℕ} → mask + left ≡ 2 ^ (tied .count) → Passed ok tot most mask left size n
-      → Unkept kept mask (2 ^ (tied .count)) n
-  passed-unkept A {mask} {left} {size} {n} room p = ⊎-elim
-      (λ e. record { few = omega (arith, room); none = λ j l. absurd (omega arith) })
-      (λ w. ⊎-elim
-      (λ v. record { few = omega (arith, room, v .0, w .0 .room); none = λ j l. kept-past (mask + j) (v .1 j (omega (arith, v .0))) })
-      (λ v. record { few = omega (arith, room, v .0, w .0 .room); none = λ j l. only-last A room (w .0) (v .1) j (omega (arith, v .0)) }) (w .1))
-      p
+  pub passed-unkept : Aiming sheet of table tied most → {mask left n : ℕ} → mask + left ≡ 2 ^ (tied .count) → Passed ok tot most mask left n
+      → (j : ℕ) → j < n → kept (mask + j) ≡ false
+  passed-unkept A {mask} {left} room P j l = unsought A (subst (λ (e : ℕ). Unsought ok tot most e (mask + j)) room (P .none j l))
 
   -- ---- one that fits and has the greatest total is full where each bid adds to it
   module _ (A : Aiming sheet of table tied most) (placed : Placed tied) (m : ℕ) (low : m < 2 ^ (tied .count)) (best : tot m ≡ most)
@@ -124,10 +107,50 @@ module _ (sheet : List ℕ) (of : Size) (table : List ℕ) (tied : Tied) (most :
         (λ t. absurd (omega (arith, gain j l f, A .top (m + 2 ^ p) (add-lt m p (tied .count) f (placed .ranks j l) low) t)))
         (λ g. rw g)))
 
-    pub full-best : (n : ℕ) → n ≤ tied .count → true ≡ fullTo ok (tied .ranks) m n
+    full-best : (n : ℕ) → n ≤ tied .count → true ≡ fullTo ok (tied .ranks) m n
     unfolding fullTo
     full-best zero h = refl
     full-best (suc n) h = rw (shut n h) (full-best n (omega arith))
+
+-- one that fits and has the greatest total
+module _ (ok : ℕ → Bool) (tot : ℕ → ℕ) (most m : ℕ) {w : ℕ} (ew : w ≡ tot m) where
+  pub near-is : {f : Bool} → w ≡ most → f ≡ ok m → f ≡ nearBy ok tot most m
+  unfolding nearBy
+  near-is e ef = rw (← ew, eq-eqb w most e) ef
+
+  pub near-other : (w ≡ most → ⊥) → false ≡ nearBy ok tot most m
+  unfolding nearBy
+  near-other n = rw (← ew, ne-eqb w most n)
+
+-- one that is near is kept if it is full; and any other is not
+module _ (sheet : List ℕ) (of : Size) (table : List ℕ) (tied : Tied) (most m : ℕ) {b : Bool} (eb : b ≡ nearBy (okBy sheet of table) (lastBy of table) most m) where
+  near-most : b ≡ true → lastBy of table m ≡ most
+  unfolding nearBy
+  near-most h = eqb-true (lastBy of table m) most (and-true (eqb (lastBy of table m) most) (okBy sheet of table m) (sym eb ∙ h) .0)
+
+  pub near-full : {f : Bool} → b ≡ true → f ≡ fullTo (okBy sheet of table) (tied .ranks) m (tied .count) → f ≡ keptBy sheet of table tied most m
+  unfolding nearBy keptBy
+  near-full h ef =
+      let a = and-true (eqb (lastBy of table m) most) (okBy sheet of table m) (sym eb ∙ h) in
+      rw (a .0, a .1) ef
+
+  pub near-not : b ≡ false → false ≡ keptBy sheet of table tied most m
+  unfolding nearBy keptBy
+  near-not h =
+      ⊎-elim (λ e. rw e (none (okBy sheet of table m))) (λ e. rw e) (and-false (eqb (lastBy of table m) most) (okBy sheet of table m) (sym eb ∙ h))
+    where
+      none : (a : Bool) → false ≡ (a && false)
+      none true = refl
+      none false = refl
+
+-- where each bid adds to the total, one that is near is full
+module _ (sheet : List ℕ) (of : Size) (table : List ℕ) (tied : Tied) (most : ℕ) (A : Aiming sheet of table tied most) (placed : Placed tied)
+    (gain : (m j : ℕ) → m < 2 ^ (tied .count) → j < tied .count → has m (getD (tied .ranks) j 0) ≡ false
+    → lastBy of table m < lastBy of table (m + 2 ^ getD (tied .ranks) j 0)) where
+  pub near-whole : (m : ℕ) {b : Bool} → m < 2 ^ (tied .count) → b ≡ nearBy (okBy sheet of table) (lastBy of table) most m → b ≡ true
+      → true ≡ fullTo (okBy sheet of table) (tied .ranks) m (tied .count)
+  near-whole m l eb h =
+      full-best sheet of table tied most A placed m l (near-most sheet of table tied most m eb h) (λ j g f. gain m j l g f) (tied .count) (omega arith)
 
 -- what is known where the greatest total is
 aiming : (sheet : List ℕ) (of : Size) (table : List ℕ) (tied : Tied) {b : declared.Best} → Cuttable (okBy sheet of table) (lastBy of table) → Onto tied
@@ -143,9 +166,39 @@ aiming sheet of table tied {b} C O few eb = record {
     first : (m : ℕ) → m < 2 ^ (tied .count) → okBy sheet of table m ≡ true → okBy sheet of table 0 ≡ true
     first m l t = C .down 0 m (omega arith) (omega (arith, few)) (λ i u. clash u (has-none i)) t
 
--- ---- where none is left to be passed over
-pub unkept-none : {kept : ℕ → Bool} {mask end : ℕ} → mask < end → Unkept kept mask end 0
-unkept-none h = record { few = omega arith; none = λ j l. absurd (omega arith) }
+-- ---- what is passed over
+pub passed-none : {ok : ℕ → Bool} {tot : ℕ → ℕ} {most mask left : ℕ} → Passed ok tot most mask left 0
+passed-none = record { few = omega arith; none = λ j l. absurd (omega arith) }
+
+module _ {ok : ℕ → Bool} {tot : ℕ → ℕ} {most mask left size : ℕ} (B : Branch mask size) (room : size ≤ left) where
+  pub passed-cut : Past ok tot most mask size → Passed ok tot most mask left size
+  passed-cut p = record { few = room; none = λ j l. inl (p j l) }
+
+  -- all undecided bids fit: to any combination but the last one of them can be added
+  pub passed-open : Cuttable ok tot → ok (mask + (size - 1)) ≡ true → Passed ok tot most mask left (size - 1)
+  passed-open C t = record { few = omega arith; none = λ j l. inr (inr (open-at j l)) }
+    where
+      open-at : (j : ℕ) → j < size - 1 → Open ok (mask + left) (mask + j)
+      open-at j l =
+          let q = free-place (B .sized .places) j (omega (arith, B .sized .is)) in
+          let i = q .0 in
+          let small : j < size = omega arith in
+          let more : mask + j + 2 ^ i ≡ mask + (j + 2 ^ i) = omega arith in
+          let h = added-low B j i small (q .1) (q .2) in
+          record {
+            place = i;
+            free = place-free B j i small (q .1) (q .2);
+            low = omega (arith, h, room);
+            fits = ap ok more
+                ∙ C .down (mask + (j + 2 ^ i)) (mask + (size - 1)) (omega (arith, B .room, h)) (omega (arith, B .room, some-size B)) (within-all B (j + 2 ^ i) h) t;
+          }
+
+module _ {ok : ℕ → Bool} {tot : ℕ → ℕ} {most mask left n : ℕ} (O : Other tot most mask n) where
+  pub passed-others : n ≤ left → Passed ok tot most mask left n
+  passed-others h = record { few = h; none = λ j l. inr (inl (O .none j l)) }
+
+  pub passed-left : left < n → Passed ok tot most mask left left
+  passed-left h = record { few = omega arith; none = λ j l. inr (inl (O .none j (omega arith))) }
 
 -- ---- of the gathered bids
 module _ (sheet : List ℕ) (of : Size) (base : List ℕ) (tied : Tied) (p : ℕ) (B : Based sheet of base) (G : Gathered of tied) (R : Rising base)

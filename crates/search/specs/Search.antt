@@ -4,17 +4,19 @@ use mathlib.Core.Path.{_≡_}
 use mathlib.Core.Bool.{Bool, true, false, _&&_}
 use mathlib.Core.Logic.{_⊎_}
 use mathlib.Core.List.{List}
+use lib.Bits.{bitOr}
 use lib.ListN.{getD}
-use lib.Dec.{leb}
-use Rattle.rules.specs.Names.{mostDeliveries}
+use lib.Dec.{eqb, leb}
+use Rattle.rules.specs.Names.{mostYears, mostDeliveries}
 use Rattle.rules.specs.Lists.{pick}
 use Rattle.rules.specs.Pot.{has}
 use Rattle.sheet.specs.declared.Size.{Size}
 use Rattle.sheet.specs.Sheet.{columns}
 use Rattle.combinations.specs.declared.Tied.{Tied}
-use Rattle.combinations.specs.Combinations.{yearSets, combinations}
+use Rattle.combinations.specs.Combinations.{yearSets, combinations, partSize, mostBase, partCost, partYears, Tabled}
 use Rattle.ties.specs.Ties.{okBy, lastBy}
 use Rattle.search.specs.declared.greatest.Found.{Found}
+use Rattle.search.specs.declared.scan.Upper.{Upper}
 
 -- ---- what passing over a branch rests on
 
@@ -84,21 +86,56 @@ pub record Fallen (ok : ℕ → Bool) (tot : ℕ → ℕ) (goal left n : ℕ) : 
 unfoldable pub metOf : (ok : ℕ → Bool) (tot : ℕ → ℕ) (mask : ℕ) → Found → Found
 metOf ok tot mask f = pick (ok mask && leb (f .goal) (tot mask)) (record { mask = mask; goal = tot mask + 1 }) f
 
+-- ---- the numbers whose upper parts are those of h: which years these touch and what they count in the last year; and the total with the lowest part v
+pub record Lasting (of : Size) (table : List ℕ) : Type 0 where
+  pub tables : Tabled table
+  pub some : 0 < of .years
+  pub years : of .years ≤ mostYears
+
+unfoldable pub upperOf : (of : Size) (table : List ℕ) (h : ℕ) → Upper
+upperOf of table h = record {
+  years = bitOr (partYears table 1 (h % partSize)) (bitOr (partYears table 2 (h / partSize % partSize)) (partYears table 3 (h / partSize / partSize)));
+  sum = partCost table 1 (h % partSize) (of .years - 1) + partCost table 2 (h / partSize % partSize) (of .years - 1)
+      + partCost table 3 (h / partSize / partSize) (of .years - 1);
+}
+
+pub record Upright (u : Upper) : Type 0 where
+  pub years : u .years < yearSets
+  pub sum : u .sum ≤ 3 * mostBase
+
+unfoldable pub totalAt : (of : Size) (table : List ℕ) → Upper → (v : ℕ) → ℕ
+totalAt of table u v =
+    getD table (bitOr (partYears table 0 v) (u .years) * columns + (of .years - 1)) 0 + partCost table 0 v (of .years - 1) + u .sum
+
+-- n combinations from `mask` on have another total; and n before `left` have less, or more than the limit
+pub record Other (tot : ℕ → ℕ) (most mask n : ℕ) : Type 0 where
+  pub few : n ≤ partSize - mask % partSize
+  pub none : (j : ℕ) → j < n → tot (mask + j) ≡ most → ⊥
+
+pub record Short (tot : ℕ → ℕ) (goal limit left n : ℕ) : Type 0 where
+  pub few : n ≤ left
+  pub none : (m : ℕ) → left - n ≤ m → m < left → (tot m < goal) ⊎ (limit < tot m)
+
 -- ---- those kept
 
--- what is known of a branch of which n combinations are passed over: none is; or it is cut off; or all of its undecided bids fit, and the last is not passed over
-pub record Whole (mask left size : ℕ) : Type 0 where
-  pub branch : Branch mask size
-  pub room : size ≤ left
+-- a bid whose place the combination m has not can be added
+pub record Open (ok : ℕ → Bool) (end m : ℕ) : Type 0 where
+  pub place : ℕ
+  pub free : has m place ≡ false
+  pub low : m + 2 ^ place < end
+  pub fits : ok (m + 2 ^ place) ≡ true
 
-abbrev pub Passed : (ok : ℕ → Bool) (tot : ℕ → ℕ) (most mask left size n : ℕ) → Type 0
-Passed ok tot most mask left size n =
-    (n ≡ 0) ⊎ (Whole mask left size × (((n ≡ size) × Past ok tot most mask size) ⊎ ((n ≡ size - 1) × (ok (mask + (size - 1)) ≡ true))))
+-- a combination that is not sought: it does not fit or falls short, has another total, or a bid can be added; and n of these from `mask` on
+abbrev pub Unsought : (ok : ℕ → Bool) (tot : ℕ → ℕ) (most end m : ℕ) → Type 0
+Unsought ok tot most end m = ((ok m && leb most (tot m)) ≡ false) ⊎ ((tot m ≡ most → ⊥) ⊎ Open ok end m)
 
--- of n combinations from `mask` on, which end before `end`, none is kept
-pub record Unkept (kept : ℕ → Bool) (mask end n : ℕ) : Type 0 where
-  pub few : mask + n ≤ end
-  pub none : (j : ℕ) → j < n → kept (mask + j) ≡ false
+pub record Passed (ok : ℕ → Bool) (tot : ℕ → ℕ) (most mask left n : ℕ) : Type 0 where
+  pub few : n ≤ left
+  pub none : (j : ℕ) → j < n → Unsought ok tot most (mask + left) (mask + j)
+
+-- one that fits and has the greatest total
+unfoldable pub nearBy : (ok : ℕ → Bool) (tot : ℕ → ℕ) (most m : ℕ) → Bool
+nearBy ok tot most m = eqb (tot m) most && ok m
 
 -- what is known of what is sought: no combination that fits has more in the last year, and where no bid is idle each adds to it
 pub record Aiming (sheet : List ℕ) (of : Size) (table : List ℕ) (tied : Tied) (most : ℕ) : Type 0 where

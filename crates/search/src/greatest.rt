@@ -10,6 +10,7 @@ use super::branches::BOUGH;
 use super::branches::LIMB;
 use super::branches::TWIG;
 use super::branches::cut;
+use super::scan::shorts;
 use combinations::places::power;
 use combinations::tables::Table;
 use sheet::Sheet;
@@ -42,11 +43,12 @@ fn fall(sheet: &Sheet, of: Size, table: &Table, goal: u64, left: u32) -> u32
     requires { ⌜ (0 < left) × (left ≤ combinations) ⌝ }
     ensures { λ r. ⌜ Fallen (okBy (now (sheet .entry)) of (now (table .entry))) (lastBy of (now (table .entry))) goal left r ⌝ }
 {
+    let limit = sheet::limit(sheet, of.years - 1);
     if left % TWIG > 0 {
-        return 0;
+        return shorts(of, table, goal, limit, left);
     }
     // a full budget cannot be bettered
-    if sheet::limit(sheet, of.years - 1) < goal {
+    if limit < goal {
         return left;
     }
     if ends(sheet, of, table, goal, left, LIMB) {
@@ -58,7 +60,7 @@ fn fall(sheet: &Sheet, of: Size, table: &Table, goal: u64, left: u32) -> u32
     if ends(sheet, of, table, goal, left, TWIG) {
         return TWIG;
     }
-    0
+    shorts(of, table, goal, limit, left)
 }
 
 // The one found, or a combination with a smaller number, if it is better.

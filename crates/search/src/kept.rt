@@ -3,11 +3,12 @@ ghost use mathlib.Core.Path.{_≡_};
 ghost use Prim.Native.Nat.{_+_, _^_, _≤_, _<_};
 ghost use Rattle.combinations.specs.Combinations.{combinations};
 ghost use Rattle.ties.specs.Ties.{Searching, Drawing, okBy, lastBy, keptBy, listedOf};
-ghost use Rattle.search.specs.Search.{Cuttable, Sized, Passed, Unkept, Aiming, Gaining};
+ghost use Rattle.search.specs.Search.{Cuttable, Sized, Passed, nearBy, Aiming, Gaining};
 use super::branches::BOUGH;
 use super::branches::LIMB;
 use super::branches::TWIG;
 use super::branches::cut;
+use super::scan::others;
 use combinations::Tied;
 use combinations::places::power;
 use combinations::tables::Table;
@@ -34,12 +35,12 @@ pub struct From {
     pub left: u32,
 }
 
-// Of the branch of so many combinations that starts there, if one does, how many from its first on are not kept: all where it can be cut off; all but the last
+// Of the branch of so many combinations that starts there, if one does, how many from its first on are not sought: all where it can be cut off; all but the last
 // where all undecided bids fit, for then one of them can be added to any other; else none is passed over.
 fn passed(sheet: &Sheet, of: Size, table: &Table, most: u64, from: From, size: u32) -> u32
     requires { ⌜ Searching (now sheet) of (now table) × Cuttable (okBy (now sheet) of (now table)) (lastBy of (now table)) ⌝ }
     requires { ⌜ (from .mask + from .left ≤ combinations) × Sized size ⌝ }
-    ensures { λ r. ⌜ Passed (okBy (now (sheet .entry)) of (now (table .entry))) (lastBy of (now (table .entry))) most (from .mask) (from .left) size r ⌝ }
+    ensures { λ r. ⌜ Passed (okBy (now (sheet .entry)) of (now (table .entry))) (lastBy of (now (table .entry))) most (from .mask) (from .left) r ⌝ }
 {
     if from.mask % size > 0 {
         return 0;
@@ -61,48 +62,48 @@ fn passed(sheet: &Sheet, of: Size, table: &Table, most: u64, from: From, size: u
     0
 }
 
-// How many combinations from `mask` on can be passed over. Small branches are looked at only where one that has the greatest total may yet not be kept.
-fn rise(sheet: &Sheet, of: Size, table: &Table, tied: Tied, aim: Aim, mask: u32) -> u32
-    requires { ⌜ Drawing (now sheet) of (now table) tied × Aiming (now sheet) of (now table) tied (aim .most) × (mask < 2 ^ tied .count) ⌝ }
-    ensures { λ r. ⌜ Unkept (keptBy (now (sheet .entry)) of (now (table .entry)) tied (aim .most)) mask (2 ^ tied .count) r ⌝ }
+// How many from there on can be passed over: a branch, or those of one that have another total. Small branches are looked at only where a bid is idle.
+fn rise(sheet: &Sheet, of: Size, table: &Table, aim: Aim, from: From) -> u32
+    requires { ⌜ Searching (now sheet) of (now table) × Cuttable (okBy (now sheet) of (now table)) (lastBy of (now table)) ⌝ }
+    requires { ⌜ (0 < from .left) × (from .mask + from .left ≤ combinations) ⌝ }
+    ensures { λ r. ⌜ Passed (okBy (now (sheet .entry)) of (now (table .entry))) (lastBy of (now (table .entry))) (aim .most) (from .mask) (from .left) r ⌝ }
 {
-    let from = From {
-        mask,
-        left: power(tied.count as u32) - mask,
-    };
-    if mask % TWIG > 0 {
-        if aim.idle {
-            return passed(sheet, of, table, aim.most, from, SHOOT);
+    if from.mask % TWIG == 0 {
+        let limb = passed(sheet, of, table, aim.most, from, LIMB);
+        if limb > 0 {
+            return limb;
         }
-        return 0;
-    }
-    let limb = passed(sheet, of, table, aim.most, from, LIMB);
-    if limb > 0 {
-        return limb;
-    }
-    let bough = passed(sheet, of, table, aim.most, from, BOUGH);
-    if bough > 0 {
-        return bough;
-    }
-    passed(sheet, of, table, aim.most, from, TWIG)
-}
-
-// Is a combination kept? Where no bid is idle, one that has the greatest total is full.
-fn keeps(sheet: &Sheet, of: Size, table: &Table, tied: Tied, aim: Aim, mask: u32) -> bool
-    requires { ⌜ Drawing (now sheet) of (now table) tied × Aiming (now sheet) of (now table) tied (aim .most) ⌝ }
-    requires { ⌜ Gaining of (now table) tied (aim .idle) × (mask < 2 ^ tied .count) ⌝ }
-    ensures { λ r. ⌜ r ≡ keptBy (now (sheet .entry)) of (now (table .entry)) tied (aim .most) mask ⌝ }
-{
-    if last(of, table, mask) != aim.most {
-        return false;
-    }
-    if !fitting(sheet, of, table, mask) {
-        return false;
+        let bough = passed(sheet, of, table, aim.most, from, BOUGH);
+        if bough > 0 {
+            return bough;
+        }
+        let twig = passed(sheet, of, table, aim.most, from, TWIG);
+        if twig > 0 {
+            return twig;
+        }
     }
     if aim.idle {
-        return full(sheet, of, table, tied, mask);
+        let shoot = passed(sheet, of, table, aim.most, from, SHOOT);
+        if shoot > 0 {
+            return shoot;
+        }
     }
-    true
+    let n = others(of, table, aim.most, from.mask);
+    if n > from.left {
+        return from.left;
+    }
+    n
+}
+
+// Does a combination fit and have the greatest total?
+fn near(sheet: &Sheet, of: Size, table: &Table, most: u64, mask: u32) -> bool
+    requires { ⌜ Searching (now sheet) of (now table) × (mask < combinations) ⌝ }
+    ensures { λ r. ⌜ r ≡ nearBy (okBy (now (sheet .entry)) of (now (table .entry))) (lastBy of (now (table .entry))) most mask ⌝ }
+{
+    if last(of, table, mask) == most {
+        return fitting(sheet, of, table, mask);
+    }
+    false
 }
 
 // Those kept: how many, and the one at a place.
@@ -121,12 +122,22 @@ pub fn search_kept(
     let mut list = Listed { count: 0, mask: 0 };
     let mut mask: u32 = 0;
     while mask < end {
-        let passed = rise(sheet, of, table, tied, aim, mask);
+        let from = From {
+            mask,
+            left: end - mask,
+        };
+        let passed = rise(sheet, of, table, aim, from);
         if passed > 0 {
             mask += passed;
         } else {
-            if keeps(sheet, of, table, tied, aim, mask) {
-                list = counted(list, mask, place);
+            if near(sheet, of, table, aim.most, mask) {
+                if !aim.idle {
+                    list = counted(list, mask, place);
+                } else {
+                    if full(sheet, of, table, tied, mask) {
+                        list = counted(list, mask, place);
+                    }
+                }
             }
             mask += 1;
         }

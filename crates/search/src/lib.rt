@@ -8,6 +8,7 @@ ghost use Rattle.ties.specs.Ties.{Based, topBy, tableFor, answerOf, choiceOf};
 mod branches;
 mod greatest;
 mod kept;
+mod scan;
 mod sound;
 
 use combinations::Tied;
@@ -46,6 +47,10 @@ pub fn search(sheet: &Sheet, of: Size, base: &Base, tied: Tied, price: u64, draw
         return Answer { mask: 0, ways };
     }
     let place = (drawn - 1) % ways;
+    if place == 0 {
+        let mask = first.mask;
+        return Answer { mask, ways };
+    }
     let list = kept::search_kept(sheet, of, &table, tied, aim, place);
     let mask = list.mask;
     Answer { mask, ways }

@@ -2,7 +2,7 @@
 use borrow.Author.Needs.{needs}
 use native.Mathlib.Omega.{arith}
 use Prim.Native.Nat.{_-_}
-use mathlib.Core.Path.{refl}
+use mathlib.Core.Path.{refl, sym}
 use Rattle.laws_pot.specs.Lists.{not-is-false}
 use Rattle.combinations.proofs.Lists.{gathered-owned}
 use Rattle.ties.proofs.Laws.{drawing, answer-is, answer-top, answer-none, answer-place}
@@ -46,14 +46,18 @@ returns-3 c = answer-is _ _ _ _ _ _ (c .before .before .before .before .before .
 sub-place : tie.Need-sub-place
 sub-place c = omega (arith, c .before .if2 .left)
 
-search-kept-requires-2 : tie.Need-search-kept-requires-2
-search-kept-requires-2 c κs = let s = c .before .before .before .before .before .before .before .before .before .before .before .before .before .sound .ensures (not-is-false _ (c .before .before .before .before .before .before .before .before .before .before .before .before .if1 .left)) in
-    kept-ready _ _ _ _ _ (c .before .before .before .before .before .before .before .before .before .before .before .before .before .before .pre .0) (c .before .before .before .before .before .before .before .before .before .before .before .before .before .before .pre .1) (s .rising) (c .before .before .before .before .before .before .before .before .before .before .before .owns .ensures) (c .before .before .before .before .before .before .before .before .before .table .ensures) (s .onto) (c .before .before .before .before .before .before .before .greatest .ensures) (c .before .before .before .before .before .idle .ensures)
-
 returns-4 : tie.Need-returns-4
-returns-4 c = answer-is _ _ _ _ _ _ (c .before .before .before .before .before .before .before .before .before .before .before .before .owns .ensures) (c .before .before .before .before .before .before .before .before .before .before .table .ensures)
-    (answer-place _ _ _ _ (c .before .before .before .before .before .before .before .before .greatest .ensures) (c .before .before .before .before .search-kept .ensures) (c .before .before .before .before .before .before .before .before .before .before .before .before .before .before .before .args .drawn - 1) (omega (arith, c .before .before .before .if2 .left)) _ refl (c .search-kept2 .ensures))
+returns-4 c = answer-is _ _ _ _ _ _ (c .before .before .before .before .before .before .before .before .before .before .before .owns .ensures) (c .before .before .before .before .before .before .before .before .before .table .ensures)
+    (answer-place _ _ _ _ (c .before .before .before .before .before .before .before .greatest .ensures) (c .before .before .before .search-kept .ensures) (c .before .before .before .before .before .before .before .before .before .before .before .before .before .before .args .drawn - 1) (omega (arith, c .before .before .if2 .left)) 0 (sym (c .if4 .taken)) (c .before .before .before .search-kept .ensures))
+
+search-kept-requires-2 : tie.Need-search-kept-requires-2
+search-kept-requires-2 c κs = let s = c .before .before .before .before .before .before .before .before .before .before .before .before .before .before .sound .ensures (not-is-false _ (c .before .before .before .before .before .before .before .before .before .before .before .before .before .if1 .left)) in
+    kept-ready _ _ _ _ _ (c .before .before .before .before .before .before .before .before .before .before .before .before .before .before .before .pre .0) (c .before .before .before .before .before .before .before .before .before .before .before .before .before .before .before .pre .1) (s .rising) (c .before .before .before .before .before .before .before .before .before .before .before .before .owns .ensures) (c .before .before .before .before .before .before .before .before .before .before .table .ensures) (s .onto) (c .before .before .before .before .before .before .before .before .greatest .ensures) (c .before .before .before .before .before .before .idle .ensures)
+
+returns-5 : tie.Need-returns-5
+returns-5 c = answer-is _ _ _ _ _ _ (c .before .before .before .before .before .before .before .before .before .before .before .before .before .owns .ensures) (c .before .before .before .before .before .before .before .before .before .before .before .table .ensures)
+    (answer-place _ _ _ _ (c .before .before .before .before .before .before .before .before .before .greatest .ensures) (c .before .before .before .before .before .search-kept .ensures) (c .before .before .before .before .before .before .before .before .before .before .before .before .before .before .before .before .args .drawn - 1) (omega (arith, c .before .before .before .before .if2 .left)) _ refl (c .search-kept2 .ensures))
 
 pub search-spec : {M : Type 1} → statement M
 search-spec =
-    tie.close (tie.spec sound-requires listing-requires returns owns-requires table-requires greatest-requires idle-requires search-kept-requires returns-2 returns-3 sub-place (λ c. search needs) search-kept-requires-2 returns-4)
+    tie.close (tie.spec sound-requires listing-requires returns owns-requires table-requires greatest-requires idle-requires search-kept-requires returns-2 returns-3 sub-place (λ c. search needs) returns-4 search-kept-requires-2 returns-5)

@@ -1,47 +1,44 @@
 -- `search::kept::rise` meets its contract.
 use native.Mathlib.Omega.{arith}
 use mathlib.Core.Path.{refl}
-use Rattle.search.proofs.Best.{power-low}
-use Rattle.search.proofs.Ways.{unkept-none, passed-unkept}
+use Rattle.search.proofs.Best.{lasting}
+use Rattle.search.proofs.Ways.{passed-left, passed-others}
 use Rattle.search.proofs.kept.rise.Statement.{statement}
 use Rattle.search.proofs.kept.rise.Tie as tie
 
-cast-power : tie.Need-cast-power
-cast-power c = omega (arith, c .before .pre .0 .placed .few)
-
-power-requires : tie.Need-power-requires
-power-requires c κs = omega (arith, c .before .pre .0 .placed .few)
-
-sub-t12 : tie.Need-sub-t12
-sub-t12 c = omega (arith, c .power .ensures, c .before .before .pre .2)
-
 passed-requires : tie.Need-passed-requires
-passed-requires c κs = ((c .before .before .before .before .pre .0 .searching, c .before .before .before .before .pre .1 .cuts), (omega (arith, c .before .before .power .ensures, c .before .before .before .before .pre .2, power-low (c .before .before .before .before .pre .0 .placed .few)), record { places = 2; is = refl }))
+passed-requires c κs = (c .before .before .pre .0, (c .before .before .pre .1 .1, record { places = 15; is = refl }))
 
 returns : tie.Need-returns
-returns c = passed-unkept _ _ _ _ _ (c .before .before .before .before .before .pre .1) (omega (arith, c .before .before .before .power .ensures, c .before .before .before .before .before .pre .2)) (c .passed .ensures)
-
-returns-2 : tie.Need-returns-2
-returns-2 c = unkept-none (c .before .before .before .before .pre .2)
+returns c = c .before .passed .ensures
 
 passed-requires-2 : tie.Need-passed-requires-2
-passed-requires-2 c κs = ((c .before .before .before .pre .0 .searching, c .before .before .before .pre .1 .cuts), (omega (arith, c .before .power .ensures, c .before .before .before .pre .2, power-low (c .before .before .before .pre .0 .placed .few)), record { places = 15; is = refl }))
+passed-requires-2 c κs = (c .before .before .before .before .pre .0, (c .before .before .before .before .pre .1 .1, record { places = 10; is = refl }))
 
-returns-3 : tie.Need-returns-3
-returns-3 c = passed-unkept _ _ _ _ _ (c .before .before .before .before .before .pre .1) (omega (arith, c .before .before .before .power .ensures, c .before .before .before .before .before .pre .2)) (c .before .passed2 .ensures)
+returns-2 : tie.Need-returns-2
+returns-2 c = c .before .passed2 .ensures
 
 passed-requires-3 : tie.Need-passed-requires-3
-passed-requires-3 c κs = ((c .before .before .before .before .before .pre .0 .searching, c .before .before .before .before .before .pre .1 .cuts), (omega (arith, c .before .before .before .power .ensures, c .before .before .before .before .before .pre .2, power-low (c .before .before .before .before .before .pre .0 .placed .few)), record { places = 10; is = refl }))
+passed-requires-3 c κs = (c .before .before .before .before .before .before .pre .0, (c .before .before .before .before .before .before .pre .1 .1, record { places = 5; is = refl }))
 
-returns-4 : tie.Need-returns-4
-returns-4 c = passed-unkept _ _ _ _ _ (c .before .before .before .before .before .before .before .pre .1) (omega (arith, c .before .before .before .before .before .power .ensures, c .before .before .before .before .before .before .before .pre .2)) (c .before .passed3 .ensures)
+returns-3 : tie.Need-returns-3
+returns-3 c = c .before .passed3 .ensures
 
 passed-requires-4 : tie.Need-passed-requires-4
-passed-requires-4 c κs = ((c .before .before .before .before .before .before .before .pre .0 .searching, c .before .before .before .before .before .before .before .pre .1 .cuts), (omega (arith, c .before .before .before .before .before .power .ensures, c .before .before .before .before .before .before .before .pre .2, power-low (c .before .before .before .before .before .before .before .pre .0 .placed .few)), record { places = 5; is = refl }))
+passed-requires-4 c κs = (c .before .before .before .pre .0, (c .before .before .before .pre .1 .1, record { places = 2; is = refl }))
+
+returns-4 : tie.Need-returns-4
+returns-4 c = c .before .passed4 .ensures
+
+others-requires : tie.Need-others-requires
+others-requires c κs = (lasting (c .before .before .before .pre .0 .0), omega (arith, c .before .before .before .pre .1))
 
 returns-5 : tie.Need-returns-5
-returns-5 c = passed-unkept _ _ _ _ _ (c .before .before .before .before .before .before .before .before .pre .1) (omega (arith, c .before .before .before .before .before .before .power .ensures, c .before .before .before .before .before .before .before .before .pre .2)) (c .passed4 .ensures)
+returns-5 c = passed-left (c .before .before .others .ensures) (c .if7 .taken)
+
+returns-6 : tie.Need-returns-6
+returns-6 c = passed-others (c .before .before .others .ensures) (c .if7 .left)
 
 pub rise-spec : {M : Type 1} → statement M
 rise-spec =
-    tie.close (tie.spec cast-power power-requires sub-t12 passed-requires returns returns-2 passed-requires-2 returns-3 passed-requires-3 returns-4 passed-requires-4 returns-5)
+    tie.close (tie.spec passed-requires returns passed-requires-2 returns-2 passed-requires-3 returns-3 passed-requires-4 returns-4 others-requires returns-5 returns-6)

@@ -1,12 +1,13 @@
 -- The invariant: those kept of the combinations passed are counted.
 use native.Mathlib.Omega.{arith}
 use Prim.Native.Nat.{_-_, _≤_}
-use mathlib.Core.Path.{_≡_, _∙_}
+use mathlib.Core.Path.{_≡_, refl, _∙_}
 use mathlib.Core.Logic.{⊎-elim}
 use Rattle.ties.specs.Ties.{keptBy, listedOf}
 use Rattle.ties.proofs.Laws.{ends, mask-low, listed-none, listed-few, listed-more, listed-same}
 use Rattle.search.proofs.Best.{power-low}
-use Rattle.search.proofs.Ways.{listed-past}
+use Rattle.laws_pot.specs.Lists.{not-is-true}
+use Rattle.search.proofs.Ways.{listed-past, passed-unkept, near-full, near-whole, near-not}
 use Rattle.search.proofs.kept.search_kept.Statement.{statement}
 use Rattle.search.proofs.kept.search_kept.Tie as tie
 
@@ -25,23 +26,35 @@ power-requires c κs = omega (arith, c .before .pre .0 .placed .few)
 loop-holds : tie.Need-loop-holds Inv-loop μ-loop
 loop-holds c = (omega arith, listed-none _ _)
 
+sub-t14 : tie.Need-sub-t14 Inv-loop μ-loop
+sub-t14 c = c .before .loop .inv .0
+
 rise-requires : tie.Need-rise-requires Inv-loop μ-loop
-rise-requires c κs = (c .before .before .before .before .pre .0, c .before .before .before .before .pre .1, omega (arith, c .loop-test .taken, c .before .before .power .ensures))
+rise-requires c κs = ((c .before .before .before .before .pre .0 .searching, c .before .before .before .before .pre .1 .cuts), (omega (arith, c .loop-test .taken), omega (arith, c .before .loop .inv .0, c .before .before .power .ensures, power-low (c .before .before .before .before .pre .0 .placed .few))))
 
 add-mask : tie.Need-add-mask Inv-loop μ-loop
-add-mask c = omega (arith, c .before .rise .ensures .few, power-low (c .before .before .before .before .before .before .pre .0 .placed .few))
+add-mask c = omega (arith, c .before .rise .ensures .few, c .before .before .before .loop .inv .0, c .before .before .before .before .power .ensures, power-low (c .before .before .before .before .before .before .pre .0 .placed .few))
 
 loop-less : tie.Need-loop-less Inv-loop μ-loop
 loop-less c = omega (arith, c .if1 .taken, c .before .before .loop-test .taken)
 
 loop-again : tie.Need-loop-again Inv-loop μ-loop
-loop-again c = (omega (arith, c .before .rise .ensures .few, c .before .before .before .before .power .ensures), listed-past _ _ _ _ (c .before .before .before .loop .inv .1) (c .before .rise .ensures .none))
+loop-again c = (
+  omega (arith, c .before .rise .ensures .few, c .before .before .before .loop .inv .0),
+  listed-past _ _ _ _ (c .before .before .before .loop .inv .1) (passed-unkept _ _ _ _ _ (c .before .before .before .before .before .before .pre .1) (omega (arith, c .before .before .before .loop .inv .0, c .before .before .before .before .power .ensures)) (c .before .rise .ensures)),
+)
 
-keeps-requires : tie.Need-keeps-requires Inv-loop μ-loop
-keeps-requires c κs = ((c .before .before .before .before .before .before .pre .0, c .before .before .before .before .before .before .pre .1), (c .before .before .before .before .before .before .pre .2, omega (arith, c .before .before .loop-test .taken, c .before .before .before .before .power .ensures)))
+near-requires : tie.Need-near-requires Inv-loop μ-loop
+near-requires c κs = (c .before .before .before .before .before .before .pre .0 .searching, mask-low (c .before .before .before .before .before .before .pre .0 .placed .few) (c .before .before .before .before .power .ensures) (c .before .before .loop-test .taken))
 
 counted-requires : tie.Need-counted-requires Inv-loop μ-loop
-counted-requires c κs = omega (arith, listed-few _ _ (c .before .before .before .before .before .loop .mask) (c .before .before .before .before .before .loop .inv .1), mask-low (c .before .before .before .before .before .before .before .before .pre .0 .placed .few) (c .before .before .before .before .before .before .power .ensures) (c .before .before .before .before .loop-test .taken))
+counted-requires c κs = omega (arith, listed-few _ _ (c .before .before .before .before .before .before .before .loop .mask) (c .before .before .before .before .before .before .before .loop .inv .1), mask-low (c .before .before .before .before .before .before .before .before .before .before .pre .0 .placed .few) (c .before .before .before .before .before .before .before .before .power .ensures) (c .before .before .before .before .before .before .loop-test .taken))
+
+full-requires : tie.Need-full-requires Inv-loop μ-loop
+full-requires c κs = (c .before .before .before .before .before .before .before .before .before .before .pre .0, mask-low (c .before .before .before .before .before .before .before .before .before .before .pre .0 .placed .few) (c .before .before .before .before .before .before .before .before .power .ensures) (c .before .before .before .before .before .before .loop-test .taken))
+
+counted-requires-2 : tie.Need-counted-requires-2 Inv-loop μ-loop
+counted-requires-2 c κs = omega (arith, listed-few _ _ (c .before .before .before .before .before .before .before .before .before .loop .mask) (c .before .before .before .before .before .before .before .before .before .loop .inv .1), mask-low (c .before .before .before .before .before .before .before .before .before .before .before .before .pre .0 .placed .few) (c .before .before .before .before .before .before .before .before .before .before .power .ensures) (c .before .before .before .before .before .before .before .before .loop-test .taken))
 
 add-mask-2 : tie.Need-add-mask-2 Inv-loop μ-loop
 add-mask-2 c = omega (arith, mask-low (c .before .before .before .before .before .before .before .before .pre .0 .placed .few) (c .before .before .before .before .before .before .power .ensures) (c .before .before .before .before .loop-test .taken))
@@ -53,8 +66,14 @@ loop-again-2 : tie.Need-loop-again-2 Inv-loop μ-loop
 loop-again-2 c = (
   omega (arith, c .before .before .before .before .loop-test .taken),
   let inv = c .before .before .before .before .before .loop .inv .1 in
-      let f = c .before .keeps .ensures in
-      ⊎-elim (λ w. w .2 ∙ listed-more _ _ _ inv f (w .0 .taken) (w .1 .ensures)) (λ w. w .1 ∙ listed-same _ _ _ inv f (w .0 .left)) (c .if2 .came),
+      let n = c .before .near .ensures in
+      ⊎-elim
+      (λ w. w .4 ∙ listed-more _ _ _ inv (near-full _ _ _ (c .before .before .before .before .before .before .before .before .args .tied) _ _ n (w .0 .taken) (near-whole _ _ _ _ _ (c .before .before .before .before .before .before .before .before .pre .1) (c .before .before .before .before .before .before .before .before .pre .0 .placed) (c .before .before .before .before .before .before .before .before .pre .2 (not-is-true _ (w .2 .taken))) _
+      (omega (arith, c .before .before .before .before .loop-test .taken, c .before .before .before .before .before .before .power .ensures)) n (w .0 .taken))) refl (w .3 .ensures))
+      (λ v. ⊎-elim (λ w. w .6 ∙ listed-more _ _ _ inv (near-full _ _ _ (c .before .before .before .before .before .before .before .before .args .tied) _ _ n (w .0 .taken) (w .3 .ensures)) (w .4 .taken) (w .5 .ensures))
+      (λ v. ⊎-elim (λ w. w .5 ∙ listed-same _ _ _ inv (near-full _ _ _ (c .before .before .before .before .before .before .before .before .args .tied) _ _ n (w .0 .taken) (w .3 .ensures)) (w .4 .left))
+      (λ w. w .1 ∙ listed-same _ _ _ inv (near-not _ _ _ (c .before .before .before .before .before .before .before .before .args .tied) _ _ n (w .0 .left)) refl) v) v)
+      (c .if2 .came),
 )
 
 returns : tie.Need-returns Inv-loop μ-loop
@@ -62,4 +81,4 @@ returns c = ends (listedOf _ _) _ (c .before .loop .inv .1) (c .before .loop .in
 
 pub search-kept-spec : {M : Type 1} → statement M
 search-kept-spec =
-    tie.close (tie.spec Inv-loop μ-loop cast-power power-requires loop-holds rise-requires add-mask loop-less loop-again keeps-requires counted-requires add-mask-2 loop-less-2 loop-again-2 returns)
+    tie.close (tie.spec Inv-loop μ-loop cast-power power-requires loop-holds sub-t14 rise-requires add-mask loop-less loop-again near-requires counted-requires full-requires counted-requires-2 add-mask-2 loop-less-2 loop-again-2 returns)
