@@ -2,7 +2,8 @@
  *
  * The library is one archive for x86-64 with these two functions. Both are proved to answer, for every file and every lent result, as the rules
  * say. They keep no state and have no globals: any number of threads may call them at once, each with a result of its own. They allocate
- * nothing, call nothing of the C library but memcpy and memset, and use about 116 KiB of stack. */
+ * nothing, call nothing of the C library but memcpy and memset, and use about TODO-FIGURE KiB of stack: no function calls itself, and what a tie
+ * needs does not grow with its combinations. docs/PERFORMANCE.md says how long a file may take. */
 #ifndef GUSTMIRROR_H
 #define GUSTMIRROR_H
 
@@ -31,11 +32,11 @@ uint64_t gustmirror_result_len(const uint8_t *file, uint64_t file_len);
  * gustmirror_result_len(file, file_len) of them are written, and those after stay as they were. On a refusal nothing is written.
  *
  * Numbers in the result are little-endian, without gaps: the count of pots (2 bytes), and for each pot its outcome (2; 0 administrative,
- * 1 auction, 2 a tie too wide), the clearing price of each delivery year (4; 4,294,967,295 for none) and the total of each year (8); the count of
- * applications (2), and for each won (2; 1 or 0), its bid (2; 65,535 none), its automatic reason (2; 0 where it had sealed bids, otherwise 6, 7 or
- * 8) and the price paid (4; 0 if lost); the count of bids (2), and for each its reason (2). Reasons are 1 won; 2 turned down alone; 3 turned down
- * in a tie; 4 not looked at, its application won; 5 not looked at, otherwise; 6 outcome 0; 7 outcome 2; 8 no sealed bid, outcome 1. Prices are
- * tenths of a penny per MWh, totals pence. */
+ * 1 auction, 2 a tie too wide: of 21 remaining bids or more), the clearing price of each delivery year (4; 4,294,967,295 for none) and the total of
+ * each year (8); the count of applications (2), and for each won (2; 1 or 0), its bid (2; 65,535 none), its automatic reason (2; 0 where it had
+ * sealed bids, otherwise 6, 7 or 8) and the price paid (4; 0 if lost); the count of bids (2), and for each its reason (2). Reasons are 1 won; 2
+ * turned down alone; 3 turned down in a tie; 4 not looked at, its application won; 5 not looked at, otherwise; 6 outcome 0; 7 outcome 2; 8 no sealed
+ * bid, outcome 1. Prices are tenths of a penny per MWh, totals pence. */
 uint64_t gustmirror_clear(const uint8_t *file, uint64_t file_len, uint8_t *result, uint64_t result_len);
 
 /* A refusal taken apart. */
