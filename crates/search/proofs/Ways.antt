@@ -1,17 +1,19 @@
 -- Those kept: of which combinations it is known that they are not, and when one that has the greatest total is. Assumes nothing.
-use Prim.Native.Nat.{ℕ, zero, suc, _+_, _-_, _*_, _^_, _≤_, _<_}
+use Prim.Native.Nat.{ℕ, zero, suc, _+_, _-_, _*_, _%_, _^_, _≤_, _<_}
 use mathlib.Core.Path.{_≡_, refl, sym, ap, subst, _∙_}
 use mathlib.Core.Bool.{Bool, true, false, not, _&&_}
 use mathlib.Core.Logic.{_⊎_, inl, inr, ⊎-elim}
-use mathlib.Core.List.{List}
+use mathlib.Core.List.{List, [], _∷_}
 use native.Mathlib.Numerals.{add-one}
 use native.Mathlib.Nat.{add-zero, add-suc, add-assoc}
 use native.Mathlib.Omega.{arith}
-use lib.ListN.{getD}
+use lib.ListN.{length, getD, set, replicate, length-set}
 use lib.Pow.{pow-pos, pow-mono}
 use lib.Dec.{eqb, leb, ltb}
-use borrow.Author.Tests.{eqb-true, eq-eqb, ne-eqb, le-leb, ltb-true, ltb-false}
-use Rattle.rules.specs.Pot.{has}
+use borrow.Author.Tests.{eqb-true, eqb-false, eq-eqb, ne-eqb, le-leb, ltb-true, ltb-false}
+use Rattle.rules.specs.Names.{widestTie}
+use Rattle.rules.specs.Lists.{sift, below}
+use Rattle.rules.specs.Pot.{has, atPlace}
 use Rattle.laws_pot.specs.Lists.{case, clash, and-true, and-false}
 use Rattle.laws_pot.specs.Bits.{has-none, add-lt}
 use Rattle.laws_pot.specs.Tie.{best-is}
@@ -24,8 +26,9 @@ use Rattle.ties.specs.declared.listing.Listed.{Listed}
 use Rattle.ties.specs.declared.listing.Answer.{Answer}
 use Rattle.ties.specs.declared.Choice.{Choice}
 use Rattle.ties.specs.Ties.{Based, Drawing, okBy, lastBy, addableOf, fullTo, keptBy, listedOf, bestOf, topBy, answerBy, leftOf, tableFor, answerOf, chosenOf, choiceOf}
-use Rattle.ties.proofs.Laws.{listed-same, full-stops, drawing}
-use Rattle.search.specs.Search.{Cuttable, Rising, Onto, Busy, Branch, Past, Other, Open, Unsought, Passed, nearBy, Aiming, Gaining}
+use Rattle.arrays.proofs.Arrays.{put-is}
+use Rattle.ties.proofs.Laws.{listed-same, full-stops, drawing, answer-top, answer-none, answer-place}
+use Rattle.search.specs.Search.{limbs, limb, limbEnd, keptBefore, Tallied, placeOf, Cuttable, Rising, Onto, Busy, Branch, Past, Other, Open, Unsought, Passed, nearBy, Aiming, Gaining}
 use Rattle.search.proofs.Rise.{cuttable, gains}
 use Rattle.search.proofs.Best.{power-low}
 use Rattle.search.proofs.Branch.{free-place, place-free, added-low, within-all, some-size}
@@ -78,22 +81,22 @@ module _ (sheet : List ℕ) (of : Size) (table : List ℕ) (tied : Tied) (most :
       none false = refl
 
   -- nor is any that is passed over
-  unsought : Aiming sheet of table tied most → {m : ℕ} → Unsought ok tot most (2 ^ (tied .count)) m → kept m ≡ false
-  unsought A {m} u = ⊎-elim (kept-past m) (λ v. ⊎-elim (λ n. sym (kept-other m refl n))
+  unsought : Aiming sheet of table tied most → (end m : ℕ) → end ≤ 2 ^ (tied .count) → Unsought ok tot most end m → kept m ≡ false
+  unsought A end m r u = ⊎-elim (kept-past m) (λ v. ⊎-elim (λ n. sym (kept-other m refl n))
       (λ o.
       let b = A .onto (o .place) (low (o .place) (o .low)) in
       kept-addable m (b .bid) (b .low) (opened (b .is) (o .free) (o .fits))) v) u
     where
-      low : (i : ℕ) → m + 2 ^ i < 2 ^ (tied .count) → i < tied .count
+      low : (i : ℕ) → m + 2 ^ i < end → i < tied .count
       low i h = case (ltb i (tied .count)) (λ t. ltb-true i (tied .count) t)
-          (λ f. absurd (omega (arith, pow-mono {i = tied .count} {j = i} (ltb-false i (tied .count) f))))
+          (λ f. absurd (omega (arith, r, h, pow-mono {i = tied .count} {j = i} (ltb-false i (tied .count) f))))
 
       opened : {p i : ℕ} → p ≡ i → has m i ≡ false → ok (m + 2 ^ i) ≡ true → addableOf ok m p ≡ true
       opened e f t = unfold addableOf in rw (e, f, t)
 
-  pub passed-unkept : Aiming sheet of table tied most → {mask left n : ℕ} → mask + left ≡ 2 ^ (tied .count) → Passed ok tot most mask left n
+  pub passed-unkept : Aiming sheet of table tied most → {mask left n : ℕ} → mask + left ≤ 2 ^ (tied .count) → Passed ok tot most mask left n
       → (j : ℕ) → j < n → kept (mask + j) ≡ false
-  passed-unkept A {mask} {left} room P j l = unsought A (subst (λ (e : ℕ). Unsought ok tot most e (mask + j)) room (P .none j l))
+  passed-unkept A {mask} {left} room P j l = unsought A (mask + left) (mask + j) room (P .none j l)
 
   -- ---- one that fits and has the greatest total is full where each bid adds to it
   module _ (A : Aiming sheet of table tied most) (placed : Placed tied) (m : ℕ) (low : m < 2 ^ (tied .count)) (best : tot m ≡ most)
@@ -237,3 +240,133 @@ module _ (sheet : List ℕ) (of : Size) (base : List ℕ) (tied : Tied) (p : ℕ
       → c ≡ choiceOf sheet of base tied p drawn
   unfolding choiceOf
   choice-drawn drawn ea ec = rw (ec, ea)
+
+-- ---- limb by limb
+place-beyond : (place : ℕ) (l : List ℕ) → length l ≤ place → atPlace place l ≡ 0
+unfolding atPlace
+place-beyond place [] h = refl
+place-beyond place (x ∷ l) h = rw (ne-eqb (length l) place (λ e. let no : ⊥ = omega arith in no)) (place-beyond place l (omega arith))
+
+module _ (f : ℕ → Bool) (place n : ℕ) where
+  many-more : (r : ℕ) → length (sift f (below n)) ≤ length (sift f (below (n + r)))
+  many-more zero = rw (add-zero n) (omega arith)
+  many-more (suc r) = rw (add-suc n r) (case (f (n + r)) (λ t. rw t (omega (arith, many-more r))) (λ u. rw u (many-more r)))
+
+  place-stays : (r : ℕ) → place < length (sift f (below n)) → atPlace place (sift f (below (n + r))) ≡ atPlace place (sift f (below n))
+  unfolding atPlace
+  place-stays zero h = rw (add-zero n)
+  place-stays (suc r) h =
+      rw (add-suc n r) (case (f (n + r))
+      (λ t. rw (t, ne-eqb (length (sift f (below (n + r)))) place (λ e. let no : ⊥ = omega (arith, many-more r) in no)) (place-stays r h))
+      (λ u. rw u (place-stays r h)))
+
+module _ (n k : ℕ) where
+  pub limb-start : limbEnd n 0 ≡ 0
+  unfolding limbEnd
+  limb-start = omega arith
+
+  pub limb-up : (limbEnd n k ≤ limbEnd n (suc k)) × (limbEnd n (suc k) ≤ n)
+  unfolding limbEnd
+  limb-up = (omega arith, omega arith)
+
+  pub limb-whole : {x : ℕ} → x ≡ suc k * limb → n < x → n ≡ limbEnd n (suc k)
+  unfolding limbEnd
+  limb-whole e h = omega arith
+
+  pub limb-next : {x : ℕ} → x ≡ suc k * limb → x ≤ n → x ≡ limbEnd n (suc k)
+  unfolding limbEnd
+  limb-next e h = omega arith
+
+pub limb-last : (n : ℕ) → n ≤ combinations → limbEnd n limbs ≡ n
+unfolding limbEnd
+limb-last n h = omega arith
+
+module _ (f : ℕ → Bool) (n : ℕ) where
+  -- what is counted of one limb more
+  pub tally-more : (place k : ℕ) {out : List ℕ} {l : Listed} → Tallied f n k out → k < limbs → l ≡ listedOf f place (limbEnd n (suc k))
+      → Tallied f n (k + 1) (set out (k + 1) (l .count))
+  unfolding listedOf keptBefore
+  tally-more place k {out} {l} T h el = record {
+    size = length-set out (k + 1) (l .count) ∙ T .size;
+    each = λ i g.
+        put-is out (k + 1) i (l .count) 0 (omega (arith, T .size))
+        ∙ case (eqb i (k + 1))
+        (λ t. rw t (ap (λ (x : Listed). x .count) el ∙ ap (λ (x : ℕ). keptBefore f (limbEnd n x)) (sym (add-one k) ∙ sym (eqb-true i (k + 1) t))))
+        (λ u. let d = eqb-false i (k + 1) u in rw u (T .each i (omega arith)));
+  }
+
+  pub tally-none : Tallied f n 0 (replicate (limbs + 1) 0)
+  unfolding keptBefore
+  tally-none = record { size = refl; each = λ i h. let e : i ≡ 0 = omega arith in rw (e, limb-start n 0) }
+
+  module _ {counts : List ℕ} (T : Tallied f n limbs counts) (place k : ℕ) (h : k < limbs) where
+    -- the walk over limb k starts with what was counted before it
+    pub limb-list : keptBefore f (limbEnd n k) ≤ place → _≡_ {A = Listed} (record { count = getD counts k 0; mask = 0 }) (listedOf f place (limbEnd n k))
+    unfolding listedOf keptBefore
+    limb-list g = rw (T .each k (omega arith), place-beyond place (sift f (below (limbEnd n k))) g)
+
+    pub limb-past : getD counts (k + 1) 0 ≤ place → keptBefore f (limbEnd n (suc k)) ≤ place
+    limb-past g = omega (arith, T .each (k + 1) (omega arith), ap (λ (x : ℕ). keptBefore f (limbEnd n x)) (add-one k))
+
+    pub limb-place : {l : Listed} → l ≡ listedOf f place (limbEnd n (suc k)) → place < getD counts (k + 1) 0 → l .mask ≡ placeOf f n place
+    unfolding listedOf placeOf keptBefore
+    limb-place el g =
+        ap (λ (x : Listed). x .mask) el
+        ∙ sym (ap (λ (x : ℕ). atPlace place (sift f (below x))) whole ∙ place-stays f place (limbEnd n (suc k)) (n - limbEnd n (suc k))
+        (omega (arith, T .each (k + 1) (omega arith), ap (λ (x : ℕ). keptBefore f (limbEnd n x)) (add-one k))))
+      where
+        whole : n ≡ limbEnd n (suc k) + (n - limbEnd n (suc k))
+        whole = omega (arith, limb-up n k .1)
+
+  pub place-none : (place : ℕ) {m : ℕ} → m ≡ n → keptBefore f m ≤ place → 0 ≡ placeOf f n place
+  unfolding placeOf keptBefore
+  place-none place e h = sym (place-beyond place (sift f (below n)) (rw e at h))
+
+  pub none-yet : (place : ℕ) → keptBefore f (limbEnd n 0) ≤ place
+  unfolding keptBefore
+  none-yet place = rw (limb-start n 0) (omega arith)
+
+  pub few-more : (place k : ℕ) → keptBefore f (limbEnd n (suc k)) ≤ place → keptBefore f (limbEnd n (k + 1)) ≤ place
+  few-more place k h = rw (add-one k) h
+
+-- where limb k ends, by the code's end of the tie
+pub limb-same : (k : ℕ) {e n r : ℕ} → e ≡ n → r ≡ limbEnd e (suc k) → r ≡ limbEnd n (suc k)
+limb-same k ee er = rw ee at er
+
+pub limbs-all : {n k : ℕ} → k ≤ limbs → limbs ≤ k → n ≤ combinations → limbEnd n k ≡ n
+limbs-all {n} {k} h g l = let e : k ≡ limbs = omega arith in rw e (limb-last n l)
+
+pub tallied-all : {f : ℕ → Bool} {n k : ℕ} {out : List ℕ} → Tallied f n k out → k ≤ limbs → limbs ≤ k → Tallied f n limbs out
+tallied-all T h g = record { size = T .size; each = λ i l. T .each i (omega arith) }
+
+-- ---- what the search answers
+module _ (sheet : List ℕ) (of : Size) (table : List ℕ) (tied : Tied) {b : declared.Best}
+    (eb : b ≡ bestOf (okBy sheet of table) (lastBy of table) (2 ^ (tied .count))) {counts : List ℕ}
+    (T : Tallied (keptBy sheet of table tied (b .total)) (2 ^ (tied .count)) limbs counts) (few : tied .count ≤ widestTie)
+    {ways : ℕ} (ew : ways ≡ getD counts limbs 0) where
+  abbrev first : Listed
+  first = listedOf (keptBy sheet of table tied (b .total)) 0 (2 ^ (tied .count))
+
+  ways-are : ways ≡ first .count
+  unfolding listedOf keptBefore
+  ways-are =
+      ew ∙ T .each limbs (omega arith)
+      ∙ ap (keptBefore (keptBy sheet of table tied (b .total))) (limb-last (2 ^ (tied .count)) (power-low few))
+
+  pub searched-top : {drawn : ℕ} → drawn ≡ 0 → _≡_ {A = Answer} (record { mask = b .mask; ways = ways }) (answerBy sheet of table tied drawn)
+  searched-top e = rw ways-are (answer-top sheet of table tied eb {first = first} refl e)
+
+  module _ (d : ℕ) {drawn : ℕ} (ed : drawn ≡ suc d) where
+    pub searched-none : ways ≡ 0 → _≡_ {A = Answer} (record { mask = 0; ways = ways }) (answerBy sheet of table tied drawn)
+    searched-none e = rw ways-are (answer-none sheet of table tied eb {first = first} refl d ed (sym ways-are ∙ e))
+
+    pub searched-place : {mask : ℕ} → mask ≡ placeOf (keptBy sheet of table tied (b .total)) (2 ^ (tied .count)) (d % ways)
+        → _≡_ {A = Answer} (record { mask = mask; ways = ways }) (answerBy sheet of table tied drawn)
+    searched-place em =
+        rw (em, at, ways-are)
+        (answer-place sheet of table tied eb {first = first} refl d ed (d % first .count)
+        {l = listedOf (keptBy sheet of table tied (b .total)) (d % first .count) (2 ^ (tied .count))} refl refl)
+      where
+        at : placeOf (keptBy sheet of table tied (b .total)) (2 ^ (tied .count)) (d % ways)
+            ≡ listedOf (keptBy sheet of table tied (b .total)) (d % ways) (2 ^ (tied .count)) .mask
+        at = unfold placeOf listedOf in refl

@@ -1,15 +1,15 @@
 -- What the functions of `search` compute and need: branches of combinations, when nothing in one is looked for, and what that rests on. Assumes nothing.
-use Prim.Native.Nat.{ℕ, zero, suc, _+_, _-_, _*_, _/_, _%_, _^_, _≤_, _<_}
+use Prim.Native.Nat.{ℕ, zero, suc, _+_, _-_, _*_, _/_, _%_, _^_, _≤_, _<_, min}
 use mathlib.Core.Path.{_≡_}
 use mathlib.Core.Bool.{Bool, true, false, _&&_}
 use mathlib.Core.Logic.{_⊎_}
 use mathlib.Core.List.{List}
 use lib.Bits.{bitOr}
-use lib.ListN.{getD}
+use lib.ListN.{length, getD}
 use lib.Dec.{eqb, leb}
 use Rattle.rules.specs.Names.{mostYears, mostDeliveries}
-use Rattle.rules.specs.Lists.{pick}
-use Rattle.rules.specs.Pot.{has}
+use Rattle.rules.specs.Lists.{pick, sift, below}
+use Rattle.rules.specs.Pot.{has, atPlace}
 use Rattle.sheet.specs.declared.Size.{Size}
 use Rattle.sheet.specs.Sheet.{columns}
 use Rattle.combinations.specs.declared.Tied.{Tied}
@@ -147,3 +147,24 @@ abbrev pub Gaining : (of : Size) (table : List ℕ) (tied : Tied) (idle : Bool) 
 Gaining of table tied idle =
     idle ≡ false → (m j : ℕ) → m < 2 ^ (tied .count) → j < tied .count → has m (getD (tied .ranks) j 0) ≡ false
     → lastBy of table m < lastBy of table (m + 2 ^ getD (tied .ranks) j 0)
+
+-- ---- the limbs of a tie: branches in which fifteen binary places are undecided; where the first k of them end, of n combinations
+abbrev pub limbs : ℕ
+limbs = 32
+
+abbrev pub limb : ℕ
+limb = 32768
+
+unfoldable pub limbEnd : (n k : ℕ) → ℕ
+limbEnd n k = min (k * limb) n
+
+-- how many are kept before a number, and before each of the first of these ends; and the one at a place
+unfoldable pub keptBefore : (kept : ℕ → Bool) (n : ℕ) → ℕ
+keptBefore kept n = length (sift kept (below n))
+
+pub record Tallied (kept : ℕ → Bool) (n k : ℕ) (counts : List ℕ) : Type 0 where
+  pub size : length counts ≡ limbs + 1
+  pub each : (i : ℕ) → i ≤ k → getD counts i 0 ≡ keptBefore kept (limbEnd n i)
+
+unfoldable pub placeOf : (kept : ℕ → Bool) (n place : ℕ) → ℕ
+placeOf kept n place = atPlace place (sift kept (below n))

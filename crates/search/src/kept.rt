@@ -1,9 +1,9 @@
-// Those kept, from the smallest number on: how many, and the one at a place.
+// Those kept, from the smallest number on: how many, counted limb by limb, and the one at a place, for which its limb alone is gone through once more.
 ghost use mathlib.Core.Path.{_≡_};
-ghost use Prim.Native.Nat.{_+_, _^_, _≤_, _<_};
+ghost use Prim.Native.Nat.{suc, _+_, _^_, _≤_, _<_};
 ghost use Rattle.combinations.specs.Combinations.{combinations};
 ghost use Rattle.ties.specs.Ties.{Searching, Drawing, okBy, lastBy, keptBy, listedOf};
-ghost use Rattle.search.specs.Search.{Cuttable, Sized, Passed, nearBy, Aiming, Gaining};
+ghost use Rattle.search.specs.Search.{limbs, Cuttable, Sized, Passed, nearBy, Aiming, Gaining, limbEnd, Tallied, placeOf};
 use super::branches::BOUGH;
 use super::branches::LIMB;
 use super::branches::TWIG;
@@ -20,13 +20,18 @@ use ties::listing::Listed;
 use ties::listing::counted;
 use ties::listing::full;
 
+// The limbs of a tie of twenty bids.
+pub const LIMBS: usize = 32;
+
 // Where a bid is worth nothing in the last year, branches of so many are looked at too: two binary places are undecided.
 const SHOOT: u32 = 4;
 
-// The greatest total in the last year, and whether a bid is worth nothing then: if none is, no bid can be added to a combination that has the greatest.
+// The greatest total in the last year; whether a bid is worth nothing then (if none is, no bid can be added to a combination that has the greatest); and the
+// place of the one that is sought.
 pub struct Aim {
     pub most: u64,
     pub idle: bool,
+    pub place: u64,
 }
 
 // A combination, and so many of the tie from it on.
@@ -106,21 +111,23 @@ fn near(sheet: &Sheet, of: Size, table: &Table, most: u64, mask: u32) -> bool
     false
 }
 
-// Those kept: how many, and the one at a place.
-pub fn search_kept(
-    sheet: &Sheet,
-    of: Size,
-    table: &Table,
-    tied: Tied,
-    aim: Aim,
-    place: u64,
-) -> Listed
+// The combinations from `mask` on and before `end`; and of those before, how many are kept and the one at a place.
+pub struct Stretch {
+    pub mask: u32,
+    pub end: u32,
+    pub list: Listed,
+}
+
+// Those kept before its end: how many, and the one at a place.
+fn walk(sheet: &Sheet, of: Size, table: &Table, tied: Tied, aim: Aim, on: Stretch) -> Listed
     requires { ⌜ Drawing (now sheet) of (now table) tied × Aiming (now sheet) of (now table) tied (aim .most) × Gaining of (now table) tied (aim .idle) ⌝ }
-    ensures { λ r. ⌜ r ≡ listedOf (keptBy (now (sheet .entry)) of (now (table .entry)) tied (aim .most)) place (2 ^ tied .count) ⌝ }
+    requires { ⌜ (on .mask ≤ on .end) × (on .end ≤ 2 ^ tied .count) ⌝ }
+    requires { ⌜ on .list ≡ listedOf (keptBy (now sheet) of (now table) tied (aim .most)) (aim .place) (on .mask) ⌝ }
+    ensures { λ r. ⌜ r ≡ listedOf (keptBy (now (sheet .entry)) of (now (table .entry)) tied (aim .most)) (aim .place) (on .end) ⌝ }
 {
-    let end = power(tied.count as u32);
-    let mut list = Listed { count: 0, mask: 0 };
-    let mut mask: u32 = 0;
+    let end = on.end;
+    let mut list = on.list;
+    let mut mask = on.mask;
     while mask < end {
         let from = From {
             mask,
@@ -132,10 +139,10 @@ pub fn search_kept(
         } else {
             if near(sheet, of, table, aim.most, mask) {
                 if !aim.idle {
-                    list = counted(list, mask, place);
+                    list = counted(list, mask, aim.place);
                 } else {
                     if full(sheet, of, table, tied, mask) {
-                        list = counted(list, mask, place);
+                        list = counted(list, mask, aim.place);
                     }
                 }
             }
@@ -143,4 +150,90 @@ pub fn search_kept(
         }
     }
     list
+}
+
+// The end of limb k of a tie of so many combinations.
+fn limb_end(end: u32, k: usize) -> u32
+    requires { ⌜ (end ≤ combinations) × (k < limbs) ⌝ }
+    ensures { λ r. ⌜ r ≡ limbEnd end (suc k) ⌝ }
+{
+    let next = (k as u32 + 1) * LIMB;
+    if next > end {
+        return end;
+    }
+    next
+}
+
+// How many are kept before the first limb, before the second, and so on, and last of all.
+pub fn tally(sheet: &Sheet, of: Size, table: &Table, tied: Tied, aim: Aim) -> [u64; LIMBS + 1]
+    requires { ⌜ Drawing (now sheet) of (now table) tied × Aiming (now sheet) of (now table) tied (aim .most) × Gaining of (now table) tied (aim .idle) ⌝ }
+    ensures { λ r. ⌜ Tallied (keptBy (now (sheet .entry)) of (now (table .entry)) tied (aim .most)) (2 ^ tied .count) limbs r ⌝ }
+{
+    let end = power(tied.count as u32);
+    let mut out = [0u64; LIMBS + 1];
+    let mut list = Listed { count: 0, mask: 0 };
+    let mut mask: u32 = 0;
+    let mut k: usize = 0;
+    while k < LIMBS {
+        let next = limb_end(end, k);
+        list = walk(
+            sheet,
+            of,
+            table,
+            tied,
+            aim,
+            Stretch {
+                mask,
+                end: next,
+                list,
+            },
+        );
+        mask = next;
+        k += 1;
+        out[k] = list.count;
+    }
+    out
+}
+
+// The one at a place.
+pub fn at_place(
+    sheet: &Sheet,
+    of: Size,
+    table: &Table,
+    tied: Tied,
+    aim: Aim,
+    counts: &[u64; LIMBS + 1],
+) -> u32
+    requires { ⌜ Drawing (now sheet) of (now table) tied × Aiming (now sheet) of (now table) tied (aim .most) × Gaining of (now table) tied (aim .idle) ⌝ }
+    requires { ⌜ Tallied (keptBy (now sheet) of (now table) tied (aim .most)) (2 ^ tied .count) limbs (now counts) ⌝ }
+    ensures { λ r. ⌜ r ≡ placeOf (keptBy (now (sheet .entry)) of (now (table .entry)) tied (aim .most)) (2 ^ tied .count) (aim .place) ⌝ }
+{
+    let end = power(tied.count as u32);
+    let mut mask: u32 = 0;
+    let mut k: usize = 0;
+    while k < LIMBS {
+        let next = limb_end(end, k);
+        if aim.place < counts[k + 1] {
+            let list = Listed {
+                count: counts[k],
+                mask: 0,
+            };
+            let found = walk(
+                sheet,
+                of,
+                table,
+                tied,
+                aim,
+                Stretch {
+                    mask,
+                    end: next,
+                    list,
+                },
+            );
+            return found.mask;
+        }
+        mask = next;
+        k += 1;
+    }
+    0
 }

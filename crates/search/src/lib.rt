@@ -33,12 +33,15 @@ pub fn search(sheet: &Sheet, of: Size, base: &Base, tied: Tied, price: u64, draw
     let own = tables::owns(sheet, of, tied, price);
     let table = tables::table(base, &own, tied);
     let found = greatest(sheet, of, &table, tied.count);
+    let most = found.total;
+    let idle = sound::idle(of, &own, tied);
     let aim = Aim {
-        most: found.total,
-        idle: sound::idle(of, &own, tied),
+        most,
+        idle,
+        place: 0,
     };
-    let first = kept::search_kept(sheet, of, &table, tied, aim, 0);
-    let ways = first.count;
+    let counts = kept::tally(sheet, of, &table, tied, aim);
+    let ways = counts[kept::LIMBS];
     if drawn == 0 {
         let mask = found.mask;
         return Answer { mask, ways };
@@ -47,12 +50,8 @@ pub fn search(sheet: &Sheet, of: Size, base: &Base, tied: Tied, price: u64, draw
         return Answer { mask: 0, ways };
     }
     let place = (drawn - 1) % ways;
-    if place == 0 {
-        let mask = first.mask;
-        return Answer { mask, ways };
-    }
-    let list = kept::search_kept(sheet, of, &table, tied, aim, place);
-    let mask = list.mask;
+    let aim = Aim { most, idle, place };
+    let mask = kept::at_place(sheet, of, &table, tied, aim, &counts);
     Answer { mask, ways }
 }
 

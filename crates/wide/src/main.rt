@@ -55,8 +55,14 @@ fn both(sheet: &Sheet, of: Size, price: u64)
     }
     let tied = combinations::gathered(sheet, of, rest, count);
     let drawn = sheet::drawn(sheet);
-    told(b"listing ", ties::listing::listing(sheet, of, &base, tied, price, drawn));
-    told(b"search ", search::search(sheet, of, &base, tied, price, drawn));
+    told(
+        b"listing ",
+        ties::listing::listing(sheet, of, &base, tied, price, drawn),
+    );
+    told(
+        b"search ",
+        search::search(sheet, of, &base, tied, price, drawn),
+    );
 }
 
 fn tie(file: &[u8], sections: Sections)

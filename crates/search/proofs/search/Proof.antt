@@ -2,11 +2,11 @@
 use borrow.Author.Needs.{needs}
 use native.Mathlib.Omega.{arith}
 use Prim.Native.Nat.{_-_}
-use mathlib.Core.Path.{refl, sym}
+use mathlib.Core.Path.{refl}
 use Rattle.laws_pot.specs.Lists.{not-is-false}
 use Rattle.combinations.proofs.Lists.{gathered-owned}
-use Rattle.ties.proofs.Laws.{drawing, answer-is, answer-top, answer-none, answer-place}
-use Rattle.search.proofs.Ways.{cuts-of, kept-ready}
+use Rattle.ties.proofs.Laws.{drawing, answer-is}
+use Rattle.search.proofs.Ways.{cuts-of, kept-ready, searched-top, searched-none, searched-place}
 use Rattle.search.proofs.search.Statement.{statement}
 use Rattle.search.proofs.search.Tie as tie
 
@@ -31,33 +31,29 @@ greatest-requires c κs = (drawing _ _ _ _ _ (c .before .before .before .before 
 idle-requires : tie.Need-idle-requires
 idle-requires c κs = (c .before .before .before .before .before .before .before .before .pre .1 .placed, c .before .before .before .before .before .before .before .before .pre .0 .ready .some, omega (arith, c .before .before .before .before .before .before .before .before .pre .0 .ready .years))
 
-search-kept-requires : tie.Need-search-kept-requires
-search-kept-requires c κs = let s = c .before .before .before .before .before .before .before .before .before .sound .ensures (not-is-false _ (c .before .before .before .before .before .before .before .before .if1 .left)) in
+tally-requires : tie.Need-tally-requires
+tally-requires c κs = let s = c .before .before .before .before .before .before .before .before .before .sound .ensures (not-is-false _ (c .before .before .before .before .before .before .before .before .if1 .left)) in
     kept-ready _ _ _ _ _ (c .before .before .before .before .before .before .before .before .before .before .pre .0) (c .before .before .before .before .before .before .before .before .before .before .pre .1) (s .rising) (c .before .before .before .before .before .before .before .owns .ensures) (c .before .before .before .before .before .table .ensures) (s .onto) (c .before .before .before .greatest .ensures) (c .before .idle .ensures)
 
 returns-2 : tie.Need-returns-2
 returns-2 c = answer-is _ _ _ _ _ _ (c .before .before .before .before .before .before .before .before .before .owns .ensures) (c .before .before .before .before .before .before .before .table .ensures)
-    (answer-top _ _ _ _ (c .before .before .before .before .before .greatest .ensures) (c .before .search-kept .ensures) (c .if2 .taken))
+    (searched-top _ _ _ _ (c .before .before .before .before .before .greatest .ensures) (c .before .tally .ensures) (c .before .before .before .before .before .before .before .before .before .before .before .before .pre .1 .placed .few) refl (c .if2 .taken))
 
 returns-3 : tie.Need-returns-3
 returns-3 c = answer-is _ _ _ _ _ _ (c .before .before .before .before .before .before .before .before .before .before .owns .ensures) (c .before .before .before .before .before .before .before .before .table .ensures)
-    (answer-none _ _ _ _ (c .before .before .before .before .before .before .greatest .ensures) (c .before .before .search-kept .ensures) (c .before .before .before .before .before .before .before .before .before .before .before .before .before .args .drawn - 1) (omega (arith, c .before .if2 .left)) (c .if3 .taken))
+    (searched-none _ _ _ _ (c .before .before .before .before .before .before .greatest .ensures) (c .before .before .tally .ensures) (c .before .before .before .before .before .before .before .before .before .before .before .before .before .pre .1 .placed .few) refl (c .before .before .before .before .before .before .before .before .before .before .before .before .before .args .drawn - 1) (omega (arith, c .before .if2 .left)) (c .if3 .taken))
 
 sub-place : tie.Need-sub-place
 sub-place c = omega (arith, c .before .if2 .left)
 
+at-place-requires : tie.Need-at-place-requires
+at-place-requires c κs = let s = c .before .before .before .before .before .before .before .before .before .before .before .before .before .before .sound .ensures (not-is-false _ (c .before .before .before .before .before .before .before .before .before .before .before .before .before .if1 .left)) in
+    (kept-ready _ _ _ _ _ (c .before .before .before .before .before .before .before .before .before .before .before .before .before .before .before .pre .0) (c .before .before .before .before .before .before .before .before .before .before .before .before .before .before .before .pre .1) (s .rising) (c .before .before .before .before .before .before .before .before .before .before .before .before .owns .ensures) (c .before .before .before .before .before .before .before .before .before .before .table .ensures) (s .onto) (c .before .before .before .before .before .before .before .before .greatest .ensures) (c .before .before .before .before .before .before .idle .ensures), c .before .before .before .before .tally .ensures)
+
 returns-4 : tie.Need-returns-4
-returns-4 c = answer-is _ _ _ _ _ _ (c .before .before .before .before .before .before .before .before .before .before .before .owns .ensures) (c .before .before .before .before .before .before .before .before .before .table .ensures)
-    (answer-place _ _ _ _ (c .before .before .before .before .before .before .before .greatest .ensures) (c .before .before .before .search-kept .ensures) (c .before .before .before .before .before .before .before .before .before .before .before .before .before .before .args .drawn - 1) (omega (arith, c .before .before .if2 .left)) 0 (sym (c .if4 .taken)) (c .before .before .before .search-kept .ensures))
-
-search-kept-requires-2 : tie.Need-search-kept-requires-2
-search-kept-requires-2 c κs = let s = c .before .before .before .before .before .before .before .before .before .before .before .before .before .before .sound .ensures (not-is-false _ (c .before .before .before .before .before .before .before .before .before .before .before .before .before .if1 .left)) in
-    kept-ready _ _ _ _ _ (c .before .before .before .before .before .before .before .before .before .before .before .before .before .before .before .pre .0) (c .before .before .before .before .before .before .before .before .before .before .before .before .before .before .before .pre .1) (s .rising) (c .before .before .before .before .before .before .before .before .before .before .before .before .owns .ensures) (c .before .before .before .before .before .before .before .before .before .before .table .ensures) (s .onto) (c .before .before .before .before .before .before .before .before .greatest .ensures) (c .before .before .before .before .before .before .idle .ensures)
-
-returns-5 : tie.Need-returns-5
-returns-5 c = answer-is _ _ _ _ _ _ (c .before .before .before .before .before .before .before .before .before .before .before .before .before .owns .ensures) (c .before .before .before .before .before .before .before .before .before .before .before .table .ensures)
-    (answer-place _ _ _ _ (c .before .before .before .before .before .before .before .before .before .greatest .ensures) (c .before .before .before .before .before .search-kept .ensures) (c .before .before .before .before .before .before .before .before .before .before .before .before .before .before .before .before .args .drawn - 1) (omega (arith, c .before .before .before .before .if2 .left)) _ refl (c .search-kept2 .ensures))
+returns-4 c = answer-is _ _ _ _ _ _ (c .before .before .before .before .before .before .before .before .before .before .before .before .before .owns .ensures) (c .before .before .before .before .before .before .before .before .before .before .before .table .ensures)
+    (searched-place _ _ _ _ (c .before .before .before .before .before .before .before .before .before .greatest .ensures) (c .before .before .before .before .before .tally .ensures) (c .before .before .before .before .before .before .before .before .before .before .before .before .before .before .before .before .pre .1 .placed .few) refl (c .before .before .before .before .before .before .before .before .before .before .before .before .before .before .before .before .args .drawn - 1) (omega (arith, c .before .before .before .before .if2 .left)) (c .at-place .ensures))
 
 pub search-spec : {M : Type 1} → statement M
 search-spec =
-    tie.close (tie.spec sound-requires listing-requires returns owns-requires table-requires greatest-requires idle-requires search-kept-requires returns-2 returns-3 sub-place (λ c. search needs) returns-4 search-kept-requires-2 returns-5)
+    tie.close (tie.spec sound-requires listing-requires returns owns-requires table-requires greatest-requires idle-requires tally-requires (λ c. search needs) returns-2 returns-3 sub-place (λ c. search needs) at-place-requires returns-4)
