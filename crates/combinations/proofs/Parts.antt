@@ -506,7 +506,7 @@ module _ (base own ranks starts : List ℕ) (k : ℕ) where
   base-at i h = table-at i (omega arith) ∙ sym (base-part base (costsOf own ranks k) (yearsOf ranks starts k) i h)
 
   -- the number v of part s
-  sum-at : (s v c : ℕ) → s < parts → v < partSize → c < columns → partCost table s v c ≡ combinedOf own ranks (v * 2 ^ (s * partPlaces)) c k
+  pub sum-at : (s v c : ℕ) → s < parts → v < partSize → c < columns → partCost table s v c ≡ combinedOf own ranks (v * 2 ^ (s * partPlaces)) c k
   sum-at s v c l h g =
       let i = costsAt + s * partRows + v * columns + c in
       table-at i (omega arith) ∙ sym (costs-part base (costsOf own ranks k) (yearsOf ranks starts k) i (omega arith) (omega arith))

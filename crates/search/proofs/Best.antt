@@ -170,18 +170,21 @@ fallen-short sheet of table {goal} {q} {left} {r} R e S = record {
     beyond m h = case (okBy sheet of table m) (λ t. absurd (omega (arith, e, h, within m t))) (λ u. rw u)
 
 -- no total is large
-pub last-small : (of : Size) (table : List ℕ) (m : ℕ) → Tabled table → lastBy of table m ≤ mostBase * 5
-unfolding lastBy jointOf
-last-small of table m T =
-    let c = of .years - 1 in
+pub joint-small : (table : List ℕ) (m t c : ℕ) → Tabled table → jointOf table m t c ≤ mostBase * 5
+unfolding jointOf
+joint-small table m t c T =
     omega (
       arith,
-      T .small .small (unionOf table m * columns + c),
+      T .small .small (t * columns + c),
       T .small .small (costsAt + 0 * partRows + m % partSize * columns + c),
       T .small .small (costsAt + 1 * partRows + m / partSize % partSize * columns + c),
       T .small .small (costsAt + 2 * partRows + m / twoParts % partSize * columns + c),
       T .small .small (costsAt + 3 * partRows + m / threeParts * columns + c),
     )
+
+pub last-small : (of : Size) (table : List ℕ) (m : ℕ) → Tabled table → lastBy of table m ≤ mostBase * 5
+unfolding lastBy
+last-small of table m T = joint-small table m (unionOf table m) (of .years - 1) T
 
 pub lasting : {sheet : List ℕ} {of : Size} {table : List ℕ} → Searching sheet of table → Lasting of table
 lasting S = record { tables = S .tables; some = S .ready .some; years = S .ready .years }

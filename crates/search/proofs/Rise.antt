@@ -5,23 +5,24 @@ use mathlib.Core.Path.{_≡_, refl, sym, ap, subst, _∙_}
 use mathlib.Core.Bool.{Bool, true, false, _&&_, _||_}
 use mathlib.Core.Logic.{⊎-elim}
 use mathlib.Core.List.{List}
-use native.Mathlib.Nat.{pow-suc}
+use native.Mathlib.Nat.{pow-suc, zero-add}
 use native.Mathlib.Omega.{arith}
+use lib.Pow.{pow-add, pow-lt}
 use lib.ListN.{getD}
 use lib.Dec.{eqb, leb}
 use borrow.Author.Tests.{le-leb, leb-true, eqb-true, eqb-false}
-use Rattle.rules.specs.Names.{mostDeliveries}
+use Rattle.rules.specs.Names.{mostDeliveries, widestTie}
 use Rattle.rules.specs.Pot.{has}
 use Rattle.laws_pot.specs.Lists.{case, clash, and-true, or-left, or-right, or-cases}
-use Rattle.laws_pot.specs.Bits.{has-suc, add-lt, add-adds, add-other}
+use Rattle.laws_pot.specs.Bits.{has-suc, has-none, add-lt, add-adds, add-other}
 use Rattle.sheet.specs.declared.Size.{Size}
 use Rattle.sheet.specs.Sheet.{columns, limitAt}
 use Rattle.totals.specs.Totals.{fitsTo}
-use Rattle.combinations.specs.Combinations.{yearSets, combinations, touchOf, touchedOf, combinedOf, tableBy, jointOf, unionOf}
-use Rattle.combinations.proofs.Parts.{touched-low, joint-total}
+use Rattle.combinations.specs.Combinations.{yearSets, combinations, partPlaces, touchOf, touchedOf, combinedOf, tableBy, jointOf, unionOf}
+use Rattle.combinations.proofs.Parts.{touched-low, joint-total, sum-at}
 use Rattle.ties.specs.Ties.{okBy, lastBy}
 use Rattle.ties.proofs.Link.{touch-has}
-use Rattle.search.specs.Search.{Within, Cuttable, Rises, Rising, lastWorth}
+use Rattle.search.specs.Search.{Within, Cuttable, Rises, Rising, lastWorth, aloneBy, Adding}
 
 -- ---- what rises with each place rises with each set of them
 pub climbs : (f : ℕ → ℕ) (n : ℕ) → ((t d : ℕ) → t < 2 ^ n → d < n → has t d ≡ false → f t ≤ f (t + 2 ^ d))
@@ -127,6 +128,21 @@ combined-more own ranks m c j (suc k) h f =
     let r = combined-more own ranks m c j k (omega (arith, eqb-false j k e)) f in
     case (has m (getD ranks k 0)) (λ t. rw (t, within-more m (getD ranks j 0) f (getD ranks k 0) t) (omega arith)) (λ g. rw g (omega arith)))
 
+-- the bids of a binary place more count what they count
+combined-add : (own ranks : List ℕ) (m p c k : ℕ) → has m p ≡ false
+    → combinedOf own ranks m c k + combinedOf own ranks (2 ^ p) c k ≤ combinedOf own ranks (m + 2 ^ p) c k
+unfolding combinedOf
+combined-add own ranks m p c zero f = omega arith
+combined-add own ranks m p c (suc k) f =
+    let r = combined-add own ranks m p c k f in
+    let i = getD ranks k 0 in
+    case (eqb i p)
+    (λ t. let q = eqb-true i p t in rw (q, f, add-adds m p f) (case (has (2 ^ p) p) (λ u. rw u (omega arith)) (λ u. rw u (omega arith))))
+    (λ u.
+    let n = eqb-false i p u in
+    let none : has (2 ^ p) i ≡ false = sym (ap (λ (x : ℕ). has x i) (zero-add (2 ^ p))) ∙ add-other 0 p i (has-none p) n ∙ has-none i in
+    rw (none, add-other m p i f n) (case (has m i) (λ t. rw t (omega arith)) (λ g. rw g (omega arith))))
+
 touched-within : (ranks starts : List ℕ) (m n k : ℕ) → Within m n → Within (touchedOf ranks starts m k) (touchedOf ranks starts n k)
 unfolding touchedOf
 touched-within ranks starts m n zero w = λ i t. t
@@ -169,6 +185,32 @@ module _ (base own ranks starts : List ℕ) (k : ℕ) (R : Rising base) (Q : (j 
   figure-within : (m n c : ℕ) → m < combinations → n < combinations → c < columns → Within m n
       → jointOf table m (unionOf table m) c ≤ jointOf table n (unionOf table n) c
   figure-within m n c a b g w = omega (arith, figure m c a g, figure n c b g, combined-within own ranks m n c k w, base-within m n c g w)
+
+  alone-is : (p c : ℕ) → p < widestTie → c < columns → aloneBy table p c ≡ combinedOf own ranks (2 ^ p) c k
+  unfolding aloneBy
+  alone-is p c h g =
+      rw et (sum-at base own ranks starts k (p / partPlaces) (2 ^ (p % partPlaces)) c (omega arith) (low (p % partPlaces) (omega arith)) g)
+      ∙ ap (λ (x : ℕ). combinedOf own ranks x c k) (sym (pow-add 2 (p % partPlaces) (p / partPlaces * partPlaces)) ∙ ap (λ (x : ℕ). 2 ^ x) whole)
+    where
+      low : (i : ℕ) → i < 5 → 2 ^ i < 32
+      low i l = pow-lt l
+
+      whole : p % partPlaces + p / partPlaces * partPlaces ≡ p
+      whole = omega arith
+
+  pub adding : Adding table
+  adding = record {
+    adds = λ m p c h l f g.
+        let more : m + 2 ^ p < combinations = add-lt m p widestTie f l h in
+        omega (
+          arith,
+          figure m c h g,
+          figure (m + 2 ^ p) c more g,
+          alone-is p c l g,
+          combined-add own ranks m p c k f,
+          base-within m (m + 2 ^ p) c g (within-more m p f),
+        );
+  }
 
   module _ (of : Size) (some : 0 < of .years) (years : of .years ≤ of .columns) (few : of .columns ≤ columns) where
     pub cuttable : (sheet : List ℕ) → Cuttable (okBy sheet of table) (lastBy of table)

@@ -28,8 +28,8 @@ use Rattle.ties.specs.declared.Choice.{Choice}
 use Rattle.ties.specs.Ties.{Based, Drawing, okBy, lastBy, addableOf, fullTo, keptBy, listedOf, bestOf, topBy, answerBy, leftOf, tableFor, answerOf, chosenOf, choiceOf}
 use Rattle.arrays.proofs.Arrays.{put-is}
 use Rattle.ties.proofs.Laws.{listed-same, full-stops, drawing, answer-top, answer-none, answer-place}
-use Rattle.search.specs.Search.{limbs, limb, limbEnd, keptBefore, Tallied, placeOf, Cuttable, Rising, Onto, Busy, Branch, Past, Other, Open, Unsought, Passed, nearBy, Aiming, Gaining}
-use Rattle.search.proofs.Rise.{cuttable, gains}
+use Rattle.search.specs.Search.{limbs, limb, Adding, limbEnd, keptBefore, Tallied, placeOf, Cuttable, Rising, Onto, Busy, Branch, Past, Other, Open, Unsought, Passed, nearBy, Aiming, Gaining}
+use Rattle.search.proofs.Rise.{cuttable, gains, adding}
 use Rattle.search.proofs.Best.{power-low}
 use Rattle.search.proofs.Branch.{free-place, place-free, added-low, within-all, some-size}
 
@@ -221,7 +221,13 @@ module _ (sheet : List ℕ) (of : Size) (base : List ℕ) (tied : Tied) (p : ℕ
   -- what the walk over those kept needs
   pub kept-ready : Onto tied → {b : declared.Best} {idle : Bool} → b ≡ bestOf (okBy sheet of table) (lastBy of table) (2 ^ (tied .count))
       → (idle ≡ false → Busy of own tied) → Drawing sheet of table tied × Aiming sheet of table tied (b .total) × Gaining of table tied idle
-  kept-ready O eb h = (drawing sheet of base tied p B G eo et, aiming sheet of table tied cuts-of O (power-low (G .placed .few)) eb, gaining h)
+      × Adding table
+  kept-ready O eb h = (
+    drawing sheet of base tied p B G eo et,
+    aiming sheet of table tied cuts-of O (power-low (G .placed .few)) eb,
+    gaining h,
+    adding base own (tied .ranks) (tied .starts) (tied .count) R (G .placed .starts) et,
+  )
 
 module _ (sheet : List ℕ) (of : Size) (base : List ℕ) (tied : Tied) (p : ℕ) where
   pub top-is : {own table : List ℕ} {b : declared.Best} → own ≡ ownsOf sheet of (tied .bids) p (tied .count)

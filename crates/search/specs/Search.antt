@@ -6,14 +6,14 @@ use mathlib.Core.Logic.{_⊎_}
 use mathlib.Core.List.{List}
 use lib.Bits.{bitOr}
 use lib.ListN.{length, getD}
-use lib.Dec.{eqb, leb}
-use Rattle.rules.specs.Names.{mostYears, mostDeliveries}
+use lib.Dec.{eqb, leb, ltb}
+use Rattle.rules.specs.Names.{mostYears, mostDeliveries, widestTie}
 use Rattle.rules.specs.Lists.{pick, sift, below}
 use Rattle.rules.specs.Pot.{has, atPlace}
 use Rattle.sheet.specs.declared.Size.{Size}
-use Rattle.sheet.specs.Sheet.{columns}
+use Rattle.sheet.specs.Sheet.{columns, limitAt}
 use Rattle.combinations.specs.declared.Tied.{Tied}
-use Rattle.combinations.specs.Combinations.{yearSets, combinations, partSize, mostBase, partCost, partYears, Tabled}
+use Rattle.combinations.specs.Combinations.{yearSets, combinations, partPlaces, partSize, mostBase, partCost, partYears, jointOf, unionOf, Tabled}
 use Rattle.ties.specs.Ties.{okBy, lastBy}
 use Rattle.search.specs.declared.greatest.Found.{Found}
 use Rattle.search.specs.declared.scan.Upper.{Upper}
@@ -147,6 +147,28 @@ abbrev pub Gaining : (of : Size) (table : List ℕ) (tied : Tied) (idle : Bool) 
 Gaining of table tied idle =
     idle ≡ false → (m j : ℕ) → m < 2 ^ (tied .count) → j < tied .count → has m (getD (tied .ranks) j 0) ≡ false
     → lastBy of table m < lastBy of table (m + 2 ^ getD (tied .ranks) j 0)
+
+-- ---- whether a bid can be added: what the bid at a binary place counts in column c; and that it is too much there for the combination m, which touches t
+unfoldable pub aloneBy : (table : List ℕ) (place c : ℕ) → ℕ
+aloneBy table place c = partCost table (place / partPlaces) (2 ^ (place % partPlaces)) c
+
+unfoldable pub barredBy : (sheet table : List ℕ) (m t place c : ℕ) → Bool
+barredBy sheet table m t place c = ltb (limitAt sheet c) (jointOf table m t c + aloneBy table place c)
+
+-- a bid adds at least what it counts
+pub record Adding (table : List ℕ) : Type 0 where
+  pub adds : (m place c : ℕ) → m < combinations → place < widestTie → has m place ≡ false → c < columns
+      → jointOf table m (unionOf table m) c + aloneBy table place c ≤ jointOf table (m + 2 ^ place) (unionOf table (m + 2 ^ place)) c
+
+-- a combination, with the years that it touches
+pub record Known (table : List ℕ) (m t : ℕ) : Type 0 where
+  pub number : m < combinations
+  pub years : t ≡ unionOf table m
+  pub few : t < yearSets
+
+-- a column of the pot where a bid cannot be added, and one past all columns where it can
+abbrev pub Asks : (addable : Bool) (n r : ℕ) → Type 0
+Asks addable n r = ((r < n) × (addable ≡ false)) ⊎ ((r ≡ columns) × (addable ≡ true))
 
 -- ---- the limbs of a tie: branches in which fifteen binary places are undecided; where the first k of them end, of n combinations
 abbrev pub limbs : ℕ

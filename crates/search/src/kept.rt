@@ -3,12 +3,13 @@ ghost use mathlib.Core.Path.{_≡_};
 ghost use Prim.Native.Nat.{suc, _+_, _^_, _≤_, _<_};
 ghost use Rattle.combinations.specs.Combinations.{combinations};
 ghost use Rattle.ties.specs.Ties.{Searching, Drawing, okBy, lastBy, keptBy, listedOf};
-ghost use Rattle.search.specs.Search.{limbs, Cuttable, Sized, Passed, nearBy, Aiming, Gaining, limbEnd, Tallied, placeOf};
+ghost use Rattle.search.specs.Search.{limbs, Adding, Cuttable, Sized, Passed, nearBy, Aiming, Gaining, limbEnd, Tallied, placeOf};
 use super::branches::BOUGH;
 use super::branches::LIMB;
 use super::branches::TWIG;
 use super::branches::cut;
 use super::scan::others;
+use super::whole::whole;
 use combinations::Tied;
 use combinations::places::power;
 use combinations::tables::Table;
@@ -18,7 +19,6 @@ use ties::best::fitting;
 use ties::best::last;
 use ties::listing::Listed;
 use ties::listing::counted;
-use ties::listing::full;
 
 // The limbs of a tie of twenty bids.
 pub const LIMBS: usize = 32;
@@ -120,7 +120,7 @@ pub struct Stretch {
 
 // Those kept before its end: how many, and the one at a place.
 fn walk(sheet: &Sheet, of: Size, table: &Table, tied: Tied, aim: Aim, on: Stretch) -> Listed
-    requires { ⌜ Drawing (now sheet) of (now table) tied × Aiming (now sheet) of (now table) tied (aim .most) × Gaining of (now table) tied (aim .idle) ⌝ }
+    requires { ⌜ Drawing (now sheet) of (now table) tied × Aiming (now sheet) of (now table) tied (aim .most) × Gaining of (now table) tied (aim .idle) × Adding (now table) ⌝ }
     requires { ⌜ (on .mask ≤ on .end) × (on .end ≤ 2 ^ tied .count) ⌝ }
     requires { ⌜ on .list ≡ listedOf (keptBy (now sheet) of (now table) tied (aim .most)) (aim .place) (on .mask) ⌝ }
     ensures { λ r. ⌜ r ≡ listedOf (keptBy (now (sheet .entry)) of (now (table .entry)) tied (aim .most)) (aim .place) (on .end) ⌝ }
@@ -141,7 +141,7 @@ fn walk(sheet: &Sheet, of: Size, table: &Table, tied: Tied, aim: Aim, on: Stretc
                 if !aim.idle {
                     list = counted(list, mask, aim.place);
                 } else {
-                    if full(sheet, of, table, tied, mask) {
+                    if whole(sheet, of, table, tied, mask) {
                         list = counted(list, mask, aim.place);
                     }
                 }
@@ -166,7 +166,7 @@ fn limb_end(end: u32, k: usize) -> u32
 
 // How many are kept before the first limb, before the second, and so on, and last of all.
 pub fn tally(sheet: &Sheet, of: Size, table: &Table, tied: Tied, aim: Aim) -> [u64; LIMBS + 1]
-    requires { ⌜ Drawing (now sheet) of (now table) tied × Aiming (now sheet) of (now table) tied (aim .most) × Gaining of (now table) tied (aim .idle) ⌝ }
+    requires { ⌜ Drawing (now sheet) of (now table) tied × Aiming (now sheet) of (now table) tied (aim .most) × Gaining of (now table) tied (aim .idle) × Adding (now table) ⌝ }
     ensures { λ r. ⌜ Tallied (keptBy (now (sheet .entry)) of (now (table .entry)) tied (aim .most)) (2 ^ tied .count) limbs r ⌝ }
 {
     let end = power(tied.count as u32);
@@ -204,7 +204,7 @@ pub fn at_place(
     aim: Aim,
     counts: &[u64; LIMBS + 1],
 ) -> u32
-    requires { ⌜ Drawing (now sheet) of (now table) tied × Aiming (now sheet) of (now table) tied (aim .most) × Gaining of (now table) tied (aim .idle) ⌝ }
+    requires { ⌜ Drawing (now sheet) of (now table) tied × Aiming (now sheet) of (now table) tied (aim .most) × Gaining of (now table) tied (aim .idle) × Adding (now table) ⌝ }
     requires { ⌜ Tallied (keptBy (now sheet) of (now table) tied (aim .most)) (2 ^ tied .count) limbs (now counts) ⌝ }
     ensures { λ r. ⌜ r ≡ placeOf (keptBy (now (sheet .entry)) of (now (table .entry)) tied (aim .most)) (2 ^ tied .count) (aim .place) ⌝ }
 {

@@ -10,6 +10,7 @@ mod greatest;
 mod kept;
 mod scan;
 mod sound;
+mod whole;
 
 use combinations::Tied;
 use combinations::tables;

@@ -45,8 +45,8 @@ near-requires c κs = (c .before .before .before .before .before .pre .0 .0 .sea
 counted-requires : tie.Need-counted-requires Inv-loop μ-loop
 counted-requires c κs = omega (arith, listed-few _ _ (c .before .before .before .before .before .before .before .loop .mask) (c .before .before .before .before .before .before .before .loop .inv .1), c .before .before .before .before .before .before .loop-test .taken, c .before .before .before .before .before .before .before .before .before .pre .1 .0 .1, power-low (c .before .before .before .before .before .before .before .before .before .pre .0 .0 .placed .few))
 
-full-requires : tie.Need-full-requires Inv-loop μ-loop
-full-requires c κs = (c .before .before .before .before .before .before .before .before .before .pre .0 .0, omega (arith, c .before .before .before .before .before .before .loop-test .taken, c .before .before .before .before .before .before .before .before .before .pre .1 .0 .1, power-low (c .before .before .before .before .before .before .before .before .before .pre .0 .0 .placed .few)))
+whole-requires : tie.Need-whole-requires Inv-loop μ-loop
+whole-requires c κs = (c .before .before .before .before .before .before .before .before .before .pre .0 .0, c .before .before .before .before .before .before .before .before .before .pre .0 .3, omega (arith, c .before .before .before .before .before .before .loop-test .taken, c .before .before .before .before .before .before .before .before .before .pre .1 .0 .1, power-low (c .before .before .before .before .before .before .before .before .before .pre .0 .0 .placed .few)))
 
 counted-requires-2 : tie.Need-counted-requires-2 Inv-loop μ-loop
 counted-requires-2 c κs = omega (arith, listed-few _ _ (c .before .before .before .before .before .before .before .before .before .loop .mask) (c .before .before .before .before .before .before .before .before .before .loop .inv .1), c .before .before .before .before .before .before .before .before .loop-test .taken, c .before .before .before .before .before .before .before .before .before .before .before .pre .1 .0 .1, power-low (c .before .before .before .before .before .before .before .before .before .before .before .pre .0 .0 .placed .few))
@@ -76,4 +76,4 @@ returns c = done (listedOf _ _) (c .before .loop .inv .1) (c .before .loop .inv 
 
 pub walk-spec : {M : Type 1} → statement M
 walk-spec =
-    tie.close (tie.spec Inv-loop μ-loop loop-holds sub-t13 rise-requires add-mask loop-less loop-again near-requires counted-requires full-requires counted-requires-2 add-mask-2 loop-less-2 loop-again-2 returns)
+    tie.close (tie.spec Inv-loop μ-loop loop-holds sub-t13 rise-requires add-mask loop-less loop-again near-requires counted-requires whole-requires counted-requires-2 add-mask-2 loop-less-2 loop-again-2 returns)
