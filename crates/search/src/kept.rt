@@ -67,7 +67,8 @@ fn passed(sheet: &Sheet, of: Size, table: &Table, most: u64, from: From, size: u
     0
 }
 
-// How many from there on can be passed over: a branch, or those of one that have another total. Small branches are looked at only where a bid is idle.
+// How many from there on can be passed over: a branch, or those of one that have another total; where a bid is idle most have the same, and a small branch is
+// tried instead.
 fn rise(sheet: &Sheet, of: Size, table: &Table, aim: Aim, from: From) -> u32
     requires { ⌜ Searching (now sheet) of (now table) × Cuttable (okBy (now sheet) of (now table)) (lastBy of (now table)) ⌝ }
     requires { ⌜ (0 < from .left) × (from .mask + from .left ≤ combinations) ⌝ }
@@ -88,10 +89,7 @@ fn rise(sheet: &Sheet, of: Size, table: &Table, aim: Aim, from: From) -> u32
         }
     }
     if aim.idle {
-        let shoot = passed(sheet, of, table, aim.most, from, SHOOT);
-        if shoot > 0 {
-            return shoot;
-        }
+        return passed(sheet, of, table, aim.most, from, SHOOT);
     }
     let n = others(of, table, aim.most, from.mask);
     if n > from.left {

@@ -28,16 +28,16 @@ passed-requires-4 : tie.Need-passed-requires-4
 passed-requires-4 c κs = (c .before .before .before .pre .0, (c .before .before .before .pre .1 .1, record { places = 2; is = refl }))
 
 returns-4 : tie.Need-returns-4
-returns-4 c = c .before .passed4 .ensures
+returns-4 c = c .passed4 .ensures
 
 others-requires : tie.Need-others-requires
 others-requires c κs = (lasting (c .before .before .before .pre .0 .0), omega (arith, c .before .before .before .pre .1))
 
 returns-5 : tie.Need-returns-5
-returns-5 c = passed-left (c .before .before .others .ensures) (c .if7 .taken)
+returns-5 c = passed-left (c .before .before .others .ensures) (c .if6 .taken)
 
 returns-6 : tie.Need-returns-6
-returns-6 c = passed-others (c .before .before .others .ensures) (c .if7 .left)
+returns-6 c = passed-others (c .before .before .others .ensures) (c .if6 .left)
 
 pub rise-spec : {M : Type 1} → statement M
 rise-spec =
