@@ -1,11 +1,15 @@
 -- Laws of sets over plain variables: each answers one need of a proof. Assumes nothing.
-use Prim.Native.Nat.{ℕ, _+_, _≤_}
-use mathlib.Core.Path.{_≡_, ap, _∙_}
+use Prim.Native.Nat.{ℕ, _+_, _≤_, _<_}
+use mathlib.Core.Path.{_≡_, sym, ap, subst, _∙_}
 use mathlib.Core.Bool.{Bool, true, false, not, _&&_}
 use mathlib.Core.List.{List}
 use native.Mathlib.Numerals.{add-one}
 use native.Mathlib.Nat.{le-antisymm}
+use native.Mathlib.Omega.{arith}
 use lib.ListN.{getD, set, length}
+use lib.Dec.{eqb}
+use borrow.Author.Tests.{eqb-true, eqb-false}
+use Rattle.laws_pot.specs.Lists.{case}
 use Rattle.arrays.specs.Sets.{fill, placed, members, without}
 
 -- a loop that counts i up to n has reached n; and where its value is g of f of the count
@@ -14,6 +18,10 @@ done f {x} {i} {n} e h g = e ∙ ap f (le-antisymm h g)
 
 pub done-by : {A B : Type 0} (g : B → A) (f : ℕ → B) {x : A} {i n : ℕ} → x ≡ g (f i) → i ≤ n → n ≤ i → x ≡ g (f n)
 done-by g f e h l = e ∙ ap (λ k. g (f k)) (le-antisymm h l)
+
+-- what holds of all counted holds of one more
+pub below-more : (Q : ℕ → Type 0) {n : ℕ} → ((j : ℕ) → j < n → Q j) → Q n → (j : ℕ) → j < n + 1 → Q j
+below-more Q {n} h q j l = case (eqb j n) (λ t. subst Q (sym (eqb-true j n t)) q) (λ f. let d = eqb-false j n f in h j (omega arith))
 
 -- one place more is filled
 pub fill-next : {A : Type 0} (l₀ : List A) (f : ℕ → A) (k : ℕ) {l : List A} {v : A} → l ≡ fill l₀ f k → v ≡ f k → set l k v ≡ fill l₀ f (k + 1)

@@ -15,7 +15,7 @@ use Rattle.rules.specs.Names.{mostDeliveries, widestTie}
 use Rattle.rules.specs.Value.{dearest}
 use Rattle.rules.specs.Pot.{has}
 use Rattle.laws_pot.specs.Lists.{case, clash, pick-all}
-use Rattle.laws_pot.specs.Bits.{has-suc, has-none, add-lt}
+use Rattle.laws_pot.specs.Bits.{has-suc, has-none, add-lt, has-join, has-apart, has-high}
 use Rattle.arrays.specs.Sets.{fill}
 use Rattle.arrays.proofs.Arrays.{zeros, fill-at, fill-each, fill-le, fill-stays, fill-rests}
 use Rattle.sheet.specs.Sheet.{columns}
@@ -26,50 +26,11 @@ use Rattle.combinations.specs.Combinations.{partCost, partYears, jointOf
 use Rattle.combinations.proofs.Laws.{base-part, costs-part, dates-part}
 
 -- ---- binary places
-or-none : (b : Bool) → (b || false) ≡ b
-or-none true = refl
-or-none false = refl
-
-module _ (u : ℕ) where
-  half-of : (n : ℕ) → 2 ^ suc n * u ≡ 2 * (2 ^ n * u)
-  half-of n = omega (arith, ap (λ (x : ℕ). x * u) (pow-suc 2 n))
-
-  pub even-not : (n : ℕ) → has (2 ^ suc n * u) 0 ≡ false
-  even-not n = ne-eqb (2 ^ suc n * u / 1 % 2) 1 (λ e. let no : ⊥ = omega (arith, half-of n) in no)
-
-  pub half-has : (n i : ℕ) → has (2 ^ suc n * u) (suc i) ≡ has (2 ^ n * u) i
-  half-has n i = has-suc (2 ^ suc n * u) i ∙ ap (λ (x : ℕ). has x i) (omega (arith, half-of n))
-
-  -- a place of the number is one of its halves
-  pub has-join : (n v i : ℕ) → v < 2 ^ n → has (v + 2 ^ n * u) i ≡ (has v i || has (2 ^ n * u) i)
-  has-join zero v i h =
-      let e : v ≡ 0 = omega arith in
-      let q : v + 1 * u ≡ 1 * u = omega arith in
-      ap (λ (x : ℕ). has x i) q ∙ sym (ap (λ (b : Bool). b || has (1 * u) i) (ap (λ (x : ℕ). has x i) e ∙ has-none i))
-  has-join (suc n) v zero h =
-      let q : (v + 2 ^ suc n * u) / 1 % 2 ≡ v / 1 % 2 = omega (arith, half-of n) in
-      ap (λ (x : ℕ). eqb x 1) q ∙ sym (ap (λ (b : Bool). has v 0 || b) (even-not n) ∙ or-none (has v 0))
-  has-join (suc n) v (suc i) h =
-      has-suc (v + 2 ^ suc n * u) i ∙ ap (λ (x : ℕ). has x i) (omega (arith, half-of n)) ∙ has-join n (v / 2) i (omega (arith, pow-suc 2 n))
-      ∙ ap₂ _||_ (sym (has-suc v i)) (sym (half-has n i))
-
-  -- and never of both
-  has-apart : (n v i : ℕ) → v < 2 ^ n → has v i ≡ true → has (2 ^ n * u) i ≡ false
-  has-apart zero v i h t = let e : v ≡ 0 = omega arith in clash t (ap (λ (x : ℕ). has x i) e ∙ has-none i)
-  has-apart (suc n) v zero h t = even-not n
-  has-apart (suc n) v (suc i) h t = half-has n i ∙ has-apart n (v / 2) i (omega (arith, pow-suc 2 n)) (sym (has-suc v i) ∙ t)
-
--- a multiple of 2 ^ n has no place below n
 has-under : (v n i : ℕ) → i < n → has (v * 2 ^ n) i ≡ false
-has-under v n i h = ap (λ (x : ℕ). has x i) turned ∙ under n i h
+has-under v n i h = ap (λ (x : ℕ). has x i) turned ∙ has-high v n i h
   where
     turned : v * 2 ^ n ≡ 2 ^ n * v
     turned = omega arith
-
-    under : (n i : ℕ) → i < n → has (2 ^ n * v) i ≡ false
-    under zero i h = absurd (omega arith)
-    under (suc n) zero h = even-not v n
-    under (suc n) (suc i) h = half-has v n i ∙ under n i (omega arith)
 
 once : (x : ℕ) → 2 ^ x ≡ 1 * 2 ^ x
 once x = omega arith
@@ -365,32 +326,6 @@ pub union-is : (table : List ℕ) (mask : ℕ) {low second third high : ℕ} →
     → high ≡ partYears table 3 (mask / threeParts) → bitOr low (bitOr second (bitOr third high)) ≡ unionOf table mask
 unfolding unionOf
 union-is table mask el es et eh = rw (el, es, et, eh)
-
--- the numbers from `from` on that differ in their lowest part alone: what is read of one is what is read of its lowest part, and of those above as of `from`
-module _ (table : List ℕ) (from v : ℕ) (h : from % partSize ≡ 0) (g : v < partSize) where
-  own-part : (from + v) % partSize ≡ v
-  own-part = omega arith
-
-  same-second : (from + v) / partSize % partSize ≡ from / partSize % partSize
-  same-second = omega arith
-
-  same-third : (from + v) / twoParts % partSize ≡ from / twoParts % partSize
-  same-third = omega arith
-
-  same-high : (from + v) / threeParts ≡ from / threeParts
-  same-high = omega arith
-
-  pub joint-from : (t c : ℕ) → jointOf table (from + v) t c
-      ≡ getD table (t * columns + c) 0 + partCost table 0 v c + partCost table 1 (from / partSize % partSize) c
-      + partCost table 2 (from / twoParts % partSize) c + partCost table 3 (from / threeParts) c
-  unfolding jointOf
-  joint-from t c = rw (own-part, same-second, same-third, same-high)
-
-  pub union-from : unionOf table (from + v)
-      ≡ bitOr (partYears table 0 v)
-      (bitOr (partYears table 1 (from / partSize % partSize)) (bitOr (partYears table 2 (from / twoParts % partSize)) (partYears table 3 (from / threeParts))))
-  unfolding unionOf
-  union-from = rw (own-part, same-second, same-third, same-high)
 
 -- the number of a combination by its parts: each, and the multiple that those above it make
 module _ (m : ℕ) where

@@ -38,6 +38,10 @@ pub and-false : (a b : Bool) → (a && b) ≡ false → (a ≡ false) ⊎ (b ≡
 and-false true b e = inr e
 and-false false b e = inl refl
 
+pub and-none : (b : Bool) → (b && false) ≡ false
+and-none true = refl
+and-none false = refl
+
 pub not-is-true : (a : Bool) → not a ≡ true → a ≡ false
 not-is-true true e = clash e refl
 not-is-true false e = refl
@@ -45,6 +49,10 @@ not-is-true false e = refl
 pub not-is-false : (a : Bool) → not a ≡ false → a ≡ true
 not-is-false true e = refl
 not-is-false false e = clash refl e
+
+pub or-none : (b : Bool) → (b || false) ≡ b
+or-none true = refl
+or-none false = refl
 
 pub or-cases : (a b : Bool) → (a || b) ≡ true → (a ≡ true) ⊎ (b ≡ true)
 or-cases true b e = inl refl

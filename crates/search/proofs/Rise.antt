@@ -1,7 +1,7 @@
 -- More bids come to no less, where more delivery years at the price of the tie cost the winners no less; and to more, where the bid is worth something. Assumes
 -- nothing.
 use Prim.Native.Nat.{ℕ, zero, suc, _+_, _-_, _*_, _/_, _%_, _^_, _≤_, _<_}
-use mathlib.Core.Path.{_≡_, refl, sym, ap, subst, _∙_}
+use mathlib.Core.Path.{_≡_, refl, sym, ap, _∙_}
 use mathlib.Core.Bool.{Bool, true, false, _&&_, _||_}
 use mathlib.Core.Logic.{⊎-elim}
 use mathlib.Core.List.{List}
@@ -9,20 +9,22 @@ use native.Mathlib.Nat.{pow-suc, zero-add}
 use native.Mathlib.Omega.{arith}
 use lib.Pow.{pow-add, pow-lt}
 use lib.ListN.{getD}
-use lib.Dec.{eqb, leb}
-use borrow.Author.Tests.{le-leb, leb-true, eqb-true, eqb-false}
+use lib.Dec.{eqb}
+use borrow.Author.Tests.{eqb-true, eqb-false}
 use Rattle.rules.specs.Names.{mostDeliveries, widestTie}
 use Rattle.rules.specs.Pot.{has}
-use Rattle.laws_pot.specs.Lists.{case, clash, and-true, or-left, or-right, or-cases}
+use Rattle.laws_pot.specs.Lists.{case, clash, or-left, or-right, or-cases}
 use Rattle.laws_pot.specs.Bits.{has-suc, has-none, add-lt, add-adds, add-other}
 use Rattle.sheet.specs.declared.Size.{Size}
-use Rattle.sheet.specs.Sheet.{columns, limitAt}
-use Rattle.totals.specs.Totals.{fitsTo}
+use Rattle.sheet.specs.Sheet.{columns}
+use Rattle.arrays.proofs.Laws.{below-more}
 use Rattle.combinations.specs.Combinations.{yearSets, combinations, partPlaces, touchOf, touchedOf, combinedOf, tableBy, jointOf, unionOf}
 use Rattle.combinations.proofs.Parts.{touched-low, joint-total, sum-at}
 use Rattle.ties.specs.Ties.{okBy, lastBy}
+use Rattle.ties.proofs.Laws.{fits-down}
 use Rattle.ties.proofs.Link.{touch-has}
-use Rattle.search.specs.Search.{Within, Cuttable, Rises, Rising, lastWorth, aloneBy, Adding}
+use Rattle.branches.specs.Branches.{Within, Cuttable}
+use Rattle.search.specs.Search.{Rises, Rising, lastWorth, aloneBy, Adding}
 
 -- ---- what rises with each place rises with each set of them
 pub climbs : (f : ℕ → ℕ) (n : ℕ) → ((t d : ℕ) → t < 2 ^ n → d < n → has t d ≡ false → f t ≤ f (t + 2 ^ d))
@@ -63,10 +65,6 @@ climbs f (suc n) h t u a b w =
         let c = eqb-false (u / 1 % 2) 1 x in
         let e : t / 2 * 2 + u % 2 ≡ t = omega arith in
         omega (arith, ap f e)))
-
--- one more of all passed
-pub below-more : (Q : ℕ → Type 0) {n : ℕ} → ((j : ℕ) → j < n → Q j) → Q n → (j : ℕ) → j < n + 1 → Q j
-below-more Q {n} h q j l = case (eqb j n) (λ t. subst Q (sym (eqb-true j n t)) q) (λ f. let d = eqb-false j n f in h j (omega arith))
 
 pub busy-more : (own : List ℕ) (last : ℕ) {n : ℕ} → ((j : ℕ) → j < n → 0 < lastWorth own last j) → (getD own (n * columns + last) 0 ≡ 0 → ⊥)
     → (j : ℕ) → j < n + 1 → 0 < lastWorth own last j
@@ -159,15 +157,6 @@ touched-within ranks starts m n (suc k) w =
     both a b d r = λ e u.
         touch-has b d e
         ∙ ⊎-elim (λ p. or-left (eqb e d) (has b e) p) (λ p. or-right (eqb e d) (has b e) (r e p)) (or-cases (eqb e d) (has a e) (sym (touch-has a d e) ∙ u))
-
--- what fits at more fits at less
-fits-down : (f g : ℕ → ℕ) (sheet : List ℕ) (n : ℕ) → ((c : ℕ) → c < n → f c ≤ g c) → fitsTo g sheet n ≡ true → fitsTo f sheet n ≡ true
-unfolding fitsTo
-fits-down f g sheet zero h e = refl
-fits-down f g sheet (suc n) h e =
-    let a = and-true (leb (g n) (limitAt sheet n)) (fitsTo g sheet n) e in
-    rw (le-leb (f n) (limitAt sheet n) (omega (arith, h n (omega arith), leb-true (g n) (limitAt sheet n) (a .0))))
-    (fits-down f g sheet n (λ c l. h c (omega arith)) (a .1))
 
 -- ---- the figures of combinations, off the table
 module _ (base own ranks starts : List ℕ) (k : ℕ) (R : Rising base) (Q : (j : ℕ) → j < k → getD starts j 0 < mostDeliveries)

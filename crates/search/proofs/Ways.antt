@@ -14,24 +14,25 @@ use borrow.Author.Tests.{eqb-true, eqb-false, eq-eqb, ne-eqb, le-leb, ltb-true, 
 use Rattle.rules.specs.Names.{widestTie}
 use Rattle.rules.specs.Lists.{sift, below}
 use Rattle.rules.specs.Pot.{has, atPlace}
-use Rattle.laws_pot.specs.Lists.{case, clash, and-true, and-false}
+use Rattle.laws_pot.specs.Lists.{case, clash, and-true, and-false, and-none}
 use Rattle.laws_pot.specs.Bits.{has-none, add-lt}
 use Rattle.laws_pot.specs.Tie.{best-is}
 use Rattle.sheet.specs.declared.Size.{Size}
 use Rattle.combinations.specs.declared.Tied.{Tied}
 use Rattle.sheet.proofs.Columns.{columns-few}
-use Rattle.combinations.specs.Combinations.{combinations, Placed, Gathered, ownsOf, tableBy}
+use Rattle.combinations.specs.Combinations.{combinations, threeParts, Placed, Gathered, ownsOf, tableBy}
 use Rattle.ties.specs.declared.best.Best as declared
 use Rattle.ties.specs.declared.listing.Listed.{Listed}
 use Rattle.ties.specs.declared.listing.Answer.{Answer}
 use Rattle.ties.specs.declared.Choice.{Choice}
 use Rattle.ties.specs.Ties.{Based, Drawing, okBy, lastBy, addableOf, fullTo, keptBy, listedOf, bestOf, topBy, answerBy, leftOf, tableFor, answerOf, chosenOf, choiceOf}
 use Rattle.arrays.proofs.Arrays.{put-is}
-use Rattle.ties.proofs.Laws.{listed-same, full-stops, drawing, answer-top, answer-none, answer-place}
-use Rattle.search.specs.Search.{limbs, limb, Adding, limbEnd, keptBefore, Tallied, placeOf, Cuttable, Rising, Onto, Busy, Branch, Past, Other, Open, Unsought, Passed, nearBy, Aiming, Gaining}
+use Rattle.ties.proofs.Laws.{listed-same, addable-in, addable-out, full-stops, drawing, answer-top, answer-none, answer-place}
+use Rattle.branches.specs.Branches.{Cuttable, Unsought, Passed, nearBy}
+use Rattle.branches.proofs.Best.{power-low}
+use Rattle.search.specs.declared.kept.Aim.{Aim}
+use Rattle.search.specs.Search.{Rising, Onto, Busy, Adding, Narrows, Addable, Closes, Seeking, stretches, stretchEnd, keptBefore, Tallied, Stands, placeOf}
 use Rattle.search.proofs.Rise.{cuttable, gains, adding}
-use Rattle.search.proofs.Best.{power-low}
-use Rattle.search.proofs.Branch.{free-place, place-free, added-low, within-all, some-size}
 
 -- numbers that are passed over are not counted
 pub listed-past : (f : ℕ → Bool) (place n r : ℕ) {l : Listed} → l ≡ listedOf f place n → ((j : ℕ) → j < r → f (n + j) ≡ false) → l ≡ listedOf f place (n + r)
@@ -65,26 +66,17 @@ module _ (sheet : List ℕ) (of : Size) (table : List ℕ) (tied : Tied) (most :
 
   kept-addable : (m j : ℕ) → j < tied .count → addableOf ok m (getD (tied .ranks) j 0) ≡ true → kept m ≡ false
   unfolding keptBy
-  kept-addable m j l e = rw (← (full-stops ok (tied .ranks) m j refl (tied .count) e l)) (none (ok m) (eqb (tot m) most))
-    where
-      none : (a b : Bool) → (a && (b && false)) ≡ false
-      none true true = refl
-      none true false = refl
-      none false b = refl
+  kept-addable m j l e = rw (← (full-stops ok (tied .ranks) m j refl (tied .count) e l), and-none (eqb (tot m) most)) (and-none (ok m))
 
   pub kept-other : (m : ℕ) {w : ℕ} → w ≡ tot m → (w ≡ most → ⊥) → false ≡ kept m
   unfolding keptBy
-  kept-other m ew n = rw (← ew, ne-eqb _ most n) (none (ok m))
-    where
-      none : (a : Bool) → false ≡ (a && false)
-      none true = refl
-      none false = refl
+  kept-other m ew n = rw (← ew, ne-eqb _ most n) (sym (and-none (ok m)))
 
   -- nor is any that is passed over
-  unsought : Aiming sheet of table tied most → (end m : ℕ) → end ≤ 2 ^ (tied .count) → Unsought ok tot most end m → kept m ≡ false
-  unsought A end m r u = ⊎-elim (kept-past m) (λ v. ⊎-elim (λ n. sym (kept-other m refl n))
+  unsought : Onto tied → (end m : ℕ) → end ≤ 2 ^ (tied .count) → Unsought ok tot most end m → kept m ≡ false
+  unsought O end m r u = ⊎-elim (kept-past m) (λ v. ⊎-elim (λ n. sym (kept-other m refl n))
       (λ o.
-      let b = A .onto (o .place) (low (o .place) (o .low)) in
+      let b = O (o .place) (low (o .place) (o .low)) in
       kept-addable m (b .bid) (b .low) (opened (b .is) (o .free) (o .fits))) v) u
     where
       low : (i : ℕ) → m + 2 ^ i < end → i < tied .count
@@ -94,36 +86,9 @@ module _ (sheet : List ℕ) (of : Size) (table : List ℕ) (tied : Tied) (most :
       opened : {p i : ℕ} → p ≡ i → has m i ≡ false → ok (m + 2 ^ i) ≡ true → addableOf ok m p ≡ true
       opened e f t = unfold addableOf in rw (e, f, t)
 
-  pub passed-unkept : Aiming sheet of table tied most → {mask left n : ℕ} → mask + left ≤ 2 ^ (tied .count) → Passed ok tot most mask left n
+  pub passed-unkept : Onto tied → {mask left n : ℕ} → mask + left ≤ 2 ^ (tied .count) → Passed ok tot most mask left n
       → (j : ℕ) → j < n → kept (mask + j) ≡ false
-  passed-unkept A {mask} {left} room P j l = unsought A (mask + left) (mask + j) room (P .none j l)
-
-  -- ---- one that fits and has the greatest total is full where each bid adds to it
-  module _ (A : Aiming sheet of table tied most) (placed : Placed tied) (m : ℕ) (low : m < 2 ^ (tied .count)) (best : tot m ≡ most)
-      (gain : (j : ℕ) → j < tied .count → has m (getD (tied .ranks) j 0) ≡ false → tot m < tot (m + 2 ^ getD (tied .ranks) j 0)) where
-    shut : (j : ℕ) → j < tied .count → not (addableOf ok m (getD (tied .ranks) j 0)) ≡ true
-    unfolding addableOf
-    shut j l =
-        let p = getD (tied .ranks) j 0 in
-        case (has m p) (λ t. rw t)
-        (λ f. rw f (case (ok (m + 2 ^ p))
-        (λ t. absurd (omega (arith, gain j l f, A .top (m + 2 ^ p) (add-lt m p (tied .count) f (placed .ranks j l) low) t)))
-        (λ g. rw g)))
-
-    full-best : (n : ℕ) → n ≤ tied .count → true ≡ fullTo ok (tied .ranks) m n
-    unfolding fullTo
-    full-best zero h = refl
-    full-best (suc n) h = rw (shut n h) (full-best n (omega arith))
-
--- one that fits and has the greatest total
-module _ (ok : ℕ → Bool) (tot : ℕ → ℕ) (most m : ℕ) {w : ℕ} (ew : w ≡ tot m) where
-  pub near-is : {f : Bool} → w ≡ most → f ≡ ok m → f ≡ nearBy ok tot most m
-  unfolding nearBy
-  near-is e ef = rw (← ew, eq-eqb w most e) ef
-
-  pub near-other : (w ≡ most → ⊥) → false ≡ nearBy ok tot most m
-  unfolding nearBy
-  near-other n = rw (← ew, ne-eqb w most n)
+  passed-unkept O {mask} {left} room P j l = unsought O (mask + left) (mask + j) room (P .none j l)
 
 -- one that is near is kept if it is full; and any other is not
 module _ (sheet : List ℕ) (of : Size) (table : List ℕ) (tied : Tied) (most m : ℕ) {b : Bool} (eb : b ≡ nearBy (okBy sheet of table) (lastBy of table) most m) where
@@ -140,68 +105,53 @@ module _ (sheet : List ℕ) (of : Size) (table : List ℕ) (tied : Tied) (most m
   pub near-not : b ≡ false → false ≡ keptBy sheet of table tied most m
   unfolding nearBy keptBy
   near-not h =
-      ⊎-elim (λ e. rw e (none (okBy sheet of table m))) (λ e. rw e) (and-false (eqb (lastBy of table m) most) (okBy sheet of table m) (sym eb ∙ h))
+      ⊎-elim (λ e. rw e (sym (and-none (okBy sheet of table m)))) (λ e. rw e) (and-false (eqb (lastBy of table m) most) (okBy sheet of table m) (sym eb ∙ h))
+
+-- one to which the bid of no binary place can be added is full
+module _ (ok : ℕ → Bool) (tied : Tied) (placed : Placed tied) (m : ℕ) where
+  full-all : ((place : ℕ) → place < tied .count → addableOf ok m place ≡ false) → (n : ℕ) → n ≤ tied .count → true ≡ fullTo ok (tied .ranks) m n
+  unfolding fullTo
+  full-all h zero l = refl
+  full-all h (suc n) l = rw (h (getD (tied .ranks) n 0) (placed .ranks n l)) (full-all h n (omega arith))
+
+  pub closed-full : {r : Bool} → Onto tied → Closes ok m (tied .count) r → r ≡ fullTo ok (tied .ranks) m (tied .count)
+  closed-full {r} O c = case r (λ t. t ∙ full-all (c .0 t) (tied .count) (omega arith)) (λ f. f ∙ opened (c .1 f))
     where
-      none : (a : Bool) → false ≡ (a && false)
-      none true = refl
-      none false = refl
+      opened : Addable ok m (tied .count) → false ≡ fullTo ok (tied .ranks) m (tied .count)
+      opened a = let b = O (a .place) (a .low) in
+          full-stops ok (tied .ranks) m (b .bid) refl (tied .count) (ap (addableOf ok m) (b .is) ∙ a .is) (b .low)
 
 -- where each bid adds to the total, one that is near is full
-module _ (sheet : List ℕ) (of : Size) (table : List ℕ) (tied : Tied) (most : ℕ) (A : Aiming sheet of table tied most) (placed : Placed tied)
-    (gain : (m j : ℕ) → m < 2 ^ (tied .count) → j < tied .count → has m (getD (tied .ranks) j 0) ≡ false
-    → lastBy of table m < lastBy of table (m + 2 ^ getD (tied .ranks) j 0)) where
-  pub near-whole : (m : ℕ) {b : Bool} → m < 2 ^ (tied .count) → b ≡ nearBy (okBy sheet of table) (lastBy of table) most m → b ≡ true
+module _ (sheet : List ℕ) (of : Size) (table : List ℕ) (tied : Tied) (aim : Aim) (S : Seeking sheet of table tied aim) (e : aim .idle ≡ false) where
+  pub near-whole : (m : ℕ) {b : Bool} → m < 2 ^ (tied .count) → b ≡ nearBy (okBy sheet of table) (lastBy of table) (aim .most) m → b ≡ true
       → true ≡ fullTo (okBy sheet of table) (tied .ranks) m (tied .count)
-  near-whole m l eb h =
-      full-best sheet of table tied most A placed m l (near-most sheet of table tied most m eb h) (λ j g f. gain m j l g f) (tied .count) (omega arith)
-
--- what is known where the greatest total is
-aiming : (sheet : List ℕ) (of : Size) (table : List ℕ) (tied : Tied) {b : declared.Best} → Cuttable (okBy sheet of table) (lastBy of table) → Onto tied
-    → 2 ^ (tied .count) ≤ combinations → b ≡ bestOf (okBy sheet of table) (lastBy of table) (2 ^ (tied .count)) → Aiming sheet of table tied (b .total)
-aiming sheet of table tied {b} C O few eb = record {
-  cuts = C;
-  onto = O;
-  top = λ m l t.
-      let z = first m l t in
-      rw eb (⊎-elim (λ u. omega (arith, u)) (λ u. u .0) (best-is (okBy sheet of table) (lastBy of table) z (2 ^ (tied .count)) .top m l t));
-}
-  where
-    first : (m : ℕ) → m < 2 ^ (tied .count) → okBy sheet of table m ≡ true → okBy sheet of table 0 ≡ true
-    first m l t = C .down 0 m (omega arith) (omega (arith, few)) (λ i u. clash u (has-none i)) t
-
--- ---- what is passed over
-pub passed-none : {ok : ℕ → Bool} {tot : ℕ → ℕ} {most mask left : ℕ} → Passed ok tot most mask left 0
-passed-none = record { few = omega arith; none = λ j l. absurd (omega arith) }
-
-module _ {ok : ℕ → Bool} {tot : ℕ → ℕ} {most mask left size : ℕ} (B : Branch mask size) (room : size ≤ left) where
-  pub passed-cut : Past ok tot most mask size → Passed ok tot most mask left size
-  passed-cut p = record { few = room; none = λ j l. inl (p j l) }
-
-  -- all undecided bids fit: to any combination but the last one of them can be added
-  pub passed-open : Cuttable ok tot → ok (mask + (size - 1)) ≡ true → Passed ok tot most mask left (size - 1)
-  passed-open C t = record { few = omega arith; none = λ j l. inr (inr (open-at j l)) }
+  near-whole m l eb h = full-all (okBy sheet of table) tied (S .drawing .placed) m shut (tied .count) (omega arith)
     where
-      open-at : (j : ℕ) → j < size - 1 → Open ok (mask + left) (mask + j)
-      open-at j l =
-          let q = free-place (B .sized .places) j (omega (arith, B .sized .is)) in
-          let i = q .0 in
-          let small : j < size = omega arith in
-          let more : mask + j + 2 ^ i ≡ mask + (j + 2 ^ i) = omega arith in
-          let h = added-low B j i small (q .1) (q .2) in
-          record {
-            place = i;
-            free = place-free B j i small (q .1) (q .2);
-            low = omega (arith, h, room);
-            fits = ap ok more
-                ∙ C .down (mask + (j + 2 ^ i)) (mask + (size - 1)) (omega (arith, B .room, h)) (omega (arith, B .room, some-size B)) (within-all B (j + 2 ^ i) h) t;
-          }
+      more : (j place : ℕ) → j < tied .count → getD (tied .ranks) j 0 ≡ place → has m place ≡ false → okBy sheet of table (m + 2 ^ place) ≡ false
+      more j place g q f =
+          case (okBy sheet of table (m + 2 ^ place))
+          (λ t. absurd (omega (
+            arith,
+            near-most sheet of table tied (aim .most) m eb h,
+            rw q at (S .gain e m j l g (ap (has m) q ∙ f)),
+            S .top (m + 2 ^ place) (add-lt m place (tied .count) f (rw q at (S .drawing .placed .ranks j g)) l) t,
+          )))
+          (λ u. u)
 
-module _ {ok : ℕ → Bool} {tot : ℕ → ℕ} {most mask left n : ℕ} (O : Other tot most mask n) where
-  pub passed-others : n ≤ left → Passed ok tot most mask left n
-  passed-others h = record { few = h; none = λ j l. inr (inl (O .none j l)) }
+      shut : (place : ℕ) → place < tied .count → addableOf (okBy sheet of table) m place ≡ false
+      shut place g = let b = S .onto place g in
+          case (has m place) (λ t. sym (addable-in (okBy sheet of table) m place refl t))
+          (λ f. sym (addable-out (okBy sheet of table) m place refl f refl refl) ∙ more (b .bid) place (b .low) (b .is) f)
 
-  pub passed-left : left < n → Passed ok tot most mask left left
-  passed-left h = record { few = omega arith; none = λ j l. inr (inl (O .none j (omega arith))) }
+-- none that fits has more than the best
+top-best : (sheet : List ℕ) (of : Size) (table : List ℕ) (tied : Tied) {b : declared.Best} → Cuttable (okBy sheet of table) (lastBy of table)
+    → 2 ^ (tied .count) ≤ combinations → b ≡ bestOf (okBy sheet of table) (lastBy of table) (2 ^ (tied .count))
+    → (m : ℕ) → m < 2 ^ (tied .count) → okBy sheet of table m ≡ true → lastBy of table m ≤ b .total
+top-best sheet of table tied C few eb m l t =
+    rw eb (⊎-elim (λ u. omega (arith, u)) (λ u. u .0) (best-is (okBy sheet of table) (lastBy of table) first (2 ^ (tied .count)) .top m l t))
+  where
+    first : okBy sheet of table 0 ≡ true
+    first = C .down 0 m (omega arith) (omega (arith, few)) (λ i u. clash u (has-none i)) t
 
 -- ---- of the gathered bids
 module _ (sheet : List ℕ) (of : Size) (base : List ℕ) (tied : Tied) (p : ℕ) (B : Based sheet of base) (G : Gathered of tied) (R : Rising base)
@@ -210,24 +160,27 @@ module _ (sheet : List ℕ) (of : Size) (base : List ℕ) (tied : Tied) (p : ℕ
   cuts-of = cuttable base own (tied .ranks) (tied .starts) (tied .count) R (G .placed .starts) et of (B .ready .some) (B .ready .columns-least)
       (columns-few (B .ready)) sheet
 
-  gaining : {idle : Bool} → (idle ≡ false → Busy of own tied) → Gaining of table tied idle
-  gaining h e m j l g f =
+  gaining : (m j : ℕ) → Busy of own tied → m < 2 ^ (tied .count) → j < tied .count → has m (getD (tied .ranks) j 0) ≡ false
+      → lastBy of table m < lastBy of table (m + 2 ^ getD (tied .ranks) j 0)
+  gaining m j h l g f =
       gains base own (tied .ranks) (tied .starts) (tied .count) R (G .placed .starts) et of (B .ready .some) (B .ready .columns-least) (columns-few (B .ready))
-      m j g (h e j g) f (omega (arith, l, low)) (omega (arith, add-lt m (getD (tied .ranks) j 0) (tied .count) f (G .placed .ranks j g) l, low))
+      m j g (h j g) f (omega (arith, l, low)) (omega (arith, add-lt m (getD (tied .ranks) j 0) (tied .count) f (G .placed .ranks j g) l, low))
     where
       low : 2 ^ (tied .count) ≤ combinations
       low = power-low (G .placed .few)
 
   -- what the walk over those kept needs
-  pub kept-ready : Onto tied → {b : declared.Best} {idle : Bool} → b ≡ bestOf (okBy sheet of table) (lastBy of table) (2 ^ (tied .count))
-      → (idle ≡ false → Busy of own tied) → Drawing sheet of table tied × Aiming sheet of table tied (b .total) × Gaining of table tied idle
-      × Adding table
-  kept-ready O eb h = (
-    drawing sheet of base tied p B G eo et,
-    aiming sheet of table tied cuts-of O (power-low (G .placed .few)) eb,
-    gaining h,
-    adding base own (tied .ranks) (tied .starts) (tied .count) R (G .placed .starts) et,
-  )
+  pub seeking : Onto tied → {b : declared.Best} {aim : Aim} → b ≡ bestOf (okBy sheet of table) (lastBy of table) (2 ^ (tied .count)) → aim .most ≡ b .total
+      → (aim .idle ≡ false → Busy of own tied) → Narrows of table (tied .count) (aim .narrow) → Seeking sheet of table tied aim
+  seeking O eb em h N = record {
+    drawing = drawing sheet of base tied p B G eo et;
+    cuts = cuts-of;
+    onto = O;
+    adding = adding base own (tied .ranks) (tied .starts) (tied .count) R (G .placed .starts) et;
+    narrow = N;
+    top = λ m l t. omega (arith, em, top-best sheet of table tied cuts-of (power-low (G .placed .few)) eb m l t);
+    gain = λ e m j. gaining m j (h e);
+  }
 
 module _ (sheet : List ℕ) (of : Size) (base : List ℕ) (tied : Tied) (p : ℕ) where
   pub top-is : {own table : List ℕ} {b : declared.Best} → own ≡ ownsOf sheet of (tied .bids) p (tied .count)
@@ -247,7 +200,7 @@ module _ (sheet : List ℕ) (of : Size) (base : List ℕ) (tied : Tied) (p : ℕ
   unfolding choiceOf
   choice-drawn drawn ea ec = rw (ec, ea)
 
--- ---- limb by limb
+-- ---- stretch by stretch
 place-beyond : (place : ℕ) (l : List ℕ) → length l ≤ place → atPlace place l ≡ 0
 unfolding atPlace
 place-beyond place [] h = refl
@@ -266,30 +219,38 @@ module _ (f : ℕ → Bool) (place n : ℕ) where
       (λ t. rw (t, ne-eqb (length (sift f (below (n + r)))) place (λ e. let no : ⊥ = omega (arith, many-more r) in no)) (place-stays r h))
       (λ u. rw u (place-stays r h)))
 
+pub stretch-start : (n : ℕ) → stretchEnd n 0 ≡ 0
+unfolding stretchEnd
+stretch-start n = omega arith
+
 module _ (n k : ℕ) where
-  pub limb-start : limbEnd n 0 ≡ 0
-  unfolding limbEnd
-  limb-start = omega arith
+  pub stretch-up : (stretchEnd n k ≤ stretchEnd n (k + 1)) × (stretchEnd n (k + 1) ≤ n)
+  unfolding stretchEnd
+  stretch-up = (omega arith, omega arith)
 
-  pub limb-up : (limbEnd n k ≤ limbEnd n (suc k)) × (limbEnd n (suc k) ≤ n)
-  unfolding limbEnd
-  limb-up = (omega arith, omega arith)
+  pub stretch-whole : {x : ℕ} → x ≡ k * threeParts → n < x → n ≡ stretchEnd n k
+  unfolding stretchEnd
+  stretch-whole e h = omega arith
 
-  pub limb-whole : {x : ℕ} → x ≡ suc k * limb → n < x → n ≡ limbEnd n (suc k)
-  unfolding limbEnd
-  limb-whole e h = omega arith
+  pub stretch-part : {x : ℕ} → x ≡ k * threeParts → x ≤ n → x ≡ stretchEnd n k
+  unfolding stretchEnd
+  stretch-part e h = omega arith
 
-  pub limb-next : {x : ℕ} → x ≡ suc k * limb → x ≤ n → x ≡ limbEnd n (suc k)
-  unfolding limbEnd
-  limb-next e h = omega arith
+pub stretch-last : (n : ℕ) → n ≤ combinations → stretchEnd n stretches ≡ n
+unfolding stretchEnd
+stretch-last n h = omega arith
 
-pub limb-last : (n : ℕ) → n ≤ combinations → limbEnd n limbs ≡ n
-unfolding limbEnd
-limb-last n h = omega arith
+-- by the code's end of the tie
+pub stretch-same : (k : ℕ) {e n r : ℕ} → e ≡ n → r ≡ stretchEnd e k → r ≡ stretchEnd n k
+stretch-same k ee er = rw ee at er
 
 module _ (f : ℕ → Bool) (n : ℕ) where
-  -- what is counted of one limb more
-  pub tally-more : (place k : ℕ) {out : List ℕ} {l : Listed} → Tallied f n k out → k < limbs → l ≡ listedOf f place (limbEnd n (suc k))
+  pub tally-none : Tallied f n 0 (replicate (stretches + 1) 0)
+  unfolding keptBefore
+  tally-none = record { size = refl; each = λ i h. let e : i ≡ 0 = omega arith in rw (e, stretch-start n) }
+
+  -- what is counted of one stretch more
+  pub tally-more : (place k : ℕ) {out : List ℕ} {l : Listed} → Tallied f n k out → k < stretches → l ≡ listedOf f place (stretchEnd n (k + 1))
       → Tallied f n (k + 1) (set out (k + 1) (l .count))
   unfolding listedOf keptBefore
   tally-more place k {out} {l} T h el = record {
@@ -297,67 +258,62 @@ module _ (f : ℕ → Bool) (n : ℕ) where
     each = λ i g.
         put-is out (k + 1) i (l .count) 0 (omega (arith, T .size))
         ∙ case (eqb i (k + 1))
-        (λ t. rw t (ap (λ (x : Listed). x .count) el ∙ ap (λ (x : ℕ). keptBefore f (limbEnd n x)) (sym (add-one k) ∙ sym (eqb-true i (k + 1) t))))
+        (λ t. rw t (ap (λ (x : Listed). x .count) el ∙ ap (λ (x : ℕ). keptBefore f (stretchEnd n x)) (sym (eqb-true i (k + 1) t))))
         (λ u. let d = eqb-false i (k + 1) u in rw u (T .each i (omega arith)));
   }
 
-  pub tally-none : Tallied f n 0 (replicate (limbs + 1) 0)
-  unfolding keptBefore
-  tally-none = record { size = refl; each = λ i h. let e : i ≡ 0 = omega arith in rw (e, limb-start n 0) }
+  pub tally-all : {k : ℕ} {out : List ℕ} → Tallied f n k out → k ≤ stretches → stretches ≤ k → Tallied f n stretches out
+  tally-all T h g = record { size = T .size; each = λ i l. T .each i (omega arith) }
 
-  module _ {counts : List ℕ} (T : Tallied f n limbs counts) (place k : ℕ) (h : k < limbs) where
-    -- the walk over limb k starts with what was counted before it
-    pub limb-list : keptBefore f (limbEnd n k) ≤ place → _≡_ {A = Listed} (record { count = getD counts k 0; mask = 0 }) (listedOf f place (limbEnd n k))
-    unfolding listedOf keptBefore
-    limb-list g = rw (T .each k (omega arith), place-beyond place (sift f (below (limbEnd n k))) g)
-
-    pub limb-past : getD counts (k + 1) 0 ≤ place → keptBefore f (limbEnd n (suc k)) ≤ place
-    limb-past g = omega (arith, T .each (k + 1) (omega arith), ap (λ (x : ℕ). keptBefore f (limbEnd n x)) (add-one k))
-
-    pub limb-place : {l : Listed} → l ≡ listedOf f place (limbEnd n (suc k)) → place < getD counts (k + 1) 0 → l .mask ≡ placeOf f n place
-    unfolding listedOf placeOf keptBefore
-    limb-place el g =
-        ap (λ (x : Listed). x .mask) el
-        ∙ sym (ap (λ (x : ℕ). atPlace place (sift f (below x))) whole ∙ place-stays f place (limbEnd n (suc k)) (n - limbEnd n (suc k))
-        (omega (arith, T .each (k + 1) (omega arith), ap (λ (x : ℕ). keptBefore f (limbEnd n x)) (add-one k))))
+  module _ {counts : List ℕ} (T : Tallied f n stretches counts) (place k : ℕ) (S : Stands counts place k) where
+    -- the stretches before it have too few
+    too-few : keptBefore f (stretchEnd n k) ≤ place
+    too-few = go k (S .few) (S .past)
       where
-        whole : n ≡ limbEnd n (suc k) + (n - limbEnd n (suc k))
-        whole = omega (arith, limb-up n k .1)
+        go : (k : ℕ) → k ≤ stretches → ((i : ℕ) → i < k → getD counts (i + 1) 0 ≤ place) → keptBefore f (stretchEnd n k) ≤ place
+        go zero h p = unfold keptBefore in rw (stretch-start n) (omega arith)
+        go (suc i) h p = omega (arith, T .each (suc i) h, p i (omega arith), ap (λ (x : ℕ). getD counts x 0) (add-one i))
 
-  pub place-none : (place : ℕ) {m : ℕ} → m ≡ n → keptBefore f m ≤ place → 0 ≡ placeOf f n place
-  unfolding placeOf keptBefore
-  place-none place e h = sym (place-beyond place (sift f (below n)) (rw e at h))
+    -- the walk over it starts with what was counted before it
+    pub stretch-list : _≡_ {A = Listed} (record { count = getD counts k 0; mask = 0 }) (listedOf f place (stretchEnd n k))
+    unfolding listedOf keptBefore
+    stretch-list = rw (T .each k (S .few), place-beyond place (sift f (below (stretchEnd n k))) too-few)
 
-  pub none-yet : (place : ℕ) → keptBefore f (limbEnd n 0) ≤ place
-  unfolding keptBefore
-  none-yet place = rw (limb-start n 0) (omega arith)
+    pub stretch-place : {l : Listed} → l ≡ listedOf f place (stretchEnd n (k + 1)) → k < stretches → l .mask ≡ placeOf f n place
+    unfolding listedOf placeOf
+    stretch-place el h =
+        ap (λ (x : Listed). x .mask) el
+        ∙ sym (ap (λ (x : ℕ). atPlace place (sift f (below x))) whole ∙ place-stays f place (stretchEnd n (k + 1)) (n - stretchEnd n (k + 1)) enough)
+      where
+        whole : n ≡ stretchEnd n (k + 1) + (n - stretchEnd n (k + 1))
+        whole = omega (arith, stretch-up n k .1)
 
-  pub few-more : (place k : ℕ) → keptBefore f (limbEnd n (suc k)) ≤ place → keptBefore f (limbEnd n (k + 1)) ≤ place
-  few-more place k h = rw (add-one k) h
+        enough : place < length (sift f (below (stretchEnd n (k + 1))))
+        enough = unfold keptBefore in omega (arith, S .here h, T .each (k + 1) (omega arith))
 
--- where limb k ends, by the code's end of the tie
-pub limb-same : (k : ℕ) {e n r : ℕ} → e ≡ n → r ≡ limbEnd e (suc k) → r ≡ limbEnd n (suc k)
-limb-same k ee er = rw ee at er
+    pub place-none : n ≤ combinations → stretches ≤ k → 0 ≡ placeOf f n place
+    unfolding placeOf
+    place-none l h = sym (place-beyond place (sift f (below n)) all)
+      where
+        end : stretchEnd n k ≡ n
+        end = let e : k ≡ stretches = omega (arith, S .few) in rw e (stretch-last n l)
 
-pub limbs-all : {n k : ℕ} → k ≤ limbs → limbs ≤ k → n ≤ combinations → limbEnd n k ≡ n
-limbs-all {n} {k} h g l = let e : k ≡ limbs = omega arith in rw e (limb-last n l)
-
-pub tallied-all : {f : ℕ → Bool} {n k : ℕ} {out : List ℕ} → Tallied f n k out → k ≤ limbs → limbs ≤ k → Tallied f n limbs out
-tallied-all T h g = record { size = T .size; each = λ i l. T .each i (omega arith) }
+        all : length (sift f (below n)) ≤ place
+        all = unfold keptBefore in rw end at too-few
 
 -- ---- what the search answers
 module _ (sheet : List ℕ) (of : Size) (table : List ℕ) (tied : Tied) {b : declared.Best}
     (eb : b ≡ bestOf (okBy sheet of table) (lastBy of table) (2 ^ (tied .count))) {counts : List ℕ}
-    (T : Tallied (keptBy sheet of table tied (b .total)) (2 ^ (tied .count)) limbs counts) (few : tied .count ≤ widestTie)
-    {ways : ℕ} (ew : ways ≡ getD counts limbs 0) where
+    (T : Tallied (keptBy sheet of table tied (b .total)) (2 ^ (tied .count)) stretches counts) (few : tied .count ≤ widestTie)
+    {ways : ℕ} (ew : ways ≡ getD counts stretches 0) where
   abbrev first : Listed
   first = listedOf (keptBy sheet of table tied (b .total)) 0 (2 ^ (tied .count))
 
   ways-are : ways ≡ first .count
   unfolding listedOf keptBefore
   ways-are =
-      ew ∙ T .each limbs (omega arith)
-      ∙ ap (keptBefore (keptBy sheet of table tied (b .total))) (limb-last (2 ^ (tied .count)) (power-low few))
+      ew ∙ T .each stretches (omega arith)
+      ∙ ap (keptBefore (keptBy sheet of table tied (b .total))) (stretch-last (2 ^ (tied .count)) (power-low few))
 
   pub searched-top : {drawn : ℕ} → drawn ≡ 0 → _≡_ {A = Answer} (record { mask = b .mask; ways = ways }) (answerBy sheet of table tied drawn)
   searched-top e = rw ways-are (answer-top sheet of table tied eb {first = first} refl e)

@@ -1,33 +1,24 @@
--- What the functions of `search` compute and need: branches of combinations, when nothing in one is looked for, and what that rests on. Assumes nothing.
+-- What the functions of `search` compute and need: what passing over a branch rests on, and those kept. Assumes nothing.
 use Prim.Native.Nat.{ℕ, zero, suc, _+_, _-_, _*_, _/_, _%_, _^_, _≤_, _<_, min}
 use mathlib.Core.Path.{_≡_}
-use mathlib.Core.Bool.{Bool, true, false, _&&_}
+use mathlib.Core.Bool.{Bool, true, false}
 use mathlib.Core.Logic.{_⊎_}
 use mathlib.Core.List.{List}
-use lib.Bits.{bitOr}
 use lib.ListN.{length, getD}
-use lib.Dec.{eqb, leb, ltb}
-use Rattle.rules.specs.Names.{mostYears, mostDeliveries, widestTie}
-use Rattle.rules.specs.Lists.{pick, sift, below}
+use Rattle.rules.specs.Names.{mostDeliveries, widestTie}
+use Rattle.rules.specs.Lists.{sift, below}
 use Rattle.rules.specs.Pot.{has, atPlace}
 use Rattle.sheet.specs.declared.Size.{Size}
 use Rattle.sheet.specs.Sheet.{columns, limitAt}
 use Rattle.combinations.specs.declared.Tied.{Tied}
-use Rattle.combinations.specs.Combinations.{yearSets, combinations, partPlaces, partSize, mostBase, partCost, partYears, jointOf, unionOf, Tabled}
-use Rattle.ties.specs.Ties.{okBy, lastBy}
-use Rattle.search.specs.declared.greatest.Found.{Found}
-use Rattle.search.specs.declared.scan.Upper.{Upper}
+use Rattle.combinations.specs.Combinations.{yearSets, combinations, partPlaces, threeParts, partCost, jointOf, unionOf}
+use Rattle.ties.specs.Ties.{Drawing, okBy, lastBy, addableOf}
+use Rattle.branches.specs.Branches.{Cuttable}
+use Rattle.search.specs.declared.kept.Aim.{Aim}
+use Rattle.search.specs.declared.whole.Narrow.{Narrow}
+use Rattle.search.specs.declared.whole.Room.{Room}
 
 -- ---- what passing over a branch rests on
-
--- every binary place of m is one of n: combination n has the bids of m, and perhaps more
-abbrev pub Within : (m n : ℕ) → Type 0
-Within m n = (i : ℕ) → has m i ≡ true → has n i ≡ true
-
--- with more bids a combination comes to no less, and it fits only if one with fewer does
-pub record Cuttable (ok : ℕ → Bool) (tot : ℕ → ℕ) : Type 0 where
-  pub down : (m n : ℕ) → m < combinations → n < combinations → Within m n → ok n ≡ true → ok m ≡ true
-  pub reach : (m n : ℕ) → m < combinations → n < combinations → Within m n → tot m ≤ tot n
 
 -- one delivery year more costs the winners no less: of the i-th set, year and column; and of all
 unfoldable pub Rises : (base : List ℕ) (i : ℕ) → Type 0
@@ -61,99 +52,12 @@ lastWorth own last j = getD own (j * columns + last) 0
 abbrev pub Busy : (of : Size) (own : List ℕ) (tied : Tied) → Type 0
 Busy of own tied = (j : ℕ) → j < tied .count → 0 < lastWorth own (of .years - 1) j
 
--- ---- branches: the combinations, so many, from `mask` on, which have the higher binary places of `mask` and differ in the lower ones
-pub record Sized (size : ℕ) : Type 0 where
-  pub places : ℕ
-  pub is : size ≡ 2 ^ places
-
-pub record Branch (mask size : ℕ) : Type 0 where
-  pub sized : Sized size
-  pub head : ℕ
-  pub at : mask ≡ size * head
-  pub room : mask + size ≤ combinations
-
--- none of n combinations from `mask` on fits and reaches the goal; and none of those n before `left`
-abbrev pub Past : (ok : ℕ → Bool) (tot : ℕ → ℕ) (goal mask n : ℕ) → Type 0
-Past ok tot goal mask n = (j : ℕ) → j < n → (ok (mask + j) && leb goal (tot (mask + j))) ≡ false
-
-pub record Fallen (ok : ℕ → Bool) (tot : ℕ → ℕ) (goal left n : ℕ) : Type 0 where
-  pub few : n ≤ left
-  pub past : Past ok tot goal (left - n) n
-
--- ---- the best, with the larger numbers first
-
--- a look at one more
-unfoldable pub metOf : (ok : ℕ → Bool) (tot : ℕ → ℕ) (mask : ℕ) → Found → Found
-metOf ok tot mask f = pick (ok mask && leb (f .goal) (tot mask)) (record { mask = mask; goal = tot mask + 1 }) f
-
--- ---- the numbers whose upper parts are those of h: which years these touch and what they count in the last year; and the total with the lowest part v
-pub record Lasting (of : Size) (table : List ℕ) : Type 0 where
-  pub tables : Tabled table
-  pub some : 0 < of .years
-  pub years : of .years ≤ mostYears
-
-unfoldable pub upperOf : (of : Size) (table : List ℕ) (h : ℕ) → Upper
-upperOf of table h = record {
-  years = bitOr (partYears table 1 (h % partSize)) (bitOr (partYears table 2 (h / partSize % partSize)) (partYears table 3 (h / partSize / partSize)));
-  sum = partCost table 1 (h % partSize) (of .years - 1) + partCost table 2 (h / partSize % partSize) (of .years - 1)
-      + partCost table 3 (h / partSize / partSize) (of .years - 1);
-}
-
-pub record Upright (u : Upper) : Type 0 where
-  pub years : u .years < yearSets
-  pub sum : u .sum ≤ 3 * mostBase
-
-unfoldable pub totalAt : (of : Size) (table : List ℕ) → Upper → (v : ℕ) → ℕ
-totalAt of table u v =
-    getD table (bitOr (partYears table 0 v) (u .years) * columns + (of .years - 1)) 0 + partCost table 0 v (of .years - 1) + u .sum
-
--- n combinations from `mask` on have another total; and n before `left` have less, or more than the limit
-pub record Other (tot : ℕ → ℕ) (most mask n : ℕ) : Type 0 where
-  pub few : n ≤ partSize - mask % partSize
-  pub none : (j : ℕ) → j < n → tot (mask + j) ≡ most → ⊥
-
-pub record Short (tot : ℕ → ℕ) (goal limit left n : ℕ) : Type 0 where
-  pub few : n ≤ left
-  pub none : (m : ℕ) → left - n ≤ m → m < left → (tot m < goal) ⊎ (limit < tot m)
-
--- ---- those kept
-
--- a bid whose place the combination m has not can be added
-pub record Open (ok : ℕ → Bool) (end m : ℕ) : Type 0 where
-  pub place : ℕ
-  pub free : has m place ≡ false
-  pub low : m + 2 ^ place < end
-  pub fits : ok (m + 2 ^ place) ≡ true
-
--- a combination that is not sought: it does not fit or falls short, has another total, or a bid can be added; and n of these from `mask` on
-abbrev pub Unsought : (ok : ℕ → Bool) (tot : ℕ → ℕ) (most end m : ℕ) → Type 0
-Unsought ok tot most end m = ((ok m && leb most (tot m)) ≡ false) ⊎ ((tot m ≡ most → ⊥) ⊎ Open ok end m)
-
-pub record Passed (ok : ℕ → Bool) (tot : ℕ → ℕ) (most mask left n : ℕ) : Type 0 where
-  pub few : n ≤ left
-  pub none : (j : ℕ) → j < n → Unsought ok tot most (mask + left) (mask + j)
-
--- one that fits and has the greatest total
-unfoldable pub nearBy : (ok : ℕ → Bool) (tot : ℕ → ℕ) (most m : ℕ) → Bool
-nearBy ok tot most m = eqb (tot m) most && ok m
-
--- what is known of what is sought: no combination that fits has more in the last year, and where no bid is idle each adds to it
-pub record Aiming (sheet : List ℕ) (of : Size) (table : List ℕ) (tied : Tied) (most : ℕ) : Type 0 where
-  pub cuts : Cuttable (okBy sheet of table) (lastBy of table)
-  pub onto : Onto tied
-  pub top : (m : ℕ) → m < 2 ^ (tied .count) → okBy sheet of table m ≡ true → lastBy of table m ≤ most
-
-abbrev pub Gaining : (of : Size) (table : List ℕ) (tied : Tied) (idle : Bool) → Type 0
-Gaining of table tied idle =
-    idle ≡ false → (m j : ℕ) → m < 2 ^ (tied .count) → j < tied .count → has m (getD (tied .ranks) j 0) ≡ false
-    → lastBy of table m < lastBy of table (m + 2 ^ getD (tied .ranks) j 0)
-
--- ---- whether a bid can be added: what the bid at a binary place counts in column c; and that it is too much there for the combination m, which touches t
+-- ---- whether a bid can be added: what the bid at a binary place counts in column c; and what the combination m, which touches t, leaves of its limit
 unfoldable pub aloneBy : (table : List ℕ) (place c : ℕ) → ℕ
 aloneBy table place c = partCost table (place / partPlaces) (2 ^ (place % partPlaces)) c
 
-unfoldable pub barredBy : (sheet table : List ℕ) (m t place c : ℕ) → Bool
-barredBy sheet table m t place c = ltb (limitAt sheet c) (jointOf table m t c + aloneBy table place c)
+unfoldable pub leftBy : (sheet table : List ℕ) (m t c : ℕ) → ℕ
+leftBy sheet table m t c = limitAt sheet c - jointOf table m t c
 
 -- a bid adds at least what it counts
 pub record Adding (table : List ℕ) : Type 0 where
@@ -166,27 +70,69 @@ pub record Known (table : List ℕ) (m t : ℕ) : Type 0 where
   pub years : t ≡ unionOf table m
   pub few : t < yearSets
 
--- a column of the pot where a bid cannot be added, and one past all columns where it can
-abbrev pub Asks : (addable : Bool) (n r : ℕ) → Type 0
-Asks addable n r = ((r < n) × (addable ≡ false)) ⊎ ((r ≡ columns) × (addable ≡ true))
+-- none of so many bids counts less in column c; and so in a column of the pot
+abbrev pub Least : (table : List ℕ) (count c r : ℕ) → Type 0
+Least table count c r = (place : ℕ) → place < count → r ≤ aloneBy table place c
 
--- ---- the limbs of a tie: branches in which fifteen binary places are undecided; where the first k of them end, of n combinations
-abbrev pub limbs : ℕ
-limbs = 32
+pub record Narrows (of : Size) (table : List ℕ) (count : ℕ) (r : Narrow) : Type 0 where
+  pub column : r .column < of .columns
+  pub least : Least table count (r .column) (r .least)
 
-abbrev pub limb : ℕ
-limb = 32768
+-- what is left in a column of the pot; that this is less than the bid at a binary place counts, or no column; and that it cannot be added, or no column and it can
+pub record Roomed (sheet : List ℕ) (of : Size) (table : List ℕ) (m t : ℕ) (r : Room) : Type 0 where
+  pub column : r .column < of .columns
+  pub is : r .left ≡ leftBy sheet table m t (r .column)
 
-unfoldable pub limbEnd : (n k : ℕ) → ℕ
-limbEnd n k = min (k * limb) n
+abbrev pub Bars : (sheet : List ℕ) (of : Size) (table : List ℕ) (m t place : ℕ) (r : Room) → Type 0
+Bars sheet of table m t place r =
+    (Roomed sheet of table m t r × (r .left < aloneBy table place (r .column))) ⊎ (r .column ≡ columns)
 
--- how many are kept before a number, and before each of the first of these ends; and the one at a place
+abbrev pub Asks : (sheet : List ℕ) (of : Size) (table : List ℕ) (m t place : ℕ) (r : Room) → Type 0
+Asks sheet of table m t place r =
+    (Roomed sheet of table m t r × (addableOf (okBy sheet of table) m place ≡ false))
+    ⊎ ((r .column ≡ columns) × (addableOf (okBy sheet of table) m place ≡ true))
+
+-- a bid at a binary place below n can be added to the combination m; and that none can be, or one
+pub record Addable (ok : ℕ → Bool) (m n : ℕ) : Type 0 where
+  pub place : ℕ
+  pub low : place < n
+  pub is : addableOf ok m place ≡ true
+
+abbrev pub Closes : (ok : ℕ → Bool) (m n : ℕ) (r : Bool) → Type 0
+Closes ok m n r = (r ≡ true → (place : ℕ) → place < n → addableOf ok m place ≡ false) × (r ≡ false → Addable ok m n)
+
+-- ---- what is sought among the combinations of a tie: none that fits has more in the last year; where no bid is idle each adds to it
+pub record Seeking (sheet : List ℕ) (of : Size) (table : List ℕ) (tied : Tied) (aim : Aim) : Type 0 where
+  pub drawing : Drawing sheet of table tied
+  pub cuts : Cuttable (okBy sheet of table) (lastBy of table)
+  pub onto : Onto tied
+  pub adding : Adding table
+  pub narrow : Narrows of table (tied .count) (aim .narrow)
+  pub top : (m : ℕ) → m < 2 ^ (tied .count) → okBy sheet of table m ≡ true → lastBy of table m ≤ aim .most
+  pub gain : aim .idle ≡ false → (m j : ℕ) → m < 2 ^ (tied .count) → j < tied .count → has m (getD (tied .ranks) j 0) ≡ false
+      → lastBy of table m < lastBy of table (m + 2 ^ getD (tied .ranks) j 0)
+
+-- ---- the branches of a tie in which the lowest three parts are undecided: where the first k of them end, of n combinations
+abbrev pub stretches : ℕ
+stretches = 32
+
+unfoldable pub stretchEnd : (n k : ℕ) → ℕ
+stretchEnd n k = min (k * threeParts) n
+
+-- how many are kept before a number, and before each of the first of these ends
 unfoldable pub keptBefore : (kept : ℕ → Bool) (n : ℕ) → ℕ
 keptBefore kept n = length (sift kept (below n))
 
 pub record Tallied (kept : ℕ → Bool) (n k : ℕ) (counts : List ℕ) : Type 0 where
-  pub size : length counts ≡ limbs + 1
-  pub each : (i : ℕ) → i ≤ k → getD counts i 0 ≡ keptBefore kept (limbEnd n i)
+  pub size : length counts ≡ stretches + 1
+  pub each : (i : ℕ) → i ≤ k → getD counts i 0 ≡ keptBefore kept (stretchEnd n i)
 
+-- the first of them that has more than `place` before its end
+pub record Stands (counts : List ℕ) (place r : ℕ) : Type 0 where
+  pub few : r ≤ stretches
+  pub past : (k : ℕ) → k < r → getD counts (k + 1) 0 ≤ place
+  pub here : r < stretches → place < getD counts (r + 1) 0
+
+-- the one at a place
 unfoldable pub placeOf : (kept : ℕ → Bool) (n place : ℕ) → ℕ
 placeOf kept n place = atPlace place (sift kept (below n))

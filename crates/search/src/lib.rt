@@ -5,17 +5,14 @@ ghost use mathlib.Core.Path.{_≡_};
 ghost use Rattle.combinations.specs.Combinations.{Gathered};
 ghost use Rattle.ties.specs.Ties.{Based, topBy, tableFor, answerOf, choiceOf};
 
-mod branches;
-mod greatest;
 mod kept;
-mod scan;
 mod sound;
 mod whole;
 
+use branches::greatest::greatest;
 use combinations::Tied;
 use combinations::tables;
 use combinations::winners::Base;
-use greatest::greatest;
 use kept::Aim;
 use sheet::Sheet;
 use sheet::Size;
@@ -36,13 +33,15 @@ pub fn search(sheet: &Sheet, of: Size, base: &Base, tied: Tied, price: u64, draw
     let found = greatest(sheet, of, &table, tied.count);
     let most = found.total;
     let idle = sound::idle(of, &own, tied);
+    let narrow = whole::narrow_column(sheet, of, &table, tied.count as u32);
     let aim = Aim {
         most,
         idle,
+        narrow,
         place: 0,
     };
     let counts = kept::tally(sheet, of, &table, tied, aim);
-    let ways = counts[kept::LIMBS];
+    let ways = counts[kept::STRETCHES];
     if drawn == 0 {
         let mask = found.mask;
         return Answer { mask, ways };
@@ -51,7 +50,12 @@ pub fn search(sheet: &Sheet, of: Size, base: &Base, tied: Tied, price: u64, draw
         return Answer { mask: 0, ways };
     }
     let place = (drawn - 1) % ways;
-    let aim = Aim { most, idle, place };
+    let aim = Aim {
+        most,
+        idle,
+        narrow,
+        place,
+    };
     let mask = kept::at_place(sheet, of, &table, tied, aim, &counts);
     Answer { mask, ways }
 }

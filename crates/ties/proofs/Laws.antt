@@ -9,11 +9,11 @@ use native.Mathlib.Omega.{arith}
 use lib.ListN.{length, getD, set}
 use lib.Dec.{eqb, leb}
 use lib.Pow.{pow-mono}
-use borrow.Author.Tests.{eqb-true, eqb-false, eq-eqb, ne-eqb, lt-leb, le-leb}
+use borrow.Author.Tests.{eqb-true, eqb-false, eq-eqb, ne-eqb, lt-leb, le-leb, leb-true}
 use Rattle.rules.specs.Names.{widestTie}
 use Rattle.rules.specs.Lists.{pick, sift, below}
 use Rattle.rules.specs.Pot.{has, best, atPlace}
-use Rattle.laws_pot.specs.Lists.{case, sift-le, length-below}
+use Rattle.laws_pot.specs.Lists.{case, and-true, and-none, sift-le, length-below}
 use Rattle.laws_pot.specs.Bits.{add-lt}
 use Rattle.sheet.specs.declared.Size.{Size}
 use Rattle.sheet.specs.Sheet.{columns, limitAt, rowYear}
@@ -68,17 +68,31 @@ module _ (ranks : List ℕ) (mask j : ℕ) {b : Bool} (eb : b ≡ has mask (getD
   combination-miss h = rw (add-one j, sym eb ∙ h, ea)
 
 -- ---- the search
-and-none : (b : Bool) → false ≡ (b && false)
-and-none true = refl
-and-none false = refl
-
 -- a column above its limit, whatever the others
 pub fits-stops : (f : ℕ → ℕ) (sheet : List ℕ) (c n : ℕ) {x q : ℕ} → x ≡ f c → q ≡ limitAt sheet c → q < x → c < n → false ≡ fitsTo f sheet n
 unfolding fitsTo
 fits-stops f sheet c zero e l h g = absurd (omega arith)
 fits-stops f sheet c (suc n) e l h g =
     case (eqb c n) (λ t. rw (← (eqb-true c n t), ← e, ← l, lt-leb _ _ h))
-    (λ u. let d = eqb-false c n u in rw (← (fits-stops f sheet c n e l h (omega arith))) (and-none (leb (f n) (limitAt sheet n))))
+    (λ u. let d = eqb-false c n u in rw (← (fits-stops f sheet c n e l h (omega arith))) (sym (and-none (leb (f n) (limitAt sheet n)))))
+
+-- what fits is within the limit of each column
+pub fits-at : (f : ℕ → ℕ) (sheet : List ℕ) (c n : ℕ) → fitsTo f sheet n ≡ true → c < n → f c ≤ limitAt sheet c
+unfolding fitsTo
+fits-at f sheet c zero e h = absurd (omega arith)
+fits-at f sheet c (suc n) e h =
+    let a = and-true (leb (f n) (limitAt sheet n)) (fitsTo f sheet n) e in
+    case (eqb c n) (λ t. rw (eqb-true c n t) (leb-true (f n) (limitAt sheet n) (a .0)))
+    (λ u. let d = eqb-false c n u in fits-at f sheet c n (a .1) (omega arith))
+
+-- what fits at more fits at less
+pub fits-down : (f g : ℕ → ℕ) (sheet : List ℕ) (n : ℕ) → ((c : ℕ) → c < n → f c ≤ g c) → fitsTo g sheet n ≡ true → fitsTo f sheet n ≡ true
+unfolding fitsTo
+fits-down f g sheet zero h e = refl
+fits-down f g sheet (suc n) h e =
+    let a = and-true (leb (g n) (limitAt sheet n)) (fitsTo g sheet n) e in
+    rw (le-leb (f n) (limitAt sheet n) (omega (arith, h n (omega arith), leb-true (g n) (limitAt sheet n) (a .0))))
+    (fits-down f g sheet n (λ c l. h c (omega arith)) (a .1))
 
 -- the better of two
 module _ (b : Best) (mask total : ℕ) where
@@ -168,7 +182,7 @@ module _ (ok : ℕ → Bool) (ranks : List ℕ) (mask j : ℕ) {b : Bool} (eb : 
   full-stops zero h g = absurd (omega arith)
   full-stops (suc k) h g =
       case (eqb j k) (λ t. rw (← (eqb-true j k t), ← eb, h))
-      (λ u. let d = eqb-false j k u in rw (← (full-stops k h (omega arith))) (and-none (not (addableOf ok mask (getD ranks k 0)))))
+      (λ u. let d = eqb-false j k u in rw (← (full-stops k h (omega arith))) (sym (and-none (not (addableOf ok mask (getD ranks k 0))))))
 
 module _ (sheet : List ℕ) (of : Size) (table : List ℕ) (tied : Tied) (most mask : ℕ) {f : Bool} (ef : f ≡ okBy sheet of table mask) where
   pub kept-misfit : f ≡ false → false ≡ keptBy sheet of table tied most mask

@@ -30,7 +30,7 @@ pub struct Answer {
 }
 
 // Can the bid at a binary place be added to a combination and still fit?
-fn addable(sheet: &Sheet, of: Size, table: &Table, mask: u32, place: u32) -> bool
+pub fn addable(sheet: &Sheet, of: Size, table: &Table, mask: u32, place: u32) -> bool
     requires { ⌜ Searching (now sheet) of (now table) × (mask < combinations) × (place < widestTie) ⌝ }
     ensures { λ r. ⌜ r ≡ addableOf (okBy (now (sheet .entry)) of (now (table .entry))) mask place ⌝ }
 {

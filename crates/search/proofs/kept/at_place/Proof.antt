@@ -1,72 +1,50 @@
--- The invariant: the limbs passed have too few.
+-- `search::kept::at_place` meets its contract.
 use native.Mathlib.Omega.{arith}
-use Prim.Native.Nat.{ℕ, suc, _-_, _^_, _≤_}
-use native.Mathlib.Numerals.{add-one}
-use mathlib.Core.Path.{_≡_, sym, ap, _∙_}
-use lib.ListN.{length}
-use Rattle.rules.specs.Lists.{sift, below}
-use Rattle.ties.specs.Ties.{keptBy, listedOf}
-use Rattle.search.specs.Search.{limbs, limbEnd, keptBefore}
-use Rattle.search.proofs.Best.{power-low}
-use Rattle.search.proofs.Ways.{limb-start, limb-up, limb-same, limb-list, limb-past, limb-place, place-none, limbs-all, none-yet, few-more}
+use Prim.Native.Nat.{_+_, _^_}
+use mathlib.Core.Path.{sym, ap, _∙_}
+use Rattle.ties.specs.Ties.{listedOf}
+use Rattle.branches.proofs.Best.{power-low}
+use Rattle.search.proofs.Ways.{stretch-up, stretch-same, stretch-list, stretch-place, place-none}
 use Rattle.search.proofs.kept.at_place.Statement.{statement}
 use Rattle.search.proofs.kept.at_place.Tie as tie
 
-abbrev Inv-loop : tie.InvT-loop
-Inv-loop sheet of table tied aim counts end mask₀ k₀ mask k = (k ≤ limbs) × (mask ≡ limbEnd (2 ^ (tied .count)) k) × (keptBefore (keptBy sheet of table tied (aim .most)) (limbEnd (2 ^ (tied .count)) k) ≤ aim .place)
+stretch-of-requires : tie.Need-stretch-of-requires
+stretch-of-requires c κs = tt
 
-abbrev μ-loop : tie.MeasureT-loop
-μ-loop sheet of table tied aim counts end mask₀ k₀ mask k = limbs - k
+returns : tie.Need-returns
+returns c = place-none _ _ (c .before .before .pre .1) _ _ (c .before .stretch-of .ensures) (power-low (c .before .before .pre .0 .drawing .placed .few)) (c .if1 .taken)
 
-cast-power : tie.Need-cast-power Inv-loop μ-loop
-cast-power c = omega (arith, c .before .pre .0 .0 .placed .few)
+cast-power : tie.Need-cast-power
+cast-power c = omega (arith, c .before .before .before .pre .0 .drawing .placed .few)
 
-power-requires : tie.Need-power-requires Inv-loop μ-loop
-power-requires c κs = omega (arith, c .before .pre .0 .0 .placed .few)
+power-requires : tie.Need-power-requires
+power-requires c κs = omega (arith, c .before .before .before .pre .0 .drawing .placed .few)
 
-loop-holds : tie.Need-loop-holds Inv-loop μ-loop
-loop-holds c = (omega arith, sym (limb-start _ 0), none-yet _ _ _)
+stretch-end-requires : tie.Need-stretch-end-requires
+stretch-end-requires c κs = (omega (arith, c .power .ensures, power-low (c .before .before .before .before .pre .0 .drawing .placed .few)), omega (arith, c .before .before .if1 .left))
 
-limb-end-requires : tie.Need-limb-end-requires Inv-loop μ-loop
-limb-end-requires c κs = (omega (arith, c .before .before .power .ensures, power-low (c .before .before .before .before .pre .0 .0 .placed .few)), c .loop-test .taken)
+add-stretch-end : tie.Need-add-stretch-end
+add-stretch-end c = omega (arith, c .before .before .before .if1 .left)
 
-add-if1 : tie.Need-add-if1 Inv-loop μ-loop
-add-if1 c = omega (arith, c .before .loop-test .taken)
+stretch-end-requires-2 : tie.Need-stretch-end-requires-2
+stretch-end-requires-2 c κs = (omega (arith, c .before .power .ensures, power-low (c .before .before .before .before .before .pre .0 .drawing .placed .few)), omega (arith, c .before .before .before .if1 .left))
 
-mul-if1 : tie.Need-mul-if1 Inv-loop μ-loop
-mul-if1 c = omega (arith, c .before .loop-test .taken)
+mul-t15 : tie.Need-mul-t15
+mul-t15 c = omega (arith, c .before .before .before .before .if1 .left)
 
-element-copy-out-if1 : tie.Need-element-copy-out-if1 Inv-loop μ-loop
-element-copy-out-if1 c = omega (arith, c .before .loop-test .taken)
+element-copy-out-t18 : tie.Need-element-copy-out-t18
+element-copy-out-t18 c = omega (arith, c .before .before .before .before .if1 .left)
 
-mul-t20 : tie.Need-mul-t20 Inv-loop μ-loop
-mul-t20 c = omega (arith, c .before .before .before .before .loop-test .taken)
+walk-requires : tie.Need-walk-requires
+walk-requires c κs = let k = c .before .before .before .before .before .before .stretch-of .result in
+    let from = stretch-same k (c .before .before .before .power .ensures) (c .before .before .stretch-end .ensures) in
+    let to = stretch-same (k + 1) (c .before .before .before .power .ensures) (c .before .stretch-end2 .ensures) in
+    let up = stretch-up (2 ^ (c .before .before .before .before .before .before .before .args .tied .count)) k in
+    ((c .before .before .before .before .before .before .before .pre .0, omega (arith, from, to, up .0), omega (arith, to, up .1)), stretch-list _ _ (c .before .before .before .before .before .before .before .pre .1) _ _ (c .before .before .before .before .before .before .stretch-of .ensures) ∙ ap (listedOf _ _) (sym from))
 
-element-copy-out-t23 : tie.Need-element-copy-out-t23 Inv-loop μ-loop
-element-copy-out-t23 c = omega (arith, c .before .before .before .before .loop-test .taken)
-
-walk-requires : tie.Need-walk-requires Inv-loop μ-loop
-walk-requires c κs = (c .before .before .before .before .before .before .before .before .before .pre .0, ((omega (arith, c .before .before .before .before .before .before .loop .inv .1, c .before .before .before .before .limb-end .ensures, c .before .before .before .before .before .before .before .power .ensures, limb-up (2 ^ (c .before .before .before .before .before .before .before .before .before .args .tied .count)) (c .before .before .before .before .before .before .loop .k) .0, ap (λ (x : ℕ). limbEnd x (suc (c .before .before .before .before .before .before .loop .k))) (c .before .before .before .before .before .before .before .power .ensures)), omega (arith, c .before .before .before .before .limb-end .ensures, limb-up (2 ^ (c .before .before .before .before .before .before .before .before .before .args .tied .count)) (c .before .before .before .before .before .before .loop .k) .1, ap (λ (x : ℕ). limbEnd x (suc (c .before .before .before .before .before .before .loop .k))) (c .before .before .before .before .before .before .before .power .ensures))), limb-list _ _ (c .before .before .before .before .before .before .before .before .before .pre .1) _ _ (c .before .before .before .before .before .loop-test .taken) (c .before .before .before .before .before .before .loop .inv .2) ∙ ap (listedOf _ _) (sym (c .before .before .before .before .before .before .loop .inv .1))))
-
-returns : tie.Need-returns Inv-loop μ-loop
-returns c = limb-place _ _ (c .before .before .before .before .before .before .before .before .before .before .pre .1) _ _ (c .before .before .before .before .before .before .loop-test .taken) (c .walk .ensures ∙ ap (listedOf _ _) (limb-same (c .before .before .before .before .before .before .before .loop .k) (c .before .before .before .before .before .before .before .before .power .ensures) (c .before .before .before .before .before .limb-end .ensures))) (c .before .before .if1 .taken)
-
-add-k : tie.Need-add-k Inv-loop μ-loop
-add-k c = omega (arith, c .before .before .before .before .loop-test .taken)
-
-loop-less : tie.Need-loop-less Inv-loop μ-loop
-loop-less c = omega (arith, c .before .before .before .before .loop-test .taken)
-
-loop-again : tie.Need-loop-again Inv-loop μ-loop
-loop-again c = let next = limb-same (c .before .before .before .before .before .loop .k) (c .before .before .before .before .before .before .power .ensures) (c .before .before .before .limb-end .ensures) in (
-  omega (arith, c .before .before .before .before .loop-test .taken),
-  next ∙ ap (limbEnd _) (sym (add-one (c .before .before .before .before .before .loop .k))),
-  few-more _ _ _ _ (limb-past _ _ (c .before .before .before .before .before .before .before .before .pre .1) _ _ (c .before .before .before .before .loop-test .taken) (c .if1 .left)),
-)
-
-returns-2 : tie.Need-returns-2 Inv-loop μ-loop
-returns-2 c = place-none _ _ _ (limbs-all (c .before .loop .inv .0) (c .loop-test .left) (power-low (c .before .before .before .before .pre .0 .0 .placed .few))) (c .before .loop .inv .2)
+returns-2 : tie.Need-returns-2
+returns-2 c = stretch-place _ _ (c .before .before .before .before .before .before .before .before .pre .1) _ _ (c .before .before .before .before .before .before .before .stretch-of .ensures) (c .walk .ensures ∙ ap (listedOf _ _) (stretch-same (c .before .before .before .before .before .before .before .stretch-of .result + 1) (c .before .before .before .before .power .ensures) (c .before .before .stretch-end2 .ensures))) (c .before .before .before .before .before .before .if1 .left)
 
 pub at-place-spec : {M : Type 1} → statement M
 at-place-spec =
-    tie.close (tie.spec Inv-loop μ-loop cast-power power-requires loop-holds limb-end-requires add-if1 mul-if1 element-copy-out-if1 mul-t20 element-copy-out-t23 walk-requires returns add-k loop-less loop-again returns-2)
+    tie.close (tie.spec stretch-of-requires returns cast-power power-requires stretch-end-requires add-stretch-end stretch-end-requires-2 mul-t15 element-copy-out-t18 walk-requires returns-2)

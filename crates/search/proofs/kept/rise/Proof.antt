@@ -1,8 +1,8 @@
 -- `search::kept::rise` meets its contract.
 use native.Mathlib.Omega.{arith}
 use mathlib.Core.Path.{refl}
-use Rattle.search.proofs.Best.{lasting}
-use Rattle.search.proofs.Ways.{passed-left, passed-others}
+use Rattle.branches.proofs.Best.{lasting}
+use Rattle.branches.proofs.Over.{passed-left, passed-others}
 use Rattle.search.proofs.kept.rise.Statement.{statement}
 use Rattle.search.proofs.kept.rise.Tie as tie
 

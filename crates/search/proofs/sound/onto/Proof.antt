@@ -5,7 +5,7 @@ use Prim.Native.Nat.{ℕ, _-_, _≤_, _<_}
 use mathlib.Core.Path.{refl}
 use Rattle.laws_pot.specs.Lists.{clash, not-is-false}
 use Rattle.search.specs.Search.{Held}
-use Rattle.search.proofs.Rise.{below-more}
+use Rattle.arrays.proofs.Laws.{below-more}
 use Rattle.search.proofs.sound.onto.Statement.{statement}
 use Rattle.search.proofs.sound.onto.Tie as tie
 

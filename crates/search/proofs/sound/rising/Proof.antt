@@ -8,7 +8,8 @@ use Rattle.laws_pot.specs.Lists.{clash, not-is-false}
 use Rattle.sheet.specs.Sheet.{columns}
 use Rattle.combinations.specs.Combinations.{yearSets}
 use Rattle.search.specs.Search.{Rises}
-use Rattle.search.proofs.Rise.{rises-all, below-more}
+use Rattle.arrays.proofs.Laws.{below-more}
+use Rattle.search.proofs.Rise.{rises-all}
 use Rattle.search.proofs.sound.rising.Statement.{statement}
 use Rattle.search.proofs.sound.rising.Tie as tie
 

@@ -1,53 +1,60 @@
 -- The invariant: none of the bids passed can be added.
-use borrow.Author.Needs.{needs}
 use native.Mathlib.Omega.{arith}
-use Prim.Native.Nat.{_-_, _≤_, _<_}
-use mathlib.Core.Bool.{true}
-use mathlib.Core.Path.{_≡_, refl}
+use Prim.Native.Nat.{ℕ, _-_, _≤_, _<_}
+use mathlib.Core.Bool.{false}
+use mathlib.Core.Path.{_≡_, refl, sym, _∙_}
 use Rattle.sheet.proofs.Columns.{columns-few}
-use Rattle.arrays.proofs.Laws.{done}
-use Rattle.ties.specs.Ties.{okBy, fullTo}
-use Rattle.ties.proofs.Laws.{full-more, full-stops}
-use Rattle.search.proofs.Asked.{asked-open, asked-shut}
+use Rattle.laws_pot.specs.Lists.{clash}
+use Rattle.arrays.proofs.Laws.{below-more}
+use Rattle.ties.specs.Ties.{okBy, addableOf}
+use Rattle.search.specs.Search.{Roomed}
+use Rattle.search.proofs.Asked.{none-narrow, asked-open, asked-shut}
 use Rattle.search.proofs.whole.whole.Statement.{statement}
 use Rattle.search.proofs.whole.whole.Tie as tie
 
 abbrev Inv-loop : tie.InvT-loop
-Inv-loop sheet of table mask tied at count c₀ j₀ c j = (j ≤ count) × (c < of .columns) × (true ≡ fullTo (okBy sheet of table) (tied .ranks) mask j)
+Inv-loop sheet of table count mask at column left room₀ place₀ room place = (place ≤ count) × Roomed sheet of table (at .mask) (at .years) room × ((p : ℕ) → p < place → addableOf (okBy sheet of table) mask p ≡ false)
 
 abbrev μ-loop : tie.MeasureT-loop
-μ-loop sheet of table mask tied at count c₀ j₀ c j = count - j
+μ-loop sheet of table count mask at column left room₀ place₀ room place = count - place
 
 union-requires : tie.Need-union-requires Inv-loop μ-loop
-union-requires c κs = (c .pre .0 .searching .tables, c .pre .2)
+union-requires c κs = (c .pre .0 .tables, c .pre .4)
 
-loop-holds : tie.Need-loop-holds Inv-loop μ-loop
-unfolding fullTo
-loop-holds c = (omega arith, omega (arith, c .before .pre .0 .searching .ready .some, c .before .pre .0 .searching .ready .columns-least), refl)
-
-mul-ask : tie.Need-mul-ask Inv-loop μ-loop
-mul-ask c = omega (arith, c .loop-test .taken, c .before .before .before .pre .0 .placed .few)
-
-element-copy-out-ask : tie.Need-element-copy-out-ask Inv-loop μ-loop
-element-copy-out-ask c = omega (arith, c .loop-test .taken, c .before .before .before .pre .0 .placed .few)
-
-ask-requires : tie.Need-ask-requires Inv-loop μ-loop
-ask-requires c κs = let low = c .before .before .before .before .pre .0 .placed .ranks _ (c .before .loop-test .taken) in
-    (c .before .before .before .before .pre .0 .searching, c .before .before .before .before .pre .1, record { number = c .before .before .before .before .pre .2; years = c .before .before .before .union .ensures .0; few = c .before .before .before .union .ensures .1 }, omega (arith, c .before .before .before .before .pre .0 .placed .few), c .before .before .loop .inv .1)
+left-requires : tie.Need-left-requires Inv-loop μ-loop
+left-requires c κs = (record { tables = c .before .pre .0 .tables; number = c .before .pre .4; years = c .union .ensures .1 }, omega (arith, c .before .pre .3 .column, columns-few (c .before .pre .0 .ready)))
 
 returns : tie.Need-returns Inv-loop μ-loop
-returns c = full-stops _ _ _ _ refl _ (asked-open (columns-few (c .before .before .before .before .before .before .pre .0 .searching .ready)) (c .before .ask .ensures) (c .if1 .taken)) (c .before .before .before .loop-test .taken)
+returns c = (λ e. none-narrow _ _ _ _ _ (c .before .before .before .before .pre .1) (record { number = c .before .before .before .before .pre .4; years = c .before .before .before .union .ensures .0; few = c .before .before .before .union .ensures .1 }) (columns-few (c .before .before .before .before .pre .0 .ready)) (c .before .before .before .before .pre .2) (c .before .before .before .before .pre .3) (c .before .before .left .ensures) (c .if1 .taken), λ e. clash refl e)
 
-add-j : tie.Need-add-j Inv-loop μ-loop
-add-j c = omega (arith, c .before .before .before .loop-test .taken, c .before .before .before .before .before .before .pre .0 .placed .few)
-
-loop-again : tie.Need-loop-again Inv-loop μ-loop
-loop-again c = let shut = asked-shut (columns-few (c .before .before .before .before .before .before .pre .0 .searching .ready)) (c .before .ask .ensures) (c .if1 .left) in
-    (omega arith, shut .1, full-more _ _ _ _ refl (shut .0) (c .before .before .before .before .loop .inv .2))
+addable-requires : tie.Need-addable-requires Inv-loop μ-loop
+addable-requires c κs = (c .before .before .before .before .before .before .pre .0, c .before .before .before .before .before .before .pre .4, omega (arith, c .if2 .taken, c .before .before .before .before .before .before .pre .2))
 
 returns-2 : tie.Need-returns-2 Inv-loop μ-loop
-returns-2 c = done (fullTo _ _ _) (c .before .loop .inv .2) (c .before .loop .inv .0) (c .loop-test .left)
+returns-2 c = (λ e. clash e refl, λ e. record { place = c .before .before .before .before .before .before .before .before .args .narrow .place; low = c .before .before .if2 .taken; is = sym (c .before .addable .ensures) ∙ c .if3 .taken })
+
+loop-holds : tie.Need-loop-holds Inv-loop μ-loop
+loop-holds c = (omega arith, record { column = c .before .before .before .before .before .before .pre .3 .column; is = c .before .before .before .before .left .ensures }, λ p l. absurd (omega arith))
+
+ask-requires : tie.Need-ask-requires Inv-loop μ-loop
+ask-requires c κs = (c .before .before .before .before .before .before .before .before .pre .0, c .before .before .before .before .before .before .before .before .pre .1, record { number = c .before .before .before .before .before .before .before .before .pre .4; years = c .before .before .before .before .before .before .before .union .ensures .0; few = c .before .before .before .before .before .before .before .union .ensures .1 }, omega (arith, c .loop-test .taken, c .before .before .before .before .before .before .before .before .pre .2), c .before .loop .inv .1)
+
+returns-3 : tie.Need-returns-3 Inv-loop μ-loop
+returns-3 c = (λ e. clash e refl, λ e. record { place = c .before .before .before .before .loop .place; low = c .before .before .before .loop-test .taken; is = asked-open _ _ _ _ _ _ (columns-few (c .before .before .before .before .before .before .before .before .before .before .before .pre .0 .ready)) (c .before .before .ask .ensures) (c .if4 .taken) })
+
+add-place : tie.Need-add-place Inv-loop μ-loop
+add-place c = omega (arith, c .before .before .before .loop-test .taken, c .before .before .before .before .before .before .before .before .before .before .before .pre .2)
+
+loop-less : tie.Need-loop-less Inv-loop μ-loop
+loop-less c = omega (arith, c .before .before .before .loop-test .taken)
+
+loop-again : tie.Need-loop-again Inv-loop μ-loop
+loop-again c = let shut = asked-shut _ _ _ _ _ _ (columns-few (c .before .before .before .before .before .before .before .before .before .before .before .pre .0 .ready)) (c .before .before .ask .ensures) (c .if4 .left) in
+    (omega (arith, c .before .before .before .loop-test .taken), shut .0, below-more (λ p. addableOf _ _ p ≡ false) (c .before .before .before .before .loop .inv .2) (shut .1))
+
+returns-4 : tie.Need-returns-4 Inv-loop μ-loop
+returns-4 c = (λ e p l. c .before .loop .inv .2 p (omega (arith, c .loop-test .left)), λ e. clash refl e)
 
 pub whole-spec : {M : Type 1} → statement M
 whole-spec =
-    tie.close (tie.spec Inv-loop μ-loop union-requires loop-holds mul-ask element-copy-out-ask ask-requires returns add-j (λ c. search needs) loop-again returns-2)
+    tie.close (tie.spec Inv-loop μ-loop union-requires left-requires returns addable-requires returns-2 loop-holds ask-requires returns-3 add-place loop-less loop-again returns-4)

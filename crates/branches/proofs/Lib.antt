@@ -1,0 +1,4 @@
+pub mod Branch
+pub mod Scans
+pub mod Best
+pub mod Over
