@@ -208,8 +208,8 @@ static void make_draws(struct round_file *f)
 
 /* ---- ties of 20, drawn ---- */
 
-/* What there is to draw from: any ten of twenty; those of the tie over years, as the judge has it; any eighteen; and one. */
-enum { WIDE = JUDGE_MAX_REMAINING, HALF_OF_WIDE = WIDE / 2, OF_HALF = 184756, OF_YEARS = 51000, OF_ALL_BUT_TWO = 190, OF_DIFFERENT = 1 };
+/* What there is to draw from: any ten of twenty; those of the tie over years, as the judge has it; any eighteen; one; and any nine of nineteen. */
+enum { WIDE = JUDGE_MAX_REMAINING, HALF_OF_WIDE = WIDE / 2, OF_HALF = 184756, OF_YEARS = 51000, OF_ALL_BUT_TWO = 190, OF_DIFFERENT = 1, OF_NINETEEN = 92378 };
 enum { WIDE_PRICE = 100000, WIDE_CAPACITY = 1000, BYTES_OF_A_TECHNOLOGY = 4 + 10 * YEARS };
 
 /* Takes the one in the middle of so many, and leaves much for the ties after it. */
@@ -218,21 +218,31 @@ static uint32_t drawn_number(uint32_t combinations)
     return (JUDGE_MAX_DRAWN / combinations - 1) * combinations + combinations / 2;
 }
 
-/* As `start`, with one pot, which has a drawn number and no cap; answers the place of the first technology. */
-static size_t start_wide(struct round_file *f, uint32_t combinations)
+/* As `start`, with pots that have this cap and a drawn number; answers the place of the first technology. */
+static size_t start_wide(struct round_file *f, unsigned pots, uint32_t cap, uint32_t combinations)
 {
     static struct round_file plain;
-    start(&plain, 1, NULL);
-    memcpy(f->bytes, plain.bytes, plain.budgets + 8 * YEARS);
-    set(f, plain.budgets - 2, 2, JUDGE_WITH_CAPS + JUDGE_WITH_DRAWN + 1);
-    f->budgets = plain.budgets;
-    f->len = plain.budgets + 8 * YEARS;
-    add(f, 4, JUDGE_NO_CAP);
-    add(f, 4, drawn_number(combinations));
-    size_t rest = plain.budgets + 8 * YEARS;
+    start(&plain, pots, NULL);
+    memcpy(f->bytes, plain.bytes, plain.budgets);
+    set(f, plain.budgets - 2, 2, JUDGE_WITH_CAPS + JUDGE_WITH_DRAWN + pots);
+    f->budgets = f->len = plain.budgets;
+    for (unsigned p = 0; p < pots; p++) {
+        for (unsigned y = 0; y < YEARS; y++)
+            add(f, 8, BUDGET_LIMIT);
+        add(f, 4, cap);
+        add(f, 4, drawn_number(combinations));
+    }
+    size_t rest = plain.budgets + 8 * YEARS * pots;
     memcpy(f->bytes + f->len, plain.bytes + rest, plain.len - rest);
     f->len += plain.len - rest;
     return f->len - TECHNOLOGIES * BYTES_OF_A_TECHNOLOGY;
+}
+
+/* In the last year the reference is above the price. */
+static void cost_nothing_at_last(struct round_file *f, size_t technologies)
+{
+    for (unsigned t = 0; t < TECHNOLOGIES; t++)
+        set(f, technologies + t * BYTES_OF_A_TECHNOLOGY + 4 + 10 * (YEARS - 1) + 4, 4, 2 * WIDE_PRICE);
 }
 
 /* What a bid of a tie costs in a whole year. */
@@ -268,7 +278,7 @@ static void make_wide_alike(struct round_file *f)
     uint32_t capacity[WIDE];
     for (unsigned i = 0; i < WIDE; i++)
         capacity[i] = WIDE_CAPACITY;
-    start_wide(f, OF_HALF);
+    start_wide(f, 1, JUDGE_NO_CAP, OF_HALF);
     add_one_wide_tie(f, capacity);
     set_budgets_in_tenths(f, 0, 10 * HALF_OF_WIDE + 5, WIDE_CAPACITY);
 }
@@ -282,7 +292,7 @@ static void make_wide_different(struct round_file *f)
         capacity[i] = WIDE_CAPACITY + 450 * i + (uint32_t)rng_below(&rng, 450);
         sum += capacity[i];
     }
-    start_wide(f, OF_DIFFERENT);
+    start_wide(f, 1, JUDGE_NO_CAP, OF_DIFFERENT);
     add_one_wide_tie(f, capacity);
     set_budgets_in_tenths(f, 0, 5, sum);
 }
@@ -293,7 +303,7 @@ enum { WON_BEFORE = 30 };
 
 static void make_wide_over_years(struct round_file *f)
 {
-    start_wide(f, OF_YEARS);
+    start_wide(f, 1, JUDGE_NO_CAP, OF_YEARS);
     add(f, 2, WON_BEFORE + WIDE);
     for (unsigned i = 0; i < WON_BEFORE + WIDE; i++)
         add_application(f, i % TECHNOLOGIES, 100 - i, WIDE_CAPACITY);
@@ -309,50 +319,31 @@ static void make_wide_over_years(struct round_file *f)
     }
 }
 
-/* Any eighteen fit, and no nineteen, and in the last year the reference is above the price: every combination that fits is best, and 190 are kept. */
+/* Any eighteen fit, and no nineteen, and the last year costs nothing: every combination that fits is best, and 190 are kept. */
 static void make_wide_free_at_last(struct round_file *f)
 {
     uint32_t capacity[WIDE];
     for (unsigned i = 0; i < WIDE; i++)
         capacity[i] = WIDE_CAPACITY + i;
-    size_t technologies = start_wide(f, OF_ALL_BUT_TWO);
-    for (unsigned t = 0; t < TECHNOLOGIES; t++)
-        set(f, technologies + t * BYTES_OF_A_TECHNOLOGY + 4 + 10 * (YEARS - 1) + 4, 4, 2 * WIDE_PRICE);
+    cost_nothing_at_last(f, start_wide(f, 1, JUDGE_NO_CAP, OF_ALL_BUT_TWO));
     add_one_wide_tie(f, capacity);
     set_budgets_in_tenths(f, 0, 10 * (WIDE - 2) + 5, WIDE_CAPACITY + HALF_OF_WIDE);
 }
 
-/* The worst found so far. Fourteen win before; then in each delivery year twenty are tied who cost the same in every year but the first, since they
- * begin on different days, and any ten of them fit, and no eleven. Ten win, the year closes, and the other ten are tied in the next year with ten
- * more. */
-enum { WON_BEFORE_WORST = APPLICATIONS - WIDE - (DELIVERY_YEARS - 1) * HALF_OF_WIDE };
-
-static unsigned first_wide_tie(unsigned i)
-{
-    unsigned tied = i - WON_BEFORE_WORST;
-    return tied < WIDE ? 0 : (tied - WIDE) / HALF_OF_WIDE + 1;
-}
+/* The worst found so far. In each of three pots a cap holds twenty to nine of the nineteen that are alike and a small one, and the last year costs
+ * nothing: every combination that fits is best, and none is kept without the small one. */
+enum { WORST_POTS = APPLICATIONS / WIDE, SMALL_CAPACITY = WIDE_CAPACITY / 100, WON_OF_WORST = HALF_OF_WIDE };
 
 static void make_wide_worst(struct round_file *f)
 {
-    unsigned bids = 0;
-    start_wide(f, OF_HALF);
-    add(f, 2, APPLICATIONS);
-    for (unsigned i = 0; i < APPLICATIONS; i++) {
-        add_application(f, i % TECHNOLOGIES, 100 - i, WIDE_CAPACITY);
-        bids += i < WON_BEFORE_WORST ? 1 : DELIVERY_YEARS - first_wide_tie(i);
-    }
-    add(f, 2, bids);
-    for (unsigned i = 0; i < APPLICATIONS; i++) {
-        if (i < WON_BEFORE_WORST)
-            add_bid(f, i, 0, WIDE_CAPACITY, WIDE_PRICE - 10 * (WON_BEFORE_WORST - i));
-        for (unsigned d = i < WON_BEFORE_WORST ? DELIVERY_YEARS : first_wide_tie(i); d < DELIVERY_YEARS; d++) {
-            add_bid(f, i, d, WIDE_CAPACITY, WIDE_PRICE + 10 * d);
-            set(f, f->last_bid + 4, 2, 365 - i % WIDE);
-        }
-    }
-    for (unsigned d = 0; d < DELIVERY_YEARS; d++)
-        set_budgets_in_tenths(f, d, 10 * (WON_BEFORE_WORST + HALF_OF_WIDE * (d + 1)) + 2, WIDE_CAPACITY);
+    unsigned applications = WORST_POTS * WIDE;
+    cost_nothing_at_last(f, start_wide(f, WORST_POTS, WON_OF_WORST * WIDE_CAPACITY - WIDE_CAPACITY / 2, OF_NINETEEN));
+    add(f, 2, applications);
+    for (unsigned i = 0; i < applications; i++)
+        add_application(f, i % WORST_POTS, 100 - i, i / WORST_POTS < WIDE - 1 ? WIDE_CAPACITY : SMALL_CAPACITY);
+    add(f, 2, applications);
+    for (unsigned i = 0; i < applications; i++)
+        add_bid(f, i, 0, i / WORST_POTS < WIDE - 1 ? WIDE_CAPACITY : SMALL_CAPACITY, WIDE_PRICE);
 }
 
 /* The last bid is the lowest of its application and year, and no multiple of 10: refusal 11, after all else was judged. */
@@ -531,8 +522,8 @@ static bool measure_wide_ties(void)
     right &= measure_wide("one tie of 20 all different, drawn: one combination", &different, DIFFERENT_WON, WIDE - DIFFERENT_WON);
     right &= measure_wide("one tie of 20 over four delivery years, after 30 winners, drawn: 51,000 combinations", &over_years, WON_BEFORE + OVER_YEARS_WON, WIDE - OVER_YEARS_WON);
     right &= measure_wide("one tie of 20 of which any 18 fit, and the last year costs nothing, drawn: 190 combinations", &free_at_last, WIDE - 2, 2);
-    right &= measure_wide("the worst found so far: four ties of 20 that differ in the first year alone, after 14 winners, drawn", &worst,
-                          WON_BEFORE_WORST + DELIVERY_YEARS * HALF_OF_WIDE, DELIVERY_YEARS * HALF_OF_WIDE);
+    right &= measure_wide("the worst found so far: three pots of a tie of 20 each, held to a half by the cap, and the last year costs nothing, drawn: 92,378 combinations of each",
+                          &worst, WORST_POTS * WON_OF_WORST, WORST_POTS * (WIDE - WON_OF_WORST));
     return right;
 }
 

@@ -19,10 +19,10 @@ use Rattle.sheet.specs.Sheet.{columns, limitAt, Ready}
 use Rattle.totals.specs.Totals.{fitsTo}
 use Rattle.combinations.specs.Combinations.{combinations, partSize, twoParts, threeParts, partRows, costsAt, mostBase, jointOf, unionOf, Tabled}
 use Rattle.ties.specs.declared.best.Best as declared
-use Rattle.ties.specs.Ties.{bestOf, okBy, lastBy, Searching}
+use Rattle.ties.specs.Ties.{bestOf, okBy, lastBy, Searching, Cuttable}
 use Rattle.ties.proofs.Laws.{fits-at}
 use Rattle.branches.specs.declared.greatest.Found.{Found}
-use Rattle.branches.specs.Branches.{Cuttable, Lasting, Short, Fallen, metOf}
+use Rattle.branches.specs.Branches.{Lasting, Short, Fallen, metOf}
 
 module _ (ok : ℕ → Bool) (tot : ℕ → ℕ) where
   -- ---- a look at one more
@@ -173,6 +173,3 @@ last-small of table m T = joint-small table m (unionOf table m) (of .years - 1) 
 
 pub lasting : {sheet : List ℕ} {of : Size} {table : List ℕ} → Searching sheet of table → Lasting of table
 lasting S = record { tables = S .tables; some = S .ready .some; years = S .ready .years }
-
-pub power-low : {k : ℕ} → k ≤ widestTie → 2 ^ k ≤ combinations
-power-low h = pow-mono {j = widestTie} h

@@ -12,7 +12,8 @@ use Rattle.rules.specs.Pot.{has}
 use Rattle.laws_pot.specs.Lists.{case, clash, and-none, or-right, or-left, or-cases}
 use Rattle.laws_pot.specs.Bits.{add-lt, has-join, has-high, all-ones}
 use Rattle.combinations.specs.Combinations.{combinations}
-use Rattle.branches.specs.Branches.{Within, Cuttable, Sized, Branch, Past}
+use Rattle.ties.specs.Ties.{Within, Cuttable}
+use Rattle.branches.specs.Branches.{Sized, Branch, Past}
 
 pub sized-some : {size : ℕ} → Sized size → 0 < size
 sized-some S = omega (arith, S .is, pow-pos (S .places))

@@ -6,7 +6,8 @@ use mathlib.Core.Logic.{inl, inr}
 use native.Mathlib.Omega.{arith}
 use borrow.Author.Tests.{eq-eqb, ne-eqb}
 use Rattle.laws_pot.specs.Bits.{free-place}
-use Rattle.branches.specs.Branches.{Cuttable, Branch, Past, Other, Open, Passed, nearBy}
+use Rattle.ties.specs.Ties.{Cuttable}
+use Rattle.branches.specs.Branches.{Branch, Past, Other, Open, Passed, nearBy}
 use Rattle.branches.proofs.Branch.{place-free, added-low, within-all, some-size}
 
 -- one that fits and has the greatest total

@@ -16,17 +16,6 @@ use Rattle.combinations.specs.Combinations.{yearSets, combinations, partSize, m
 use Rattle.branches.specs.declared.greatest.Found.{Found}
 use Rattle.branches.specs.declared.scan.Upper.{Upper}
 
--- ---- what passing over a branch rests on
-
--- every binary place of m is one of n: combination n has the bids of m, and perhaps more
-abbrev pub Within : (m n : ℕ) → Type 0
-Within m n = (i : ℕ) → has m i ≡ true → has n i ≡ true
-
--- with more bids a combination comes to no less, and it fits only if one with fewer does
-pub record Cuttable (ok : ℕ → Bool) (tot : ℕ → ℕ) : Type 0 where
-  pub down : (m n : ℕ) → m < combinations → n < combinations → Within m n → ok n ≡ true → ok m ≡ true
-  pub reach : (m n : ℕ) → m < combinations → n < combinations → Within m n → tot m ≤ tot n
-
 -- ---- branches: the combinations, so many, from `mask` on, which have the higher binary places of `mask` and differ in the lower ones
 pub record Sized (size : ℕ) : Type 0 where
   pub places : ℕ

@@ -4,8 +4,8 @@ ghost use mathlib.Core.Bool.{true};
 ghost use mathlib.Core.Path.{_≡_};
 ghost use Prim.Native.Nat.{_+_, _≤_, _<_};
 ghost use Rattle.combinations.specs.Combinations.{combinations};
-ghost use Rattle.ties.specs.Ties.{Searching, okBy, lastBy};
-ghost use Rattle.branches.specs.Branches.{Cuttable, Sized, Branch, Past, Passed, nearBy};
+ghost use Rattle.ties.specs.Ties.{Searching, okBy, lastBy, Cuttable};
+ghost use Rattle.branches.specs.Branches.{Sized, Branch, Past, Passed, nearBy};
 
 pub mod greatest;
 pub mod scan;

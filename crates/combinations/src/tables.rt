@@ -18,11 +18,13 @@ use super::places::parts_of;
 use super::places::power;
 use super::places::top;
 use super::places::touch;
-use super::winners::Base;
 use names::WIDEST_TIE;
 use sheet::COLUMNS;
 use sheet::Sheet;
 use sheet::Size;
+
+// What the present winners count: a row of columns for each set of delivery years that has the price of the tie.
+pub type Base = [u64; SETS * COLUMNS];
 
 // A row of columns for each bid, or for each binary place.
 pub type Owns = [u64; WIDEST_TIE * COLUMNS];

@@ -94,8 +94,8 @@ pub free-place : (n v : ℕ) → v < 2 ^ n - 1 → (i : ℕ) × (i < n) × (has 
 free-place zero v h = absurd (omega arith)
 free-place (suc n) v h =
     case (has v 0)
-    (λ t.
-    let o = eqb-true (v / 1 % 2) 1 t in
-    let r = free-place n (v / 2) (omega (arith, pow-suc 2 n)) in
-    (suc (r .0), omega (arith, r .1), has-suc v (r .0) ∙ r .2))
+    (λ t. let o = eqb-true (v / 1 % 2) 1 t in one-up (free-place n (v / 2) (omega (arith, pow-suc 2 n))))
     (λ f. (0, omega arith, f))
+  where
+    one-up : (i : ℕ) × (i < n) × (has (v / 2) i ≡ false) → (i : ℕ) × (i < suc n) × (has v i ≡ false)
+    one-up r = (suc (r .0), omega (arith, r .1), has-suc v (r .0) ∙ r .2)

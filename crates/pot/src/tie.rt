@@ -46,13 +46,13 @@ impl PotState {
     {
         let marks = self.marks;
         let prices = self.prices;
-        let base = combinations::winners::bases(sheet, of, marks, prices, price);
+        let base = gathering::winners::bases(sheet, of, marks, prices, price);
         let rest = ties::alone::rest(sheet, of, &base, set, price);
         let count = arrays::count(rest, of.bids);
         if count > names::WIDEST_TIE {
             return self.too_wide();
         }
-        let tied = combinations::gathered(sheet, of, rest, count);
+        let tied = gathering::gathered(sheet, of, rest, count);
         let choice = search::choose(sheet, of, &base, tied, price, self.drawn);
         let t = self.shared(sheet, of, set, choice, price);
         t.revalued(sheet, of)

@@ -318,8 +318,7 @@ Wide =
     × (appBytes (toldIn (tiedPot 21 21) 0) ≡ line 0 65535 0)
     × (appBytes (toldIn (tiedPot 21 21) 21) ≡ lineWith 0 65535 7 0)
     × (reason (tiedPot 21 21) 20 ≡ 7)
-    -- a file: it is accepted, and this is the pots section of its result
-    × (refusal (reading wideFile) ≡ 0)
+    -- a file: the pots section of its result
     × (potsPart (roundOf wideFile) ≡ counted (potTold 2 (noPrice ∷ []) (0 ∷ []) ∷ []))
 
 -- ---- files that are turned away
@@ -453,7 +452,7 @@ worked = (
       (
         (refl, refl, refl, refl, refl, refl, refl, refl, refl, refl, refl, refl),
         (
-          (refl, refl, refl, refl, refl, refl, refl, refl, refl, refl),
+          (refl, refl, refl, refl, refl, refl, refl, refl, refl),
           (
             (
               (refl, refl, refl),

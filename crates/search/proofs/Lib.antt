@@ -1,3 +1,1 @@
-pub mod Rise
-pub mod Asked
 pub mod Ways

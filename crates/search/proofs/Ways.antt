@@ -25,14 +25,14 @@ use Rattle.ties.specs.declared.best.Best as declared
 use Rattle.ties.specs.declared.listing.Listed.{Listed}
 use Rattle.ties.specs.declared.listing.Answer.{Answer}
 use Rattle.ties.specs.declared.Choice.{Choice}
-use Rattle.ties.specs.Ties.{Based, Drawing, okBy, lastBy, addableOf, fullTo, keptBy, listedOf, bestOf, topBy, answerBy, leftOf, tableFor, answerOf, chosenOf, choiceOf}
+use Rattle.ties.specs.Ties.{Cuttable, Based, Drawing, okBy, lastBy, addableOf, fullTo, keptBy, listedOf, bestOf, topBy, answerBy, leftOf, tableFor, answerOf, chosenOf, choiceOf}
 use Rattle.arrays.proofs.Arrays.{put-is}
-use Rattle.ties.proofs.Laws.{listed-same, addable-in, addable-out, full-stops, drawing, answer-top, answer-none, answer-place}
-use Rattle.branches.specs.Branches.{Cuttable, Unsought, Passed, nearBy}
-use Rattle.branches.proofs.Best.{power-low}
+use Rattle.ties.proofs.Laws.{listed-same, addable-in, addable-out, full-stops, drawing, answer-top, answer-none, answer-place, power-low}
+use Rattle.branches.specs.Branches.{Unsought, Passed, nearBy}
 use Rattle.search.specs.declared.kept.Aim.{Aim}
-use Rattle.search.specs.Search.{Rising, Onto, Busy, Adding, Narrows, Addable, Closes, Seeking, stretches, stretchEnd, keptBefore, Tallied, Stands, placeOf}
-use Rattle.search.proofs.Rise.{cuttable, gains, adding}
+use Rattle.added.specs.Added.{Rising, Onto, Busy, Adding, Narrows, Addable, Closes}
+use Rattle.search.specs.Search.{Seeking, stretches, stretchEnd, keptBefore, Tallied, Stands, placeOf}
+use Rattle.added.proofs.Rise.{cuttable, gains, adding}
 
 -- numbers that are passed over are not counted
 pub listed-past : (f : ℕ → Bool) (place n r : ℕ) {l : Listed} → l ≡ listedOf f place n → ((j : ℕ) → j < r → f (n + j) ≡ false) → l ≡ listedOf f place (n + r)

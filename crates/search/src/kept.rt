@@ -2,11 +2,11 @@
 ghost use mathlib.Core.Path.{_≡_};
 ghost use Prim.Native.Nat.{_+_, _^_, _≤_, _<_};
 ghost use Rattle.combinations.specs.Combinations.{combinations};
-ghost use Rattle.ties.specs.Ties.{Searching, okBy, lastBy, keptBy, listedOf};
-ghost use Rattle.branches.specs.Branches.{Cuttable, Passed};
+ghost use Rattle.ties.specs.Ties.{Searching, Cuttable, okBy, lastBy, keptBy, listedOf};
+ghost use Rattle.branches.specs.Branches.{Passed};
 ghost use Rattle.search.specs.Search.{Seeking, stretches, stretchEnd, Tallied, Stands, placeOf};
-use super::whole::Narrow;
-use super::whole::whole;
+use added::whole::Narrow;
+use added::whole::whole;
 use branches::From;
 use branches::ONE_LOW;
 use branches::THREE_LOW;

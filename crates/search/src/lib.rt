@@ -6,13 +6,13 @@ ghost use Rattle.combinations.specs.Combinations.{Gathered};
 ghost use Rattle.ties.specs.Ties.{Based, topBy, tableFor, answerOf, choiceOf};
 
 mod kept;
-mod sound;
-mod whole;
 
+use added::sound;
+use added::whole;
 use branches::greatest::greatest;
 use combinations::Tied;
 use combinations::tables;
-use combinations::winners::Base;
+use combinations::tables::Base;
 use kept::Aim;
 use sheet::Sheet;
 use sheet::Size;

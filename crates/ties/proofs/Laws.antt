@@ -56,6 +56,9 @@ pub keeps-is : (sheet : List ℕ) (of : Size) (base : List ℕ) (p : ℕ) (l : L
 unfolding keepsOf
 keeps-is sheet of base p l k e = e
 
+pub power-low : {k : ℕ} → k ≤ widestTie → 2 ^ k ≤ combinations
+power-low h = pow-mono {j = widestTie} h
+
 -- ---- the bids of a combination
 module _ (ranks : List ℕ) (mask j : ℕ) {b : Bool} (eb : b ≡ has mask (getD ranks j 0)) (list : List ℕ) {a : List Bool}
     (ea : a ≡ combinationOf list ranks mask j) where

@@ -27,8 +27,7 @@ use Rattle.totals.proofs.Link as link
 use Rattle.totals.proofs.Link.{Marked, columnOf, columnTotal}
 use Rattle.ties.specs.declared.Choice.{Choice}
 use Rattle.combinations.specs.Combinations.{yearSets, combinations, repricedTo, baseAt, noBase, basesOf, compactOf, listed, aboveOf, rankOf, ranksOf}
-use Rattle.combinations.specs.Combinations.{startOf, startsOf, tiedOf, ownAt, noOwn, ownsOf, Numbers, touchOf, touchedOf, combinedOf, tableBy, jointOf}
-use Rattle.combinations.specs.Combinations.{unionOf}
+use Rattle.combinations.specs.Combinations.{startOf, startsOf, tiedOf, ownAt, noOwn, ownsOf, Numbers, touchOf, touchedOf, combinedOf, tableBy, jointOf, unionOf}
 use Rattle.ties.specs.declared.listing.Answer.{Answer}
 use Rattle.ties.specs.Ties.{aloneTotal, aloneFits, keepsOf, combinationOf, okBy, lastBy, addableOf, fullTo, keptBy, topBy, waysBy, answerBy}
 use Rattle.ties.specs.Ties.{leftOf, answerOf, chosenOf, choiceOf}

@@ -1,5 +1,6 @@
 -- What the functions of `ties` compute from a sheet and rows of numbers, and what they need. No rule of document 01 is stated here. Assumes nothing.
-use Prim.Native.Nat.{ℕ, zero, suc, _+_, _-_, _*_, _/_, _%_, _^_, _<_}
+use Prim.Native.Nat.{ℕ, zero, suc, _+_, _-_, _*_, _/_, _%_, _^_, _≤_, _<_}
+use mathlib.Core.Path.{_≡_}
 use mathlib.Core.Bool.{Bool, true, false, not, _&&_}
 use mathlib.Core.List.{List}
 use lib.ListN.{length, getD, set}
@@ -11,7 +12,7 @@ use Rattle.sheet.specs.declared.Size.{Size}
 use Rattle.sheet.specs.Sheet.{columns, rowYear, Ready}
 use Rattle.totals.specs.Totals.{worthOf, fitsTo}
 use Rattle.combinations.specs.declared.Tied.{Tied}
-use Rattle.combinations.specs.Combinations.{Bounded, mostBase, Placed, ownsOf, tableBy, jointOf, unionOf, Tabled}
+use Rattle.combinations.specs.Combinations.{combinations, Bounded, mostBase, Placed, ownsOf, tableBy, jointOf, unionOf, Tabled}
 use Rattle.ties.specs.declared.best.Best.{Best}
 use Rattle.ties.specs.declared.listing.Listed.{Listed}
 use Rattle.ties.specs.declared.listing.Answer.{Answer}
@@ -123,3 +124,14 @@ chosenOf tied answer drawn = record {
 
 unfoldable pub choiceOf : (sheet : List ℕ) (of : Size) (base : List ℕ) (tied : Tied) (price drawn : ℕ) → Choice
 choiceOf sheet of base tied price drawn = chosenOf tied (answerOf sheet of base tied price drawn) drawn
+
+-- ---- what passing over combinations rests on, where it can be
+
+-- every binary place of m is one of n: combination n has the bids of m, and perhaps more
+abbrev pub Within : (m n : ℕ) → Type 0
+Within m n = (i : ℕ) → has m i ≡ true → has n i ≡ true
+
+-- with more bids a combination comes to no less, and it fits only if one with fewer does
+pub record Cuttable (ok : ℕ → Bool) (tot : ℕ → ℕ) : Type 0 where
+  pub down : (m n : ℕ) → m < combinations → n < combinations → Within m n → ok n ≡ true → ok m ≡ true
+  pub reach : (m n : ℕ) → m < combinations → n < combinations → Within m n → tot m ≤ tot n

@@ -6,7 +6,7 @@ ghost use Rattle.totals.specs.Totals.{Asked};
 ghost use Rattle.combinations.specs.Combinations.{Bounded, mostBase};
 ghost use Rattle.ties.specs.Ties.{Based, Trying, aloneTotal, aloneFits, keepsOf};
 use combinations::places::power;
-use combinations::winners::Base;
+use combinations::tables::Base;
 use names::BIDS;
 use sheet::COLUMNS;
 use sheet::Sheet;

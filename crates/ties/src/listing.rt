@@ -12,8 +12,8 @@ use combinations::Tied;
 use combinations::places::member;
 use combinations::places::power;
 use combinations::tables;
+use combinations::tables::Base;
 use combinations::tables::Table;
-use combinations::winners::Base;
 use sheet::Sheet;
 use sheet::Size;
 

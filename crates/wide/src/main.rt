@@ -45,7 +45,7 @@ fn both(sheet: &Sheet, of: Size, price: u64)
 {
     let marks = [names::NO_REASON as u16; BIDS];
     let prices = [names::NO_PRICE; MOST_DELIVERIES];
-    let base = combinations::winners::bases(sheet, of, marks, prices, price);
+    let base = gathering::winners::bases(sheet, of, marks, prices, price);
     let taken = at_price(sheet, of, price);
     let rest = ties::alone::rest(sheet, of, &base, taken, price);
     let count = arrays::count(rest, of.bids);
@@ -53,7 +53,7 @@ fn both(sheet: &Sheet, of: Size, price: u64)
         word(b"too wide\n");
         return;
     }
-    let tied = combinations::gathered(sheet, of, rest, count);
+    let tied = gathering::gathered(sheet, of, rest, count);
     let drawn = sheet::drawn(sheet);
     told(
         b"listing ",

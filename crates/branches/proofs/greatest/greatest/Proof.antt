@@ -2,7 +2,8 @@
 use native.Mathlib.Omega.{arith}
 use Prim.Native.Nat.{_^_, _≤_}
 use Rattle.ties.specs.Ties.{okBy, lastBy}
-use Rattle.branches.proofs.Best.{Sought, sought-none, sought-at, sought-next, sought-past, power-low, nothing-best, found-best}
+use Rattle.ties.proofs.Laws.{power-low}
+use Rattle.branches.proofs.Best.{Sought, sought-none, sought-at, sought-next, sought-past, nothing-best, found-best}
 use Rattle.branches.proofs.greatest.greatest.Statement.{statement}
 use Rattle.branches.proofs.greatest.greatest.Tie as tie
 

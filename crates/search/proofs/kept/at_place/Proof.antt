@@ -3,7 +3,7 @@ use native.Mathlib.Omega.{arith}
 use Prim.Native.Nat.{_+_, _^_}
 use mathlib.Core.Path.{sym, ap, _∙_}
 use Rattle.ties.specs.Ties.{listedOf}
-use Rattle.branches.proofs.Best.{power-low}
+use Rattle.ties.proofs.Laws.{power-low}
 use Rattle.search.proofs.Ways.{stretch-up, stretch-same, stretch-list, stretch-place, place-none}
 use Rattle.search.proofs.kept.at_place.Statement.{statement}
 use Rattle.search.proofs.kept.at_place.Tie as tie

@@ -3,9 +3,8 @@ use native.Mathlib.Omega.{arith}
 use Prim.Native.Nat.{_+_, _-_, _^_, _≤_}
 use mathlib.Core.Path.{_≡_, sym, ap, _∙_}
 use Rattle.ties.specs.Ties.{keptBy, listedOf}
-use Rattle.ties.proofs.Laws.{listed-none}
+use Rattle.ties.proofs.Laws.{listed-none, power-low}
 use Rattle.search.specs.Search.{stretches, stretchEnd, Tallied}
-use Rattle.branches.proofs.Best.{power-low}
 use Rattle.search.proofs.Ways.{stretch-start, stretch-up, stretch-same, tally-none, tally-more, tally-all}
 use Rattle.search.proofs.kept.tally.Statement.{statement}
 use Rattle.search.proofs.kept.tally.Tie as tie

@@ -5,9 +5,8 @@ use mathlib.Core.Path.{_≡_, refl, _∙_}
 use mathlib.Core.Logic.{⊎-elim}
 use Rattle.arrays.proofs.Laws.{done}
 use Rattle.ties.specs.Ties.{keptBy, listedOf}
-use Rattle.ties.proofs.Laws.{listed-few, listed-more, listed-same}
+use Rattle.ties.proofs.Laws.{listed-few, listed-more, listed-same, power-low}
 use Rattle.laws_pot.specs.Lists.{not-is-true}
-use Rattle.branches.proofs.Best.{power-low}
 use Rattle.search.proofs.Ways.{listed-past, passed-unkept, near-full, near-whole, near-not, closed-full}
 use Rattle.search.proofs.kept.walk.Statement.{statement}
 use Rattle.search.proofs.kept.walk.Tie as tie

@@ -5,8 +5,7 @@ use Prim.Native.Nat.{_≤_, _-_}
 use mathlib.Core.Path.{_≡_, _∙_}
 use mathlib.Core.Logic.{⊎-elim}
 use Rattle.ties.specs.Ties.{okBy, lastBy, bestOf}
-use Rattle.ties.proofs.Laws.{best-none, best-more, best-same, ends}
-use Rattle.ties.proofs.Laws.{mask-low}
+use Rattle.ties.proofs.Laws.{best-none, best-more, best-same, ends, mask-low}
 use Rattle.ties.proofs.best.top.Statement.{statement}
 use Rattle.ties.proofs.best.top.Tie as tie
 

@@ -1,7 +1,6 @@
 -- `ties::listing::addable` meets its contract.
 use native.Mathlib.Omega.{arith}
-use Rattle.ties.proofs.Laws.{addable-in, addable-out}
-use Rattle.ties.proofs.Laws.{add-low}
+use Rattle.ties.proofs.Laws.{addable-in, addable-out, add-low}
 use Rattle.ties.proofs.listing.addable.Statement.{statement}
 use Rattle.ties.proofs.listing.addable.Tie as tie
 

@@ -4,8 +4,7 @@ use Prim.Native.Nat.{_≤_, _-_}
 use mathlib.Core.Path.{_≡_, _∙_}
 use mathlib.Core.Logic.{⊎-elim}
 use Rattle.ties.specs.Ties.{keptBy, listedOf}
-use Rattle.ties.proofs.Laws.{ends, listed-none, listed-few, listed-more, listed-same}
-use Rattle.ties.proofs.Laws.{mask-low}
+use Rattle.ties.proofs.Laws.{ends, listed-none, listed-few, listed-more, listed-same, mask-low}
 use Rattle.ties.proofs.listing.list_kept.Statement.{statement}
 use Rattle.ties.proofs.listing.list_kept.Tie as tie
 
