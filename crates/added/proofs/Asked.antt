@@ -17,7 +17,7 @@ use Rattle.ties.specs.Ties.{okBy, addableOf}
 use Rattle.ties.proofs.Laws.{addable-in, addable-out, fits-stops}
 use Rattle.added.specs.declared.whole.Narrow.{Narrow}
 use Rattle.added.specs.declared.whole.Room.{Room}
-use Rattle.added.specs.Added.{aloneBy, leftBy, Adding, Known, Least, Narrows, Roomed, Bars, Asks}
+use Rattle.added.specs.Added.{aloneBy, leftBy, Adds, Known, Least, Narrows, Roomed, Bars, Asks}
 
 pub alone-part : (table : List ℕ) (place c : ℕ) {v r : ℕ} → v ≡ 2 ^ (place % partPlaces) → r ≡ partCost table (place / partPlaces) v c → r ≡ aloneBy table place c
 unfolding aloneBy
@@ -52,7 +52,7 @@ module _ (sheet table : List ℕ) (m t c : ℕ) {x q : ℕ} (ex : x ≡ jointOf 
   left-some = rw (ex, eq)
 
 -- ---- whether a bid can be added
-module _ (sheet : List ℕ) (of : Size) (table : List ℕ) (m t : ℕ) (A : Adding table) (K : Known table m t) (few : of .columns ≤ columns) where
+module _ (sheet : List ℕ) (of : Size) (table : List ℕ) (m t : ℕ) (A : Adds table) (K : Known table m t) (few : of .columns ≤ columns) where
   -- what is too much in one column does not fit
   misfit : (place c : ℕ) → has m place ≡ false → place < widestTie → c < of .columns → leftBy sheet table m t c < aloneBy table place c
       → addableOf (okBy sheet of table) m place ≡ false

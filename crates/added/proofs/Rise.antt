@@ -1,8 +1,8 @@
 -- More bids come to no less, where more delivery years at the price of the tie cost the winners no less; and to more, where the bid is worth something. Assumes
 -- nothing.
 use Prim.Native.Nat.{ℕ, zero, suc, _+_, _-_, _*_, _/_, _%_, _^_, _≤_, _<_}
-use mathlib.Core.Path.{_≡_, refl, sym, ap, _∙_}
-use mathlib.Core.Bool.{Bool, true, false, _&&_, _||_}
+use mathlib.Core.Path.{_≡_, sym, ap, _∙_}
+use mathlib.Core.Bool.{Bool, true, false}
 use mathlib.Core.Logic.{⊎-elim}
 use mathlib.Core.List.{List}
 use native.Mathlib.Nat.{pow-suc, zero-add}
@@ -23,7 +23,7 @@ use Rattle.combinations.proofs.Parts.{touched-low, joint-total, sum-at}
 use Rattle.ties.specs.Ties.{okBy, lastBy, Within, Cuttable}
 use Rattle.ties.proofs.Laws.{fits-down}
 use Rattle.ties.proofs.Link.{touch-has}
-use Rattle.added.specs.Added.{Rises, Rising, lastWorth, aloneBy, Adding}
+use Rattle.added.specs.Added.{Rises, Rising, lastWorth, aloneBy, Adds}
 
 -- ---- what rises with each place rises with each set of them
 pub climbs : (f : ℕ → ℕ) (n : ℕ) → ((t d : ℕ) → t < 2 ^ n → d < n → has t d ≡ false → f t ≤ f (t + 2 ^ d))
@@ -186,7 +186,7 @@ module _ (base own ranks starts : List ℕ) (k : ℕ) (R : Rising base) (Q : (j 
       whole : p % partPlaces + p / partPlaces * partPlaces ≡ p
       whole = omega arith
 
-  pub adding : Adding table
+  pub adding : Adds table
   adding = record {
     adds = λ m p c h l f g.
         let more : m + 2 ^ p < combinations = add-lt m p widestTie f l h in

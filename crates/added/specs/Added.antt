@@ -57,7 +57,7 @@ unfoldable pub leftBy : (sheet table : List ℕ) (m t c : ℕ) → ℕ
 leftBy sheet table m t c = limitAt sheet c - jointOf table m t c
 
 -- a bid adds at least what it counts
-pub record Adding (table : List ℕ) : Type 0 where
+pub record Adds (table : List ℕ) : Type 0 where
   pub adds : (m place c : ℕ) → m < combinations → place < widestTie → has m place ≡ false → c < columns
       → jointOf table m (unionOf table m) c + aloneBy table place c ≤ jointOf table (m + 2 ^ place) (unionOf table (m + 2 ^ place)) c
 

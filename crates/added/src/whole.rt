@@ -6,8 +6,8 @@ ghost use Prim.Native.Nat.{_≤_, _<_};
 ghost use Rattle.rules.specs.Names.{widestTie};
 ghost use Rattle.sheet.specs.Sheet.{columns};
 ghost use Rattle.combinations.specs.Combinations.{combinations, mostBase, Tabled, Joining};
-ghost use Rattle.ties.specs.Ties.{Searching, okBy, addableOf};
-ghost use Rattle.added.specs.Added.{aloneBy, leftBy, Adding, Known, Least, Narrows, Roomed, Bars, Asks, Closes};
+ghost use Rattle.ties.specs.Ties.{Searching, okBy};
+ghost use Rattle.added.specs.Added.{aloneBy, leftBy, Adds, Known, Least, Narrows, Roomed, Bars, Asks, Closes};
 use combinations::places::PART_PLACES;
 use combinations::places::member;
 use combinations::places::power;
@@ -126,7 +126,7 @@ fn bar(sheet: &Sheet, of: Size, table: &Table, at: At, place: u32) -> Room
 
 // The column to be asked first of the next bid, where this one, at a binary place, cannot be added; where it can, one past all columns.
 fn ask(sheet: &Sheet, of: Size, table: &Table, at: At, place: u32, room: Room) -> Room
-    requires { ⌜ Searching (now sheet) of (now table) × Adding (now table) × Known (now table) (at .mask) (at .years) × (place < widestTie) × Roomed (now sheet) of (now table) (at .mask) (at .years) room ⌝ }
+    requires { ⌜ Searching (now sheet) of (now table) × Adds (now table) × Known (now table) (at .mask) (at .years) × (place < widestTie) × Roomed (now sheet) of (now table) (at .mask) (at .years) room ⌝ }
     ensures { λ r. ⌜ Asks (now (sheet .entry)) of (now (table .entry)) (at .mask) (at .years) place r ⌝ }
 {
     if member(at.mask, place) {
@@ -147,7 +147,7 @@ fn ask(sheet: &Sheet, of: Size, table: &Table, at: At, place: u32, room: Room) -
 
 // Can none of so many bids be added?
 pub fn whole(sheet: &Sheet, of: Size, table: &Table, count: u32, narrow: Narrow, mask: u32) -> bool
-    requires { ⌜ Searching (now sheet) of (now table) × Adding (now table) × (count ≤ widestTie) × Narrows of (now table) count narrow × (mask < combinations) ⌝ }
+    requires { ⌜ Searching (now sheet) of (now table) × Adds (now table) × (count ≤ widestTie) × Narrows of (now table) count narrow × (mask < combinations) ⌝ }
     ensures { λ r. ⌜ Closes (okBy (now (sheet .entry)) of (now (table .entry))) mask count r ⌝ }
 {
     let at = At {

@@ -20,11 +20,11 @@ use Rattle.sheet.specs.declared.Size.{Size}
 use Rattle.sheet.specs.Sheet.{columns, adminAt, rowApp, rowYear, rowAdmin, inAuction, entrantAt, entrants, potIn, Ready}
 use Rattle.sheet.proofs.Entrants.{entrant-small}
 use Rattle.arrays.proofs.Arrays.{at-start, fill-each, repeated}
-use Rattle.totals.specs.Totals.{filled, rowFits, adminTotalOf}
+use Rattle.totals.specs.Totals.{filled, rowFits, adminTotalOf, columnSum}
 use Rattle.totals.proofs.Link as link
 use Rattle.ties.proofs.Sums.{price-won}
 use Rattle.pot.specs.declared.PotState.{PotState}
-use Rattle.pot.specs.Marks.{columnSum, Summed}
+use Rattle.pot.specs.Marks.{Summed}
 use Rattle.pot.specs.Rep.{Rep, Stands}
 use Rattle.pot.proofs.Sums.{sum-total}
 use Rattle.pot.proofs.Link as held

@@ -1,15 +1,12 @@
 -- The best with the larger numbers first: what is found is the best of all. Assumes nothing.
-use Prim.Native.Nat.{ℕ, zero, suc, _+_, _-_, _*_, _/_, _%_, _^_, _≤_, _<_}
+use Prim.Native.Nat.{ℕ, zero, suc, _+_, _-_, _*_, _/_, _%_, _≤_, _<_}
 use mathlib.Core.Path.{_≡_, refl, sym, ap, _∙_}
 use mathlib.Core.Bool.{Bool, true, false, _&&_}
 use mathlib.Core.Logic.{_⊎_, inl, inr, ⊎-elim}
 use mathlib.Core.List.{List}
 use native.Mathlib.Omega.{arith}
-use lib.Pow.{pow-mono}
 use lib.Dec.{eqb, leb}
 use borrow.Author.Tests.{eqb-true, eqb-false, lt-leb, le-leb, leb-true, leb-false}
-use Rattle.rules.specs.Names.{widestTie}
-use Rattle.rules.specs.Lists.{pick}
 use Rattle.rules.specs.Pot.{has, best}
 use Rattle.laws_pot.specs.Lists.{case, clash, and-true, and-false, and-none}
 use Rattle.laws_pot.specs.Bits.{has-none}

@@ -1,12 +1,11 @@
 -- Branches of combinations: the first has none of the undecided bids, the last has all of them, and any other lies between. Assumes nothing.
 use Prim.Native.Nat.{ℕ, zero, suc, _+_, _-_, _*_, _/_, _%_, _^_, _≤_, _<_}
 use mathlib.Core.Path.{_≡_, sym, ap, _∙_}
-use mathlib.Core.Bool.{Bool, true, false, _&&_, _||_}
+use mathlib.Core.Bool.{Bool, true, false, _||_}
 use mathlib.Core.Logic.{⊎-elim}
 use native.Mathlib.Nat.{mul-comm, div-add-mod'}
 use native.Mathlib.Omega.{arith}
 use lib.Pow.{pow-pos}
-use lib.Dec.{leb}
 use borrow.Author.Tests.{lt-leb}
 use Rattle.rules.specs.Pot.{has}
 use Rattle.laws_pot.specs.Lists.{case, clash, and-none, or-right, or-left, or-cases}

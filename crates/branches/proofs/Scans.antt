@@ -1,7 +1,6 @@
 -- The totals of one branch in which the lowest part of the number alone is undecided, read off what the upper parts come to. Assumes nothing.
-use Prim.Native.Nat.{ℕ, zero, suc, _+_, _-_, _*_, _/_, _%_, _≤_, _<_}
-use mathlib.Core.Path.{_≡_, refl, sym, ap, ap₂, subst, _∙_}
-use mathlib.Core.Bool.{Bool, true, false}
+use Prim.Native.Nat.{ℕ, _+_, _-_, _*_, _/_, _%_, _≤_, _<_}
+use mathlib.Core.Path.{_≡_, sym, ap, subst, _∙_}
 use mathlib.Core.Logic.{_⊎_}
 use mathlib.Core.List.{List}
 use native.Mathlib.Omega.{arith}
@@ -13,10 +12,10 @@ use Rattle.rules.specs.Names.{mostDeliveries}
 use Rattle.laws_pot.specs.Lists.{case}
 use Rattle.sheet.specs.declared.Size.{Size}
 use Rattle.sheet.specs.Sheet.{columns}
-use Rattle.combinations.specs.Combinations.{yearSets, combinations, partSize, twoParts, threeParts, partCost, partYears, jointOf, unionOf}
+use Rattle.combinations.specs.Combinations.{yearSets, partSize, twoParts, threeParts, partCost, partYears, jointOf, unionOf}
 use Rattle.ties.specs.Ties.{lastBy}
 use Rattle.branches.specs.declared.scan.Upper.{Upper}
-use Rattle.branches.specs.Branches.{upperOf, totalAt, Other, Short}
+use Rattle.branches.specs.Branches.{upperOf, totalAt, Short}
 
 -- ---- what is read
 pub upper-is : (of : Size) (table : List ℕ) (h : ℕ) {a b d e f g : ℕ} → a ≡ partYears table 1 (h % partSize) → b ≡ partYears table 2 (h / partSize % partSize)

@@ -1,9 +1,8 @@
 // The combinations of one branch in which the lowest part of the number alone is undecided, one after the other: what the upper parts come to is read once.
 ghost use mathlib.Core.Path.{_≡_};
 ghost use Prim.Native.Nat.{_+_, _-_, _*_, _/_, _%_, _≤_, _<_};
-ghost use Rattle.rules.specs.Names.{mostYears};
 ghost use Rattle.sheet.specs.declared.Size.{Size};
-ghost use Rattle.combinations.specs.Combinations.{yearSets, combinations, partSize, Tabled};
+ghost use Rattle.combinations.specs.Combinations.{combinations, partSize};
 ghost use Rattle.ties.specs.Ties.{lastBy};
 ghost use Rattle.branches.specs.Branches.{Lasting, upperOf, Upright, totalAt, Short, Other};
 use super::ONE_LOW;

@@ -2,19 +2,19 @@
 -- years that they touch are joined. Assumes nothing.
 use Prim.Native.Nat.{ℕ, zero, suc, _+_, _-_, _*_, _/_, _%_, _^_, _≤_, _<_, max}
 use mathlib.Core.Path.{_≡_, refl, sym, ap, ap₂, _∙_}
-use mathlib.Core.Bool.{Bool, true, false, _||_}
+use mathlib.Core.Bool.{false}
 use mathlib.Core.List.{List}
 use native.Mathlib.Nat.{pow-suc, mul-le-mul-right}
 use native.Mathlib.Omega.{arith}
 use lib.Bits.{bitOr, or-step, or-comm, or-lt}
 use lib.Pow.{pow-pos, pow-add}
 use lib.ListN.{length, getD}
-use lib.Dec.{eqb, ltb}
-use borrow.Author.Tests.{eqb-true, eqb-false, ne-eqb, le-ltb}
+use lib.Dec.{ltb}
+use borrow.Author.Tests.{eqb-true, eqb-false, le-ltb}
 use Rattle.rules.specs.Names.{mostDeliveries, widestTie}
 use Rattle.rules.specs.Value.{dearest}
 use Rattle.rules.specs.Pot.{has}
-use Rattle.laws_pot.specs.Lists.{case, clash, pick-all}
+use Rattle.laws_pot.specs.Lists.{case, pick-all}
 use Rattle.laws_pot.specs.Bits.{has-suc, has-none, add-lt, has-join, has-apart, has-high}
 use Rattle.arrays.specs.Sets.{fill}
 use Rattle.arrays.proofs.Arrays.{zeros, fill-at, fill-each, fill-le, fill-stays, fill-rests}

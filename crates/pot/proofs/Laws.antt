@@ -8,6 +8,7 @@ use native.Mathlib.Nat.{le-antisymm}
 use lib.ListN.{getD, length, set, replicate}
 use lib.Dec.{eqb}
 use borrow.Author.Tests.{eq-eqb, ne-eqb, lt-ltb, le-ltb}
+use Rattle.totals.specs.Totals.{sumsSize}
 use Rattle.rules.specs.Names.{mostApps, mostDeliveries, noPrice, widestTie, downTied}
 use Rattle.arrays.specs.Sets.{fill, built, members, without}
 use Rattle.sheet.specs.declared.Size.{Size}
@@ -19,7 +20,7 @@ use Rattle.ties.specs.Ties.{keepsOf, choiceOf}
 use Rattle.pot.specs.declared.PotState.{PotState}
 use Rattle.pot.specs.declared.Look.{Look}
 use Rattle.pot.specs.Marks.{liveOf, atOf, winOf, turnOf, winAll, turnAll, turnedOf, hungOf, shutOf, settledOf, widened, soleOf, followsOf, aloneOf}
-use Rattle.pot.specs.Marks.{numberedOf, sharedOf, restOf, choiceIn, tieOf, Others, Looked, noYear, sumsSize, firstMark, noMarks, startedOf, revaluedOf}
+use Rattle.pot.specs.Marks.{numberedOf, sharedOf, restOf, choiceIn, tieOf, Others, Looked, noYear, firstMark, noMarks, startedOf, revaluedOf}
 
 -- the bounds of a bid's application and year, at what the accessors return
 pub app-ok : {sheet : List ℕ} {of : Size} (i : ℕ) {a : ℕ} → Ready sheet of → i < of .bids → a ≡ rowApp sheet i → a < 64

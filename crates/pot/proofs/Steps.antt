@@ -13,10 +13,10 @@ use Rattle.arrays.specs.Sets.{built, members, headOr}
 use Rattle.sheet.specs.declared.Size.{Size}
 use Rattle.sheet.specs.Sheet.{potIn, Ready, inAuction}
 use Rattle.sheet.proofs.Columns.{columns-few}
-use Rattle.totals.specs.Totals.{totalOf, rowFits}
+use Rattle.totals.specs.Totals.{totalOf, rowFits, columnSum}
 use Rattle.pot.specs.declared.PotState.{PotState}
 use Rattle.pot.specs.declared.Look.{Look}
-use Rattle.pot.specs.Marks.{lowestOf, atOf, winAll, Looked, settledOf, takenOf, aloneOf, tieOf, columnSum, withSums, renewedOf, totalledOf}
+use Rattle.pot.specs.Marks.{lowestOf, atOf, winAll, Looked, settledOf, takenOf, aloneOf, tieOf, withSums, renewedOf, totalledOf}
 use Rattle.pot.specs.Marks.{triedOf, trialOf, Summed}
 use Rattle.pot.specs.Rep.{Rep, Stepped}
 use Rattle.pot.proofs.Looks as looks

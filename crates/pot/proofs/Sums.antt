@@ -18,13 +18,13 @@ use Rattle.arrays.specs.Sets.{fill, placed, members}
 use Rattle.arrays.proofs.Arrays.{zeros, fill-at, placed-length, placed-at, placed-other}
 use Rattle.sheet.specs.declared.Size.{Size}
 use Rattle.sheet.specs.Sheet.{columns, Ready, inAuction, rowYear}
-use Rattle.totals.specs.Totals.{worthOf, totalOf, partOn, partOf, noRow, filled, fitsTo, rowFits}
+use Rattle.totals.specs.Totals.{worthOf, totalOf, partOn, partOf, noRow, filled, fitsTo, rowFits, columnSum, mostSum, sumsSize}
 use Rattle.totals.proofs.Laws.{fits-same, row-none}
 use Rattle.totals.proofs.Parts.{part-most, total-parts}
 use Rattle.ties.specs.declared.Choice.{Choice}
 use Rattle.pot.specs.declared.PotState.{PotState}
 use Rattle.pot.specs.Marks.{winOf, winAll, turnAll, turnOf, turnedOf, hungOf, shutOf, settledOf, widened, aloneOf, followsOf, numberedOf, sharedOf}
-use Rattle.pot.specs.Marks.{restOf, choiceIn, tieOf, firstMark, noMarks, startedOf, sumsSize, columnSum, mostSum, withSums, renewedRow, renewedOf}
+use Rattle.pot.specs.Marks.{restOf, choiceIn, tieOf, firstMark, noMarks, startedOf, withSums, renewedRow, renewedOf}
 use Rattle.pot.specs.Marks.{renewedTo, totalledOf, revaluedOf, triedOf, trialOf, Parted, Summed}
 use Rattle.pot.specs.Rep.{Rep, Stands}
 
@@ -346,17 +346,6 @@ module _ {sheet : List ℕ} {of : Size} {s : PotState} (S : Parted sheet of s) (
       let few = v .few in
       let most : (d : ℕ) → part d ≤ dearest * (of .bids) = λ d. part-most sheet of (s .marks) (getD (s .prices) d 0) d c v in
       omega (arith, four, most 0, most 1, most 2, most 3)
-
--- added one after the other
-module _ (l : List ℕ) (c : ℕ) where
-  pub added-is : getD l c 0 + getD l (columns + c) 0 + getD l (2 * columns + c) 0 + getD l (3 * columns + c) 0 ≡ columnSum l c
-  unfolding columnSum
-  added-is = omega arith
-
-  pub added-low : columnSum l c ≤ mostSum
-      → (getD l c 0 + getD l (columns + c) 0 ≤ mostSum) × (getD l c 0 + getD l (columns + c) 0 + getD l (2 * columns + c) 0 ≤ mostSum) ×
-      (getD l c 0 + getD l (columns + c) 0 + getD l (2 * columns + c) 0 + getD l (3 * columns + c) 0 ≤ mostSum)
-  added-low h = (omega (arith, added-is), omega (arith, added-is), omega (arith, added-is))
 
 -- the row of totals fits where the sums do
 pub row-fits : (f : ℕ → ℕ) (sheet : List ℕ) (n : ℕ) {row : List ℕ} {b : Bool} → n ≤ columns → row ≡ filled f n → b ≡ rowFits sheet row n → b ≡ fitsTo f sheet n

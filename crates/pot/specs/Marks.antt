@@ -1,18 +1,17 @@
 -- What the functions over a pot's arrays compute, as functions of the arrays. No rule of document 01 is stated here: crate rules has the rules, and
 -- specs/Rep.antt says what the arrays stand for. Assumes nothing.
-use Prim.Native.Nat.{ℕ, zero, suc, _+_, _*_, min, _≤_, _<_}
+use Prim.Native.Nat.{ℕ, zero, suc, _+_, _*_, min, _<_}
 use mathlib.Core.Path.{_≡_}
 use mathlib.Core.Bool.{Bool, true, false, not, _&&_}
 use mathlib.Core.List.{List, [], _∷_}
 use lib.ListN.{getD, set, replicate, length}
 use lib.Dec.{eqb, ltb}
-use Rattle.rules.specs.Value.{dearest}
 use Rattle.rules.specs.Names.{mostBids, mostApps, mostDeliveries, noPrice, noReason, becauseWon, downAlone, downTied, widestTie}
 use Rattle.rules.specs.Lists.{pick, sift, below}
 use Rattle.arrays.specs.Sets.{fill, placed, built, members, headOr, without}
 use Rattle.sheet.specs.declared.Size.{Size}
 use Rattle.sheet.specs.Sheet.{columns, drawnIn, rowApp, rowYear, rowPrice, inAuction, Ready}
-use Rattle.totals.specs.Totals.{partOf, filled}
+use Rattle.totals.specs.Totals.{partOf, filled, columnSum, sumsSize}
 use Rattle.ties.specs.declared.Choice.{Choice}
 use Rattle.combinations.specs.Combinations.{basesOf, tiedOf}
 use Rattle.ties.specs.Ties.{keepsOf, choiceOf}
@@ -195,21 +194,6 @@ sharedOf sheet of l c price s =
     (hungOf noYear (turnAll sheet downTied (winAll sheet price s (members (c .wins) (of .bids))) (members (built (without l (c .wins)) (of .bids)) (of .bids))))
 
 -- ---- the sums by delivery year
-
--- what the winners of the four delivery years count in column c, and the most that this can be
-unfoldable pub columnSum : List ℕ → ℕ → ℕ
-columnSum l c = getD l c 0 + (getD l (columns + c) 0 + (getD l (2 * columns + c) 0 + getD l (3 * columns + c) 0))
-
-abbrev pub mostSum : ℕ
-mostSum = mostDeliveries * (dearest * mostBids)
-
--- the places of the sums: a row of columns for each delivery year
-abbrev pub sumsSize : ℕ
-sumsSize = mostDeliveries * columns
-
-pub record Totalling (of : Size) (sums : List ℕ) : Type 0 where
-  pub columns : of .columns ≤ columns
-  pub small : (c : ℕ) → c < of .columns → columnSum sums c ≤ mostSum
 
 -- other sums and totals, and all else as it was
 unfoldable pub withSums : (sums totals : List ℕ) → PotState → PotState

@@ -19,12 +19,10 @@ use names::MOST_DELIVERIES;
 use sheet::COLUMNS;
 use sheet::Sheet;
 use sheet::Size;
+use totals::sums::Sums;
 
 // No year hangs.
 const NO_YEAR: usize = MOST_DELIVERIES;
-
-// A row of columns for each delivery year: what the winners that start there count at its clearing price.
-type Sums = [u64; MOST_DELIVERIES * COLUMNS];
 
 // The marks of every bid, the applications that have won, the years that are open, and the clearing price of each year.
 pub struct PotState {

@@ -1,49 +1,16 @@
 // "A trial adds bids to the winners, sets the clearing price of their years to their price, revalues every winner".
 ghost use mathlib.Core.Path.{_≡_};
-ghost use Prim.Native.Nat.{_*_, _≤_, _<_};
-ghost use lib.ListN.{length, getD};
+ghost use Prim.Native.Nat.{_<_};
+ghost use lib.ListN.{length};
 ghost use Rattle.rules.specs.Names.{mostDeliveries};
-ghost use Rattle.arrays.specs.Sets.{placed};
-ghost use Rattle.sheet.specs.Sheet.{columns, Ready};
-ghost use Rattle.totals.specs.Totals.{filled};
-ghost use Rattle.pot.specs.Marks.{sumsSize, columnSum, Totalling, Valued, renewedOf, renewedTo, totalledOf, revaluedOf, triedOf, trialOf};
+ghost use Rattle.sheet.specs.Sheet.{Ready};
+ghost use Rattle.totals.specs.Totals.{sumsSize, Totalling};
+ghost use Rattle.pot.specs.Marks.{Valued, renewedOf, renewedTo, totalledOf, revaluedOf, triedOf, trialOf};
 use super::PotState;
-use super::Sums;
 use names::BIDS;
 use names::MOST_DELIVERIES;
-use sheet::COLUMNS;
 use sheet::Sheet;
 use sheet::Size;
-
-// A row of totals, laid as that of delivery year d.
-fn laid(of: Size, sums: Sums, row: [u64; COLUMNS], d: usize) -> Sums
-    requires { ⌜ (of .columns ≤ columns) × (d < mostDeliveries) ⌝ }
-    ensures { λ r. ⌜ r ≡ placed (λ c. getD row c 0) sums (d * columns) (of .columns) ⌝ }
-{
-    let mut out = sums;
-    let columns = of.columns;
-    let mut c: usize = 0;
-    while c < columns {
-        out[d * COLUMNS + c] = row[c];
-        c += 1;
-    }
-    out
-}
-
-// The row of totals: what the winners of the four delivery years count together.
-fn column_totals(of: Size, sums: Sums) -> [u64; COLUMNS]
-    requires { ⌜ Totalling of sums ⌝ }
-    ensures { λ r. ⌜ r ≡ filled (columnSum sums) (of .columns) ⌝ }
-{
-    let mut row = [0u64; COLUMNS];
-    let columns = of.columns;
-    let mut c: usize = 0;
-    while c < columns {
-        row[c] = sums[c] + sums[COLUMNS + c] + sums[2 * COLUMNS + c] + sums[3 * COLUMNS + c];
-        c += 1;
-    }
-    row
-}
 
 impl PotState {
     // The winners that start in year d are revalued at its clearing price.
@@ -55,7 +22,7 @@ impl PotState {
         let price = self.prices[d];
         let row = totals::part(sheet, of, marks, price, d);
         let sums = self.sums;
-        self.sums = laid(of, sums, row, d);
+        self.sums = totals::sums::laid(of, sums, row, d);
         self
     }
 
@@ -79,7 +46,7 @@ impl PotState {
         ensures { λ r. ⌜ r ≡ totalledOf of self ⌝ }
     {
         let sums = self.sums;
-        let row = column_totals(of, sums);
+        let row = totals::sums::column_totals(of, sums);
         self.totals = row;
         self
     }

@@ -206,15 +206,12 @@ Caps =
 
 -- ---- drawn numbers (02, CR 6)
 
--- T1 and T2 with a cap and a drawn number; beside their results of 01, the first and the last win, or the first alone
+-- T1 and T2 with a cap and a drawn number; beside their results of 01, the first and the last win
 abbrev tieDrawn : (budget cap drawn : ℕ) → List ℕ
 tieDrawn b cap drawn = singleDrawn b cap drawn techA tiedApps tiedBids
 
 abbrev firstAndLast : List ℕ
 firstAndLast = result (potTold 1 (4000 ∷ []) (10512000 ∷ []) ∷ []) (line 1 0 4000 ∷ line 0 65535 0 ∷ line 1 2 4000 ∷ []) (1 ∷ 3 ∷ 1 ∷ [])
-
-abbrev firstOfThree : List ℕ
-firstOfThree = result (potTold 1 (4000 ∷ []) (7008000 ∷ []) ∷ []) (line 1 0 4000 ∷ line 0 65535 0 ∷ line 0 65535 0 ∷ []) (1 ∷ 3 ∷ 3 ∷ [])
 
 -- two years, round A's technology in both, one pot
 abbrev twoYears : (b0 b1 drawn : ℕ) → (apps bids : List (List ℕ)) → List ℕ
@@ -235,34 +232,29 @@ worthless drawn =
     ++ (counted (tech 0 10000 (figures ∷ figuresWith 0 4001 10000 ∷ []) ∷ [])
     ++ (counted (times 3 (λ i. app 0 i 100)) ++ counted (times 3 (λ i. bid i 0 100 4000)))))
 
+-- who wins in the first pot of a file, the last first: of the rows that differ in nothing else, since every edit of a definition computes all rows
+abbrev Wins : (file who : List ℕ) → Type 0
+Wins file who = winners (auction (potOf (roundOf file) 0)) ≡ who
+
 abbrev Drawn : Type 0
 Drawn =
     -- T1: 0 takes the first and the last, 1 what 01 takes
     Gives (tieDrawn 105120 noCap 0) firstAndLast
-    × Gives (tieDrawn 105120 noCap 1) firstTwo
+    × Wins (tieDrawn 105120 noCap 1) (1 ∷ 0 ∷ [])
     -- T2: even, the first alone; odd, the last two; the greatest number is one like any other
-    × Gives (tieDrawn 105119 noCap 0) firstOfThree
+    × Wins (tieDrawn 105119 noCap 0) (0 ∷ [])
     × Gives (tieDrawn 105119 noCap 4294967295) lastTwo
     -- no other bid can be added for the cap alone: T1 with money for all
-    × Gives (tieDrawn 1000000 300 0) firstAndLast
+    × Wins (tieDrawn 1000000 300 0) (2 ∷ 0 ∷ [])
     -- two ties: of three the one at place 1 wins, and the second tie goes on with a third of the number
-    × Gives (twoTies 3 8760 18396 1)
-    (result (potTold 1 (1000 ∷ 1100 ∷ []) (876000 ∷ 1839600 ∷ []) ∷ [])
-    (line 0 65535 0 ∷ line 1 1 1000 ∷ line 0 65535 0 ∷ line 0 65535 0 ∷ line 1 4 1100 ∷ []) (3 ∷ 1 ∷ 3 ∷ 3 ∷ 1 ∷ []))
+    × Wins (twoTies 3 8760 18396 1) (4 ∷ 1 ∷ [])
     -- the first tie fits together, or none of it remains, or a bid was turned down alone: the second is drawn by the number itself
-    × Gives (twoTies 2 17520 27156 1)
-    (result (potTold 1 (1000 ∷ 1100 ∷ []) (1752000 ∷ 2715600 ∷ []) ∷ []) (line 1 0 1000 ∷ line 1 1 1000 ∷ line 1 2 1100 ∷ line 0 65535 0 ∷ [])
-    (1 ∷ 1 ∷ 1 ∷ 3 ∷ []))
-    × Gives (twoTies 2 8759 9636 1)
-    (result (potTold 1 (noPrice ∷ 1100 ∷ []) (0 ∷ 963600 ∷ []) ∷ []) (line 0 65535 0 ∷ line 0 65535 0 ∷ line 1 2 1100 ∷ line 0 65535 0 ∷ [])
-    (3 ∷ 3 ∷ 1 ∷ 3 ∷ []))
-    × Gives (twoTies 1 8759 9636 1)
-    (result (potTold 1 (noPrice ∷ 1100 ∷ []) (0 ∷ 963600 ∷ []) ∷ []) (line 0 65535 0 ∷ line 1 1 1100 ∷ line 0 65535 0 ∷ []) (2 ∷ 1 ∷ 3 ∷ []))
+    × Wins (twoTies 2 17520 27156 1) (2 ∷ 1 ∷ 0 ∷ [])
+    × Wins (twoTies 2 8759 9636 1) (2 ∷ [])
+    × Wins (twoTies 1 8759 9636 1) (1 ∷ [])
     -- all combinations are best where the last year costs nothing: those to which none can be added are three
-    × Gives (worthless 0)
-    (result (potTold 1 (4000 ∷ []) (7008000 ∷ 0 ∷ []) ∷ []) (line 0 65535 0 ∷ line 1 1 4000 ∷ line 1 2 4000 ∷ []) (3 ∷ 1 ∷ 1 ∷ []))
-    × Gives (worthless 1)
-    (result (potTold 1 (4000 ∷ []) (7008000 ∷ 0 ∷ []) ∷ []) (line 1 0 4000 ∷ line 0 65535 0 ∷ line 1 2 4000 ∷ []) (1 ∷ 3 ∷ 1 ∷ []))
+    × Wins (worthless 0) (2 ∷ 1 ∷ [])
+    × Wins (worthless 1) (2 ∷ 0 ∷ [])
     -- two pots, each with its own number: of each two bids tie and one fits
     × Gives (counted (year ∷ []) ++ (potsDrawn (potDrawn (40000 ∷ []) noCap 0 ∷ potDrawn (40000 ∷ []) noCap 1 ∷ []) ++ (counted (tech 0 10000 (figures ∷ []) ∷
     tech 1 10000 (figures ∷ []) ∷ []) ++ (counted (app 0 0 100 ∷ app 0 1 100 ∷ appWith 1 0 365 2 100 0 ∷ appWith 1 0 365 3 100 0 ∷ [])

@@ -1,16 +1,16 @@
 -- Those kept: of which combinations it is known that they are not, and when one that has the greatest total is. Assumes nothing.
 use Prim.Native.Nat.{ℕ, zero, suc, _+_, _-_, _*_, _%_, _^_, _≤_, _<_}
-use mathlib.Core.Path.{_≡_, refl, sym, ap, subst, _∙_}
+use mathlib.Core.Path.{_≡_, refl, sym, ap, _∙_}
 use mathlib.Core.Bool.{Bool, true, false, not, _&&_}
-use mathlib.Core.Logic.{_⊎_, inl, inr, ⊎-elim}
+use mathlib.Core.Logic.{⊎-elim}
 use mathlib.Core.List.{List, [], _∷_}
 use native.Mathlib.Numerals.{add-one}
-use native.Mathlib.Nat.{add-zero, add-suc, add-assoc}
+use native.Mathlib.Nat.{add-zero, add-suc}
 use native.Mathlib.Omega.{arith}
 use lib.ListN.{length, getD, set, replicate, length-set}
-use lib.Pow.{pow-pos, pow-mono}
+use lib.Pow.{pow-mono}
 use lib.Dec.{eqb, leb, ltb}
-use borrow.Author.Tests.{eqb-true, eqb-false, eq-eqb, ne-eqb, le-leb, ltb-true, ltb-false}
+use borrow.Author.Tests.{eqb-true, eqb-false, ne-eqb, le-leb, ltb-true, ltb-false}
 use Rattle.rules.specs.Names.{widestTie}
 use Rattle.rules.specs.Lists.{sift, below}
 use Rattle.rules.specs.Pot.{has, atPlace}
@@ -25,12 +25,12 @@ use Rattle.ties.specs.declared.best.Best as declared
 use Rattle.ties.specs.declared.listing.Listed.{Listed}
 use Rattle.ties.specs.declared.listing.Answer.{Answer}
 use Rattle.ties.specs.declared.Choice.{Choice}
-use Rattle.ties.specs.Ties.{Cuttable, Based, Drawing, okBy, lastBy, addableOf, fullTo, keptBy, listedOf, bestOf, topBy, answerBy, leftOf, tableFor, answerOf, chosenOf, choiceOf}
+use Rattle.ties.specs.Ties.{Cuttable, Based, okBy, lastBy, addableOf, fullTo, keptBy, listedOf, bestOf, topBy, answerBy, leftOf, tableFor, answerOf, chosenOf, choiceOf}
 use Rattle.arrays.proofs.Arrays.{put-is}
 use Rattle.ties.proofs.Laws.{listed-same, addable-in, addable-out, full-stops, drawing, answer-top, answer-none, answer-place, power-low}
 use Rattle.branches.specs.Branches.{Unsought, Passed, nearBy}
 use Rattle.search.specs.declared.kept.Aim.{Aim}
-use Rattle.added.specs.Added.{Rising, Onto, Busy, Adding, Narrows, Addable, Closes}
+use Rattle.added.specs.Added.{Rising, Onto, Busy, Narrows, Addable, Closes}
 use Rattle.search.specs.Search.{Seeking, stretches, stretchEnd, keptBefore, Tallied, Stands, placeOf}
 use Rattle.added.proofs.Rise.{cuttable, gains, adding}
 

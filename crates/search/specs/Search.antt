@@ -10,7 +10,7 @@ use Rattle.sheet.specs.declared.Size.{Size}
 use Rattle.combinations.specs.declared.Tied.{Tied}
 use Rattle.combinations.specs.Combinations.{threeParts}
 use Rattle.ties.specs.Ties.{Cuttable, Drawing, okBy, lastBy}
-use Rattle.added.specs.Added.{Onto, Adding, Narrows}
+use Rattle.added.specs.Added.{Onto, Adds, Narrows}
 use Rattle.search.specs.declared.kept.Aim.{Aim}
 
 -- ---- what is sought among the combinations of a tie: none that fits has more in the last year; where no bid is idle each adds to it
@@ -18,7 +18,7 @@ pub record Seeking (sheet : List ℕ) (of : Size) (table : List ℕ) (tied : Tie
   pub drawing : Drawing sheet of table tied
   pub cuts : Cuttable (okBy sheet of table) (lastBy of table)
   pub onto : Onto tied
-  pub adding : Adding table
+  pub adding : Adds table
   pub narrow : Narrows of table (tied .count) (aim .narrow)
   pub top : (m : ℕ) → m < 2 ^ (tied .count) → okBy sheet of table m ≡ true → lastBy of table m ≤ aim .most
   pub gain : aim .idle ≡ false → (m j : ℕ) → m < 2 ^ (tied .count) → j < tied .count → has m (getD (tied .ranks) j 0) ≡ false

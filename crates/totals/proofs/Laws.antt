@@ -21,7 +21,7 @@ use Rattle.sheet.specs.Sheet.{Ready, columns, places, appPlace, limitAt, adminA
 use Rattle.sheet.specs.Sheet.{partsAt, inTest}
 use Rattle.sheet.proofs.Columns.{columns-few}
 use Rattle.value.specs.Laws.{at-most}
-use Rattle.totals.specs.Totals.{counts, Adding, worthOf, costOf, totalOf, noRow, filled, addedTo, fitsTo, adminWorth, adminTotalOf}
+use Rattle.totals.specs.Totals.{counts, Adding, worthOf, costOf, totalOf, noRow, filled, addedTo, fitsTo, adminWorth, adminTotalOf, columnSum, mostSum}
 
 module _ (sheet : List ℕ) (of : Size) where
   -- in a year, and in the column after the years
@@ -187,3 +187,16 @@ module _ (sheet : List ℕ) (of : Size) (marks prices : List ℕ) (i n : ℕ) wh
   pub row-done : {m : ℕ} {row : List ℕ} → row ≡ filled (λ c. totalOf sheet of marks prices c i) n → i ≤ m → m ≤ i
       → row ≡ filled (λ c. totalOf sheet of marks prices c m) n
   row-done = done (λ m. filled (λ c. totalOf sheet of marks prices c m) n)
+
+-- ---- the rows of the delivery years
+
+-- added one after the other
+module _ (l : List ℕ) (c : ℕ) where
+  pub column-is : getD l c 0 + getD l (columns + c) 0 + getD l (2 * columns + c) 0 + getD l (3 * columns + c) 0 ≡ columnSum l c
+  unfolding columnSum
+  column-is = omega arith
+
+  pub column-low : columnSum l c ≤ mostSum
+      → (getD l c 0 + getD l (columns + c) 0 ≤ mostSum) × (getD l c 0 + getD l (columns + c) 0 + getD l (2 * columns + c) 0 ≤ mostSum) ×
+      (getD l c 0 + getD l (columns + c) 0 + getD l (2 * columns + c) 0 + getD l (3 * columns + c) 0 ≤ mostSum)
+  column-low h = (omega (arith, column-is), omega (arith, column-is), omega (arith, column-is))

@@ -5,7 +5,7 @@ use mathlib.Core.List.{List, [], _∷_}
 use mathlib.Core.Path.{_≡_}
 use lib.ListN.{getD, replicate}
 use lib.Dec.{eqb, leb, ltb}
-use Rattle.rules.specs.Names.{mostBids, highestPrice, becauseWon}
+use Rattle.rules.specs.Names.{mostBids, mostDeliveries, highestPrice, becauseWon}
 use Rattle.rules.specs.Lists.{pick, sift, below, sum}
 use Rattle.rules.specs.Value.{ceilDiv, penny, dearest}
 use Rattle.arrays.specs.Sets.{fill}
@@ -87,3 +87,20 @@ adminWorth sheet of a c = counts sheet of (appPlace a) (adminAt sheet a) c
 
 unfoldable pub adminTotalOf : (sheet : List ℕ) (of : Size) (c n : ℕ) → ℕ
 adminTotalOf sheet of c n = sum (λ a. adminWorth sheet of a c) (sift (inTest sheet) (below n))
+
+-- ---- a row for each delivery year, and their sum
+
+-- what the winners of the four delivery years count in column c, and the most that this can be
+unfoldable pub columnSum : List ℕ → ℕ → ℕ
+columnSum l c = getD l c 0 + (getD l (columns + c) 0 + (getD l (2 * columns + c) 0 + getD l (3 * columns + c) 0))
+
+abbrev pub mostSum : ℕ
+mostSum = mostDeliveries * (dearest * mostBids)
+
+-- the places of the sums: a row of columns for each delivery year
+abbrev pub sumsSize : ℕ
+sumsSize = mostDeliveries * columns
+
+pub record Totalling (of : Size) (sums : List ℕ) : Type 0 where
+  pub columns : of .columns ≤ columns
+  pub small : (c : ℕ) → c < of .columns → columnSum sums c ≤ mostSum

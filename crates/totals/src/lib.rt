@@ -7,6 +7,7 @@ ghost use Rattle.sheet.specs.Sheet.{columns, Ready};
 ghost use Rattle.totals.specs.Totals.{counts, Struck, Asked, Worth, Adding, worthOf, totalOf, partOf, filled, addedTo, rowFits, adminTotalOf};
 
 pub mod marks;
+pub mod sums;
 
 use marks::WON;
 use names::BIDS;

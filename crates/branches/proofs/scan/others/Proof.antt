@@ -1,7 +1,7 @@
 -- The invariant: those passed have another total.
 use borrow.Author.Needs.{needs}
 use native.Mathlib.Omega.{arith}
-use Prim.Native.Nat.{ℕ, _+_, _*_, _-_, _/_, _%_, _≤_, _<_}
+use Prim.Native.Nat.{ℕ, _+_, _-_, _/_, _%_, _≤_, _<_}
 use mathlib.Core.Path.{_≡_}
 use Rattle.combinations.specs.Combinations.{partSize}
 use Rattle.ties.specs.Ties.{lastBy}

@@ -7,8 +7,8 @@ use lib.ListN.{getD}
 use Rattle.arrays.proofs.Laws.{done, place-next}
 use Rattle.arrays.specs.Sets.{placed}
 use Rattle.sheet.specs.Sheet.{columns}
-use Rattle.pot.proofs.trial.laid.Statement.{statement}
-use Rattle.pot.proofs.trial.laid.Tie as tie
+use Rattle.totals.proofs.sums.laid.Statement.{statement}
+use Rattle.totals.proofs.sums.laid.Tie as tie
 
 abbrev Inv-loop : tie.InvT-loop
 Inv-loop d row out₀ n c₀ out c = (c ≤ n) × (out ≡ placed (λ x. getD row x 0) out₀ (d * columns) c)
