@@ -291,11 +291,7 @@ tiedPot bids alone = record {
 abbrev endsWide : Pot → Bool
 endsWide P = look P [] (taken P []) .wide
 
--- a file of 21 tied bids, each of which fits alone, and five together
-abbrev wideFile : List ℕ
-wideFile = single 200000 (times 21 (λ i. app 0 i 100)) (times 21 (λ i. bid i 0 100 4000))
-
--- rows of pots, and of parts of a result: the whole result of a file with 21 bids would take the checker some seconds
+-- rows of pots, and of parts of what is told of them: a file with 21 bids would take the checker half a second
 abbrev Wide : Type 0
 Wide =
     -- 21 remain: outcome 2. 20 do not end the pot; no more is computed of them here, for they have a million combinations
@@ -306,12 +302,11 @@ Wide =
     -- 19 are dropped: the two that remain win, and the others are turned down in the tie
     × (winners (auction (tiedPot 21 2)) ≡ 1 ∷ 0 ∷ [])
     × (reason (tiedPot 21 2) 20 ≡ 3)
-    -- outcome 2: lost, with and without a bid, and the reason of a bid
+    -- outcome 2: what is told of the pot; lost, with and without a bid; and the reason of a bid
+    × (potBytes 1 1 (tiedPot 21 21) ≡ potTold 2 (noPrice ∷ []) (0 ∷ []))
     × (appBytes (toldIn (tiedPot 21 21) 0) ≡ line 0 65535 0)
     × (appBytes (toldIn (tiedPot 21 21) 21) ≡ lineWith 0 65535 7 0)
     × (reason (tiedPot 21 21) 20 ≡ 7)
-    -- a file: the pots section of its result
-    × (potsPart (roundOf wideFile) ≡ counted (potTold 2 (noPrice ∷ []) (0 ∷ []) ∷ []))
 
 -- ---- files that are turned away
 
