@@ -172,25 +172,27 @@ bothAtAdmin = result (potTold 0 (noPrice ∷ []) (35040000 ∷ []) ∷ []) (line
 abbrev firstAlone : List ℕ
 firstAlone = result (potTold 1 (4000 ∷ []) (3504000 ∷ []) ∷ []) (line 1 0 4000 ∷ line 0 65535 0 ∷ []) (1 ∷ 2 ∷ [])
 
+-- who wins in the first pot of a file, the last first: of the rows that differ in nothing else, since every edit of a definition computes all rows
+abbrev Wins : (file who : List ℕ) → Type 0
+Wins file who = winners (auction (potOf (roundOf file) 0)) ≡ who
+
 abbrev Caps : Type 0
 Caps =
     -- their capacity is the cap, or no cap at all: the first test passes
     Gives (twoUnder 200) bothAtAdmin
-    × Gives (twoUnder noCap) bothAtAdmin
-    × Gives (twoUnder 20000000) bothAtAdmin
+    × (outcome (potOf (roundOf (twoUnder noCap)) 0) ≡ 0)
+    × (outcome (potOf (roundOf (twoUnder 20000000)) 0) ≡ 0)
     -- one hundredth of a MW too much: the first test fails, and the second bid is turned down beside the first; equal fits
     × Gives (twoUnder 199) firstAlone
-    × Gives (twoUnder 100) firstAlone
+    × Wins (twoUnder 100) (0 ∷ [])
     × Gives (twoUnder 0) (result (potTold 1 (noPrice ∷ []) (0 ∷ []) ∷ []) (line 0 65535 0 ∷ line 0 65535 0 ∷ []) (2 ∷ 5 ∷ []))
     -- T1 with cap 250: the last two win; with 300 it is T1; with 199 and money for all the tie's first bid does not fit alone
     × Gives (singleUnder 105120 250 techA tiedApps tiedBids) lastTwo
-    × Gives (singleUnder 105120 300 techA tiedApps tiedBids) firstTwo
-    × Gives (singleUnder 1000000 199 techA (app 0 3 100 ∷ app 0 5 200 ∷ []) (bid 0 0 100 4000 ∷ bid 1 0 200 4000 ∷ []))
-    (result (potTold 1 (4000 ∷ []) (3504000 ∷ []) ∷ []) (line 1 0 4000 ∷ line 0 65535 0 ∷ []) (1 ∷ 3 ∷ []))
+    × Wins (singleUnder 105120 300 techA tiedApps tiedBids) (1 ∷ 0 ∷ [])
+    × Wins (singleUnder 1000000 199 techA (app 0 3 100 ∷ app 0 5 200 ∷ []) (bid 0 0 100 4000 ∷ bid 1 0 200 4000 ∷ [])) (0 ∷ [])
     -- "Closest to the budget still means money": of two tied bids, of which one fits beside neither, the dearer wins, not the larger or the lower draw
-    × Gives (singleUnder 1000000 250 (tech 0 10000 (figures ∷ []) ∷ tech 0 2500 (figures ∷ []) ∷ []) (app 0 1 100 ∷ appWith 1 0 365 0 200 0 ∷ [])
-    (bid 0 0 100 4000 ∷ bid 1 0 200 4000 ∷ []))
-    (result (potTold 1 (4000 ∷ []) (3504000 ∷ []) ∷ []) (line 1 0 4000 ∷ line 0 65535 0 ∷ []) (1 ∷ 3 ∷ []))
+    × Wins (singleUnder 1000000 250 (tech 0 10000 (figures ∷ []) ∷ tech 0 2500 (figures ∷ []) ∷ []) (app 0 1 100 ∷ appWith 1 0 365 0 200 0 ∷ [])
+    (bid 0 0 100 4000 ∷ bid 1 0 200 4000 ∷ [])) (0 ∷ [])
     -- the capacity of the bid is summed, not its application's: two of 2.00 MW that bid for 1.00 MW
     × Gives (singleUnder 1000000 200 techA (app 0 0 200 ∷ app 0 1 200 ∷ []) (bid 0 0 100 4000 ∷ bid 1 0 100 5000 ∷ []))
     (result (potTold 1 (5000 ∷ []) (8760000 ∷ []) ∷ []) (line 1 0 5000 ∷ line 1 1 5000 ∷ []) (1 ∷ 1 ∷ []))
@@ -198,7 +200,7 @@ Caps =
     × Gives (singleUnder 1000000 100 techA (app 0 0 100 ∷ app 0 1 100 ∷ []) (bid 0 0 60 4000 ∷ bid 1 0 100 5000 ∷ bid 1 0 40 5001 ∷ []))
     (result (potTold 1 (5001 ∷ []) (4380877 ∷ []) ∷ []) (line 1 0 5001 ∷ line 1 2 5001 ∷ []) (1 ∷ 2 ∷ 1 ∷ []))
     -- money and cap: there is room for the capacity of the second bid, not for its cost
-    × Gives (singleUnder 60000 200 techA (app 0 0 100 ∷ app 0 1 100 ∷ []) (bid 0 0 100 4000 ∷ bid 1 0 100 5000 ∷ [])) firstAlone
+    × Wins (singleUnder 60000 200 techA (app 0 0 100 ∷ app 0 1 100 ∷ []) (bid 0 0 100 4000 ∷ bid 1 0 100 5000 ∷ [])) (0 ∷ [])
     -- two pots, of which the second alone has a cap
     × Gives (counted (year ∷ []) ++ (potsUnder (potUnder (1000000 ∷ []) noCap ∷ potUnder (1000000 ∷ []) 99 ∷ []) ++ (counted (tech 0 10000 (figures ∷ []) ∷
     tech 1 10000 (figures ∷ []) ∷ []) ++ (counted (app 0 0 100 ∷ appWith 1 0 365 1 100 0 ∷ []) ++ counted (bid 0 0 100 4000 ∷ bid 1 0 100 5000 ∷ [])))))
@@ -231,10 +233,6 @@ worthless drawn =
     counted (year ∷ yearWith 365 0 0 ∷ []) ++ (potsDrawn (potDrawn (70080 ∷ 0 ∷ []) noCap drawn ∷ [])
     ++ (counted (tech 0 10000 (figures ∷ figuresWith 0 4001 10000 ∷ []) ∷ [])
     ++ (counted (times 3 (λ i. app 0 i 100)) ++ counted (times 3 (λ i. bid i 0 100 4000)))))
-
--- who wins in the first pot of a file, the last first: of the rows that differ in nothing else, since every edit of a definition computes all rows
-abbrev Wins : (file who : List ℕ) → Type 0
-Wins file who = winners (auction (potOf (roundOf file) 0)) ≡ who
 
 abbrev Drawn : Type 0
 Drawn =
