@@ -8,7 +8,7 @@ use Rattle.rules.specs.Lists.{sift, below}
 use Rattle.rules.specs.Pot.{has, atPlace}
 use Rattle.sheet.specs.declared.Size.{Size}
 use Rattle.combinations.specs.declared.Tied.{Tied}
-use Rattle.combinations.specs.Combinations.{threeParts}
+use Rattle.combinations.specs.Combinations.{partSize, threeParts}
 use Rattle.ties.specs.Ties.{Cuttable, Drawing, okBy, lastBy}
 use Rattle.added.specs.Added.{Onto, Adds, Narrows}
 use Rattle.search.specs.declared.kept.Aim.{Aim}
@@ -26,7 +26,7 @@ pub record Seeking (sheet : List ℕ) (of : Size) (table : List ℕ) (tied : Tie
 
 -- ---- the branches of a tie in which the lowest three parts are undecided: where the first k of them end, of n combinations
 abbrev pub stretches : ℕ
-stretches = 32
+stretches = partSize
 
 unfoldable pub stretchEnd : (n k : ℕ) → ℕ
 stretchEnd n k = min (k * threeParts) n

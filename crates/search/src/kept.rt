@@ -15,6 +15,7 @@ use branches::near;
 use branches::passed;
 use branches::scan::others;
 use combinations::Tied;
+use combinations::places::PART;
 use combinations::places::power;
 use combinations::tables::Table;
 use sheet::Sheet;
@@ -23,7 +24,7 @@ use ties::listing::Listed;
 use ties::listing::counted;
 
 // A stretch is a branch in which the lowest three parts are undecided: so many has a tie of twenty bids.
-pub const STRETCHES: usize = 32;
+pub const STRETCHES: usize = PART;
 
 // Where a bid is worth nothing in the last year, branches in which two binary places are undecided are looked at too.
 const TWO_PLACES: u32 = 4;
