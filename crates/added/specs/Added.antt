@@ -1,12 +1,12 @@
 -- What the functions of `added` compute and need: bids added to a combination. Assumes nothing.
 use Rattle.std.specs.Prelude.{ℕ, ◌+◌, ◌-◌, ◌*◌, ◌/◌, ◌%◌, ◌^◌, ◌≤◌, ◌<◌, ◌≡◌, Bool, true, false, ◌⊎◌, List, get_or}
-use Rattle.rules.specs.Names.{mostDeliveries, widestTie}
+use Rattle.rules.specs.Names.{most_deliveries, widest_tie}
 use Rattle.rules.specs.Pot.{has}
 use Rattle.sheet.specs.declared.Size.{Size}
-use Rattle.sheet.specs.Sheet.{columns, limitAt}
+use Rattle.sheet.specs.Sheet.{columns, limit_at}
 use Rattle.combinations.specs.declared.Tied.{Tied}
-use Rattle.combinations.specs.Combinations.{yearSets, combinations, partPlaces, partCost, jointOf, unionOf}
-use Rattle.ties.specs.Ties.{okBy, addableOf}
+use Rattle.combinations.specs.Combinations.{year_sets, combinations, part_places, part_cost, joint_of, union_of}
+use Rattle.ties.specs.Ties.{ok_by, addable_of}
 use Rattle.added.specs.declared.whole.Narrow.{Narrow}
 use Rattle.added.specs.declared.whole.Room.{Room}
 
@@ -16,12 +16,12 @@ use Rattle.added.specs.declared.whole.Room.{Room}
 unfoldable pub Rises : (base : List ℕ) (i : ℕ) → Type 0
 Rises base i =
     let c = i % columns in
-    let d = i / columns % mostDeliveries in
-    let t = i / columns / mostDeliveries in
+    let d = i / columns % most_deliveries in
+    let t = i / columns / most_deliveries in
     has t d ≡ false → get_or base (t * columns + c) 0 ≤ get_or base ((t + 2 ^ d) * columns + c) 0
 
 pub record Rising (base : List ℕ) : Type 0 where
-  pub rise : (t d c : ℕ) → t < yearSets → d < mostDeliveries → c < columns → has t d ≡ false
+  pub rise : (t d c : ℕ) → t < year_sets → d < most_deliveries → c < columns → has t d ≡ false
       → get_or base (t * columns + c) 0 ≤ get_or base ((t + 2 ^ d) * columns + c) 0
 
 -- a binary place is that of a bid; and so is each of the tie
@@ -38,33 +38,33 @@ pub record Sound (base : List ℕ) (tied : Tied) : Type 0 where
   pub onto : Onto tied
 
 -- what the j-th bid is worth in the last year; and each is worth something, so that adding it adds to the total
-unfoldable pub lastWorth : (own : List ℕ) (last j : ℕ) → ℕ
-lastWorth own last j = get_or own (j * columns + last) 0
+unfoldable pub last_worth : (own : List ℕ) (last j : ℕ) → ℕ
+last_worth own last j = get_or own (j * columns + last) 0
 
 abbrev pub Busy : (of : Size) (own : List ℕ) (tied : Tied) → Type 0
-Busy of own tied = (j : ℕ) → j < tied.count → 0 < lastWorth own (of.years - 1) j
+Busy of own tied = (j : ℕ) → j < tied.count → 0 < last_worth own (of.years - 1) j
 
 -- ---- whether a bid can be added: what the bid at a binary place counts in column c; and what the combination m, which touches t, leaves of its limit
-unfoldable pub aloneBy : (table : List ℕ) (place c : ℕ) → ℕ
-aloneBy table place c = partCost table (place / partPlaces) (2 ^ (place % partPlaces)) c
+unfoldable pub alone_by : (table : List ℕ) (place c : ℕ) → ℕ
+alone_by table place c = part_cost table (place / part_places) (2 ^ (place % part_places)) c
 
-unfoldable pub leftBy : (sheet table : List ℕ) (m t c : ℕ) → ℕ
-leftBy sheet table m t c = limitAt sheet c - jointOf table m t c
+unfoldable pub left_by : (sheet table : List ℕ) (m t c : ℕ) → ℕ
+left_by sheet table m t c = limit_at sheet c - joint_of table m t c
 
 -- a bid adds at least what it counts
 pub record Adds (table : List ℕ) : Type 0 where
-  pub adds : (m place c : ℕ) → m < combinations → place < widestTie → has m place ≡ false → c < columns
-      → jointOf table m (unionOf table m) c + aloneBy table place c ≤ jointOf table (m + 2 ^ place) (unionOf table (m + 2 ^ place)) c
+  pub adds : (m place c : ℕ) → m < combinations → place < widest_tie → has m place ≡ false → c < columns
+      → joint_of table m (union_of table m) c + alone_by table place c ≤ joint_of table (m + 2 ^ place) (union_of table (m + 2 ^ place)) c
 
 -- a combination, with the years that it touches
 pub record Known (table : List ℕ) (m t : ℕ) : Type 0 where
   pub number : m < combinations
-  pub years : t ≡ unionOf table m
-  pub few : t < yearSets
+  pub years : t ≡ union_of table m
+  pub few : t < year_sets
 
 -- none of so many bids counts less in column c; and so in a column of the pot
 abbrev pub Least : (table : List ℕ) (count c r : ℕ) → Type 0
-Least table count c r = (place : ℕ) → place < count → r ≤ aloneBy table place c
+Least table count c r = (place : ℕ) → place < count → r ≤ alone_by table place c
 
 pub record Narrows (of : Size) (table : List ℕ) (count : ℕ) (r : Narrow) : Type 0 where
   pub column : r.column < of.columns
@@ -73,22 +73,22 @@ pub record Narrows (of : Size) (table : List ℕ) (count : ℕ) (r : Narrow) : T
 -- what is left in a column of the pot; that this is less than the bid at a binary place counts, or no column; and that it cannot be added, or no column and it can
 pub record Roomed (sheet : List ℕ) (of : Size) (table : List ℕ) (m t : ℕ) (r : Room) : Type 0 where
   pub column : r.column < of.columns
-  pub is : r.left ≡ leftBy sheet table m t r.column
+  pub is : r.left ≡ left_by sheet table m t r.column
 
 abbrev pub Bars : (sheet : List ℕ) (of : Size) (table : List ℕ) (m t place : ℕ) (r : Room) → Type 0
 Bars sheet of table m t place r =
-    (Roomed sheet of table m t r × (r.left < aloneBy table place r.column)) ⊎ (r.column ≡ columns)
+    (Roomed sheet of table m t r × (r.left < alone_by table place r.column)) ⊎ (r.column ≡ columns)
 
 abbrev pub Asks : (sheet : List ℕ) (of : Size) (table : List ℕ) (m t place : ℕ) (r : Room) → Type 0
 Asks sheet of table m t place r =
-    (Roomed sheet of table m t r × (addableOf (okBy sheet of table) m place ≡ false))
-    ⊎ ((r.column ≡ columns) × (addableOf (okBy sheet of table) m place ≡ true))
+    (Roomed sheet of table m t r × (addable_of (ok_by sheet of table) m place ≡ false))
+    ⊎ ((r.column ≡ columns) × (addable_of (ok_by sheet of table) m place ≡ true))
 
 -- a bid at a binary place below n can be added to the combination m; and that none can be, or one
 pub record Addable (ok : ℕ → Bool) (m n : ℕ) : Type 0 where
   pub place : ℕ
   pub low : place < n
-  pub is : addableOf ok m place ≡ true
+  pub is : addable_of ok m place ≡ true
 
 abbrev pub Closes : (ok : ℕ → Bool) (m n : ℕ) (r : Bool) → Type 0
-Closes ok m n r = (r ≡ true → (place : ℕ) → place < n → addableOf ok m place ≡ false) × (r ≡ false → Addable ok m n)
+Closes ok m n r = (r ≡ true → (place : ℕ) → place < n → addable_of ok m place ≡ false) × (r ≡ false → Addable ok m n)

@@ -2,8 +2,8 @@
 // is that of a bid. In an auction it is always so; where it is not, nothing is passed over.
 ghost use Rattle.std.specs.Prelude.{true, false, ◌≡◌, ◌*◌, ◌<◌};
 ghost use Rattle.sheet.specs.Sheet.{columns};
-ghost use Rattle.combinations.specs.Combinations.{yearSets, Placed};
-ghost use Rattle.rules.specs.Names.{mostDeliveries};
+ghost use Rattle.combinations.specs.Combinations.{year_sets, Placed};
+ghost use Rattle.rules.specs.Names.{most_deliveries};
 ghost use Rattle.added.specs.Added.{Rises, Rising, Held, Onto, Sound, Busy};
 
 use combinations::Tied;
@@ -14,7 +14,7 @@ use sheet::{COLUMNS, Size};
 
 // Do the winners cost no less in column c where delivery year d is added to the set t? One of all such, by its number.
 fn rises(base: &Base, i: usize) -> bool
-    requires { i < yearSets * mostDeliveries * columns }
+    requires { i < year_sets * most_deliveries * columns }
     ensures { result ≡ true → Rises base.now i }
 {
     let c = i % COLUMNS;

@@ -1,11 +1,11 @@
 // Can no other bid be added to a combination? As `ties::listing::full` has it, by binary places. None can where a column has less left than any bid counts. What is
 // too much for one bid is often too much for the next, so the column that barred the last one is asked first; and only a bid that no column bars by itself is tried.
 ghost use Rattle.std.specs.Prelude.{true, false, ◌≡◌, ◌≤◌, ◌<◌};
-ghost use Rattle.rules.specs.Names.{widestTie};
+ghost use Rattle.rules.specs.Names.{widest_tie};
 ghost use Rattle.sheet.specs.Sheet.{columns};
-ghost use Rattle.combinations.specs.Combinations.{combinations, mostBase, Tabled, Joining};
-ghost use Rattle.ties.specs.Ties.{Searching, okBy};
-ghost use Rattle.added.specs.Added.{aloneBy, leftBy, Adds, Known, Least, Narrows, Roomed, Bars, Asks, Closes};
+ghost use Rattle.combinations.specs.Combinations.{combinations, most_base, Tabled, Joining};
+ghost use Rattle.ties.specs.Ties.{Searching, ok_by};
+ghost use Rattle.added.specs.Added.{alone_by, left_by, Adds, Known, Least, Narrows, Roomed, Bars, Asks, Closes};
 
 use combinations::places::{PART_PLACES, member, power};
 use combinations::tables::{Table, joint, part_cost, union};
@@ -15,8 +15,8 @@ use ties::listing::addable;
 
 // What the bid at a binary place counts in column c.
 fn alone(table: &Table, place: u32, c: usize) -> u64
-    requires { Tabled table.now × (place < widestTie) × (c < columns) }
-    ensures { (result ≡ aloneBy table.now place c) × (result ≤ mostBase) }
+    requires { Tabled table.now × (place < widest_tie) × (c < columns) }
+    ensures { (result ≡ alone_by table.now place c) × (result ≤ most_base) }
 {
     let places = PART_PLACES as u32;
     let v = power(place % places) as usize;
@@ -33,7 +33,7 @@ pub struct Narrow {
 
 // Of so many bids, in column c.
 fn least(table: &Table, count: u32, c: usize) -> Narrow
-    requires { Tabled table.now × (count ≤ widestTie) × (c < columns) }
+    requires { Tabled table.now × (count ≤ widest_tie) × (c < columns) }
     ensures { (result.column ≡ c) × Least table.now count c result.least }
 {
     let mut least = alone(table, 0, c);
@@ -56,7 +56,7 @@ fn least(table: &Table, count: u32, c: usize) -> Narrow
 
 // In the first column that all of so many bids together are too much for.
 pub fn narrow_column(sheet: &Sheet, of: Size, table: &Table, count: u32) -> Narrow
-    requires { Searching sheet.now of table.now × (count ≤ widestTie) }
+    requires { Searching sheet.now of table.now × (count ≤ widest_tie) }
     ensures { Narrows of table.now count result }
 {
     let all = power(count) - 1;
@@ -82,7 +82,7 @@ pub struct At {
 // What it leaves of the limit of column c.
 fn left(sheet: &Sheet, table: &Table, at: At, c: usize) -> u64
     requires { Joining table.now at.mask at.years × (c < columns) }
-    ensures { result ≡ leftBy sheet.now table.now at.mask at.years c }
+    ensures { result ≡ left_by sheet.now table.now at.mask at.years c }
 {
     let total = joint(table, at.mask, at.years, c);
     let limit = sheet::limit(sheet, c);
@@ -101,7 +101,7 @@ pub struct Room {
 
 // A column that has less left than the bid at a binary place counts in it; where there is none, one past all columns.
 fn bar(sheet: &Sheet, of: Size, table: &Table, at: At, place: u32) -> Room
-    requires { Joining table.now at.mask at.years × (place < widestTie) × (of.columns ≤ columns) }
+    requires { Joining table.now at.mask at.years × (place < widest_tie) × (of.columns ≤ columns) }
     ensures { Bars sheet.now of table.now at.mask at.years place result }
 {
     let columns = of.columns;
@@ -121,7 +121,7 @@ fn bar(sheet: &Sheet, of: Size, table: &Table, at: At, place: u32) -> Room
 
 // The column to be asked first of the next bid, where this one, at a binary place, cannot be added; where it can, one past all columns.
 fn ask(sheet: &Sheet, of: Size, table: &Table, at: At, place: u32, room: Room) -> Room
-    requires { Searching sheet.now of table.now × Adds table.now × Known table.now at.mask at.years × (place < widestTie) × Roomed sheet.now of table.now at.mask at.years room }
+    requires { Searching sheet.now of table.now × Adds table.now × Known table.now at.mask at.years × (place < widest_tie) × Roomed sheet.now of table.now at.mask at.years room }
     ensures { Asks sheet.now of table.now at.mask at.years place result }
 {
     if member(at.mask, place) {
@@ -142,8 +142,8 @@ fn ask(sheet: &Sheet, of: Size, table: &Table, at: At, place: u32, room: Room) -
 
 // Can none of so many bids be added?
 pub fn whole(sheet: &Sheet, of: Size, table: &Table, count: u32, narrow: Narrow, mask: u32) -> bool
-    requires { Searching sheet.now of table.now × Adds table.now × (count ≤ widestTie) × Narrows of table.now count narrow × (mask < combinations) }
-    ensures { Closes (okBy sheet.now of table.now) mask count result }
+    requires { Searching sheet.now of table.now × Adds table.now × (count ≤ widest_tie) × Narrows of table.now count narrow × (mask < combinations) }
+    ensures { Closes (ok_by sheet.now of table.now) mask count result }
 {
     let at = At {
         mask,

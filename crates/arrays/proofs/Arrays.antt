@@ -11,13 +11,13 @@ use lib.Seq.{get_or-set_same, get_or-set_other}
 use native.Mathlib.Decide.{dec_le, dec_lt}
 use lib.Dec.{eqb, ltb}
 use borrow.Author.Tests.{eqb-true, eqb-false, eq-eqb, ne_eqb, lt-ltb, le-ltb}
-use Rattle.rules.specs.Names.{mostBids}
+use Rattle.rules.specs.Names.{most_bids}
 use Rattle.rules.specs.Lists.{pick, memb, sift, below}
-use Rattle.laws_pot.specs.Lists.{case, clash, memb-in, in-memb, in-sift, sift-in, sift-same, in-below, below_in}
+use Rattle.laws_pot.specs.Lists.{case, clash, memb_in, in_memb, in_sift, sift_in, sift_same, in_below, below_in}
 use Rattle.arrays.specs.Sets.{fill, placed, none, built, members}
 
-pub eqb-sym : (a b : ℕ) → eqb a b ≡ eqb b a
-eqb-sym a b = case (eqb a b) (λ t. rw (t, eq-eqb b a (sym (eqb-true a b t)))) (λ f. rw (f, ne_eqb b a (λ e. eqb-false a b f (sym e))))
+pub eqb_sym : (a b : ℕ) → eqb a b ≡ eqb b a
+eqb_sym a b = case (eqb a b) (λ t. rw (t, eq-eqb b a (sym (eqb-true a b t)))) (λ f. rw (f, ne_eqb b a (λ e. eqb-false a b f (sym e))))
 
 -- one place written; and a place of a repeated value
 pub put_is : {A : Type 0} (l : List A) (i k : ℕ) (v d : A) → i < length l → get_or (set l i v) k d ≡ pick (eqb k i) v (get_or l k d)
@@ -26,46 +26,46 @@ put_is l i k v d h =
     (λ t. let q = eqb-true k i t in rw (t, q) (get_or-set_same l i v d h))
     (λ f. rw f (get_or-set_other l i k v d (eqb-false k i f)))
 
-pub at-start : {A : Type 0} (c i : ℕ) (v d : A) → i < c → get_or (replicate c v) i d ≡ v
-at-start zero i v d h = absurd (omega arith)
-at-start (suc c) zero v d h = refl
-at-start (suc c) (suc i) v d h = at-start c i v d (omega arith)
+pub at_start : {A : Type 0} (c i : ℕ) (v d : A) → i < c → get_or (replicate c v) i d ≡ v
+at_start zero i v d h = absurd (omega arith)
+at_start (suc c) zero v d h = refl
+at_start (suc c) (suc i) v d h = at_start c i v d (omega arith)
 
-pub pick-or : {A : Type 0} (a b : Bool) (x y : A) → pick a x (pick b x y) ≡ pick (a || b) x y
-pick-or true b x y = refl
-pick-or false b x y = refl
+pub pick_or : {A : Type 0} (a b : Bool) (x y : A) → pick a x (pick b x y) ≡ pick (a || b) x y
+pick_or true b x y = refl
+pick_or false b x y = refl
 
-pub memb-sift : (f : ℕ → Bool) (i n : ℕ) → i < n → memb i (sift f (below n)) ≡ f i
-memb-sift f i n h =
-    case (f i) (λ t. rw t (in-memb (in-sift f (in-below i n h) t)))
-    (λ g. rw g (case (memb i (sift f (below n))) (λ t. clash (sift-in i f (below n) (memb-in i (sift f (below n)) t)).1 g) (λ u. u)))
+pub memb_sift : (f : ℕ → Bool) (i n : ℕ) → i < n → memb i (sift f (below n)) ≡ f i
+memb_sift f i n h =
+    case (f i) (λ t. rw t (in_memb (in_sift f (in_below i n h) t)))
+    (λ g. rw g (case (memb i (sift f (below n))) (λ t. clash (sift_in i f (below n) (memb_in i (sift f (below n)) t)).1 g) (λ u. u)))
 
 -- an array that is filled has at each place what its number gives
-pub fill-length : {A : Type 0} (l : List A) (f : ℕ → A) (n : ℕ) → length (fill l f n) ≡ length l
+pub fill_length : {A : Type 0} (l : List A) (f : ℕ → A) (n : ℕ) → length (fill l f n) ≡ length l
 unfolding fill
-fill-length l f zero = refl
-fill-length l f (suc n) = length-set (fill l f n) n (f n) ∙ fill-length l f n
+fill_length l f zero = refl
+fill_length l f (suc n) = length-set (fill l f n) n (f n) ∙ fill_length l f n
 
-pub fill-at : {A : Type 0} (l : List A) (f : ℕ → A) (n k : ℕ) (d : A) → n ≤ length l → k < n → get_or (fill l f n) k d ≡ f k
+pub fill_at : {A : Type 0} (l : List A) (f : ℕ → A) (n k : ℕ) (d : A) → n ≤ length l → k < n → get_or (fill l f n) k d ≡ f k
 unfolding fill
-fill-at l f zero k d h g = absurd (omega arith)
-fill-at l f (suc n) k d h g =
-    put_is (fill l f n) n k (f n) d (omega (arith, fill-length l f n))
-    ∙ case (eqb k n) (λ t. rw (t, eqb-true k n t)) (λ u. let q = eqb-false k n u in rw u (fill-at l f n k d (omega arith) (omega arith)))
+fill_at l f zero k d h g = absurd (omega arith)
+fill_at l f (suc n) k d h g =
+    put_is (fill l f n) n k (f n) d (omega (arith, fill_length l f n))
+    ∙ case (eqb k n) (λ t. rw (t, eqb-true k n t)) (λ u. let q = eqb-false k n u in rw u (fill_at l f n k d (omega arith) (omega arith)))
 
 -- a place that is not filled yet; and one that holds its value already
-pub fill-rest : {A : Type 0} (l : List A) (f : ℕ → A) (n k : ℕ) (d : A) → n ≤ k → get_or (fill l f n) k d ≡ get_or l k d
+pub fill_rest : {A : Type 0} (l : List A) (f : ℕ → A) (n k : ℕ) (d : A) → n ≤ k → get_or (fill l f n) k d ≡ get_or l k d
 unfolding fill
-fill-rest l f zero k d h = refl
-fill-rest l f (suc n) k d h = get_or-set_other (fill l f n) n k (f n) d (λ e. omega arith) ∙ fill-rest l f n k d (omega arith)
+fill_rest l f zero k d h = refl
+fill_rest l f (suc n) k d h = get_or-set_other (fill l f n) n k (f n) d (λ e. omega arith) ∙ fill_rest l f n k d (omega arith)
 
 -- every place of a blank array of which the first n are filled
-pub fill-each : {A : Type 0} (l : List A) (f g : ℕ → A) (n : ℕ) (d : A) → n ≤ length l → ((k : ℕ) → get_or l k d ≡ d) → ((k : ℕ) → k < n → f k ≡ g k)
+pub fill_each : {A : Type 0} (l : List A) (f g : ℕ → A) (n : ℕ) (d : A) → n ≤ length l → ((k : ℕ) → get_or l k d ≡ d) → ((k : ℕ) → k < n → f k ≡ g k)
     → (k : ℕ) → get_or (fill l f n) k d ≡ pick (ltb k n) (g k) d
-fill-each l f g n d h e q k =
+fill_each l f g n d h e q k =
     elim (dec_lt k n) [
-      | yes y ↦ rw (lt-ltb k n y) (fill-at l f n k d h y ∙ q k y)
-      | no z ↦ rw (le-ltb k n (omega (arith, z))) (fill-rest l f n k d (omega (arith, z)) ∙ e k)
+      | yes y ↦ rw (lt-ltb k n y) (fill_at l f n k d h y ∙ q k y)
+      | no z ↦ rw (le-ltb k n (omega (arith, z))) (fill_rest l f n k d (omega (arith, z)) ∙ e k)
     ]
 
 set_same : {A : Type 0} (l : List A) (i : ℕ) (d : A) → i < length l → l ≡ set l i (get_or l i d)
@@ -73,67 +73,67 @@ set_same [] i d h = absurd (omega arith)
 set_same (x ∷ l) zero d h = refl
 set_same (x ∷ l) (suc i) d h = ap (λ t. x ∷ t) (set_same l i d (omega arith))
 
-pub fill-stays : {A : Type 0} (l : List A) (f : ℕ → A) (n : ℕ) (d : A) {out : List A} → out ≡ fill l f n → n < length l → f n ≡ get_or l n d
+pub fill_stays : {A : Type 0} (l : List A) (f : ℕ → A) (n : ℕ) (d : A) {out : List A} → out ≡ fill l f n → n < length l → f n ≡ get_or l n d
     → out ≡ fill l f (n + 1)
 unfolding fill
-fill-stays l f n d e h v =
-    e ∙ set_same (fill l f n) n d (omega (arith, fill-length l f n)) ∙ ap (set (fill l f n) n) (fill-rest l f n n d (omega arith) ∙ sym v)
+fill_stays l f n d e h v =
+    e ∙ set_same (fill l f n) n d (omega (arith, fill_length l f n)) ∙ ap (set (fill l f n) n) (fill_rest l f n n d (omega arith) ∙ sym v)
     ∙ ap (λ (x : ℕ). fill l f x) (sym (add-one n))
 
 -- and so do all those up to m
-pub fill-rests : {A : Type 0} (l : List A) (f : ℕ → A) (n m : ℕ) (d : A) {out : List A} → out ≡ fill l f n → n ≤ m → m ≤ length l
+pub fill_rests : {A : Type 0} (l : List A) (f : ℕ → A) (n m : ℕ) (d : A) {out : List A} → out ≡ fill l f n → n ≤ m → m ≤ length l
     → ((i : ℕ) → n ≤ i → i < m → f i ≡ get_or l i d) → out ≡ fill l f m
-fill-rests l f n zero d e h g v = e ∙ ap (fill l f) (omega arith)
-fill-rests l f n (suc m) d e h g v =
+fill_rests l f n zero d e h g v = e ∙ ap (fill l f) (omega arith)
+fill_rests l f n (suc m) d e h g v =
     elim (dec_le n m) [
-      | yes y ↦ fill-stays l f m d (fill-rests l f n m d e y (omega arith) (λ i a b. v i a (omega arith))) (omega arith) (v m y (omega arith))
+      | yes y ↦ fill_stays l f m d (fill_rests l f n m d e y (omega arith) (λ i a b. v i a (omega arith))) (omega arith) (v m y (omega arith))
           ∙ ap (fill l f) (add-one m)
       | no z ↦ e ∙ ap (fill l f) (omega (arith, z))
     ]
 
 -- an array into which values are laid has these at their places, and all else as it was
-pub placed-length : {A : Type 0} (f : ℕ → A) (l : List A) (at n : ℕ) → length (placed f l at n) ≡ length l
+pub placed_length : {A : Type 0} (f : ℕ → A) (l : List A) (at n : ℕ) → length (placed f l at n) ≡ length l
 unfolding placed
-placed-length f l at zero = refl
-placed-length f l at (suc n) = length-set (placed f l at n) (at + n) (f n) ∙ placed-length f l at n
+placed_length f l at zero = refl
+placed_length f l at (suc n) = length-set (placed f l at n) (at + n) (f n) ∙ placed_length f l at n
 
 pub placed_at : {A : Type 0} (f : ℕ → A) (l : List A) (at n k : ℕ) (d : A) → at + n ≤ length l → k < n → get_or (placed f l at n) (at + k) d ≡ f k
 unfolding placed
 placed_at f l at zero k d h g = absurd (omega arith)
 placed_at f l at (suc n) k d h g =
-    put_is (placed f l at n) (at + n) (at + k) (f n) d (omega (arith, placed-length f l at n))
+    put_is (placed f l at n) (at + n) (at + k) (f n) d (omega (arith, placed_length f l at n))
     ∙ case (eqb k n)
     (λ t. let q = eqb-true k n t in rw (q, eq-eqb (at + n) (at + n) refl))
     (λ u. let q = eqb-false k n u in rw (ne_eqb (at + k) (at + n) (λ e. q (omega arith))) (placed_at f l at n k d (omega arith) (omega arith)))
 
-pub placed-other : {A : Type 0} (f : ℕ → A) (l : List A) (at n j : ℕ) (d : A) → ((k : ℕ) → k < n → j ≡ at + k → ⊥)
+pub placed_other : {A : Type 0} (f : ℕ → A) (l : List A) (at n j : ℕ) (d : A) → ((k : ℕ) → k < n → j ≡ at + k → ⊥)
     → get_or (placed f l at n) j d ≡ get_or l j d
 unfolding placed
-placed-other f l at zero j d h = refl
-placed-other f l at (suc n) j d h =
-    get_or-set_other (placed f l at n) (at + n) j (f n) d (h n (omega arith)) ∙ placed-other f l at n j d (λ k g. h k (omega arith))
+placed_other f l at zero j d h = refl
+placed_other f l at (suc n) j d h =
+    get_or-set_other (placed f l at n) (at + n) j (f n) d (h n (omega arith)) ∙ placed_other f l at n j d (λ k g. h k (omega arith))
 
 -- what is laid after the places that are filled fills on
-pub placed-fill : {A : Type 0} (l : List A) (f g : ℕ → A) (at n : ℕ) → ((k : ℕ) → k < n → g k ≡ f (at + k)) → placed g (fill l f at) at n ≡ fill l f (at + n)
+pub placed_fill : {A : Type 0} (l : List A) (f g : ℕ → A) (at n : ℕ) → ((k : ℕ) → k < n → g k ≡ f (at + k)) → placed g (fill l f at) at n ≡ fill l f (at + n)
 unfolding placed fill
-placed-fill l f g at zero h = let e : at ≡ at + 0 = omega arith in ap (fill l f) e
-placed-fill l f g at (suc n) h = rw (placed-fill l f g at n (λ k i. h k (omega arith)), h n (omega arith), add-suc at n)
+placed_fill l f g at zero h = let e : at ≡ at + 0 = omega arith in ap (fill l f) e
+placed_fill l f g at (suc n) h = rw (placed_fill l f g at n (λ k i. h k (omega arith)), h n (omega arith), add-suc at n)
 
 -- a set has the members that its test says
-pub members-built : (f : ℕ → Bool) (n : ℕ) → n ≤ mostBids → members (built f n) n ≡ sift f (below n)
+pub members_built : (f : ℕ → Bool) (n : ℕ) → n ≤ most_bids → members (built f n) n ≡ sift f (below n)
 unfolding members
-members-built f n h = sift-same (λ i. get_or (built f n) i false) f (below n) (λ k i. fill-at none f n k false (size h) (below_in k n i))
+members_built f n h = sift_same (λ i. get_or (built f n) i false) f (below n) (λ k i. fill_at none f n k false (size h) (below_in k n i))
   where
-    size : n ≤ mostBids → n ≤ length none
+    size : n ≤ most_bids → n ≤ length none
     size h = unfold none in h
 
 -- where no number is above q, no place is
-pub fill-le : (l : List ℕ) (f : ℕ → ℕ) (q n i : ℕ) → n ≤ length l → ((j : ℕ) → j < n → f j ≤ q) → ((j : ℕ) → get_or l j 0 ≤ q) → get_or (fill l f n) i 0 ≤ q
+pub fill_le : (l : List ℕ) (f : ℕ → ℕ) (q n i : ℕ) → n ≤ length l → ((j : ℕ) → j < n → f j ≤ q) → ((j : ℕ) → get_or l j 0 ≤ q) → get_or (fill l f n) i 0 ≤ q
 unfolding fill
-fill-le l f q zero i h b s = s i
-fill-le l f q (suc n) i h b s =
-    rw (put_is (fill l f n) n i (f n) 0 (omega (arith, fill-length l f n)))
-    (case (eqb i n) (λ t. rw t (b n (omega arith))) (λ g. rw g (fill-le l f q n i (omega arith) (λ j k. b j (omega arith)) s)))
+fill_le l f q zero i h b s = s i
+fill_le l f q (suc n) i h b s =
+    rw (put_is (fill l f n) n i (f n) 0 (omega (arith, fill_length l f n)))
+    (case (eqb i n) (λ t. rw t (b n (omega arith))) (λ g. rw g (fill_le l f q n i (omega arith) (λ j k. b j (omega arith)) s)))
 
 -- a repeated value, by what is read of it, past its end too
 pub same_at : {A B : Type 0} (f : A → B) (n i : ℕ) (v d : A) → f v ≡ f d → f (get_or (replicate n v) i d) ≡ f d
@@ -148,10 +148,10 @@ pub zeros : (n i : ℕ) → ◌≡◌ {A = ℕ} (get_or (replicate n 0) i 0) 0
 zeros n i = repeated n i 0
 
 -- fewer places, fewer members
-pub members-less : (l : List Bool) (n m : ℕ) → n ≤ m → length (members l n) ≤ length (members l m)
+pub members_less : (l : List Bool) (n m : ℕ) → n ≤ m → length (members l n) ≤ length (members l m)
 unfolding members
-members-less l n zero h = let e : n ≡ 0 = omega arith in rw e (omega arith)
-members-less l n (suc m) h =
+members_less l n zero h = let e : n ≡ 0 = omega arith in rw e (omega arith)
+members_less l n (suc m) h =
     case (eqb n (suc m)) (λ t. rw (eqb-true n (suc m) t) (omega arith))
-    (λ f. let r = members-less l n m (let d = eqb-false n (suc m) f in omega arith) in
+    (λ f. let r = members_less l n m (let d = eqb-false n (suc m) f in omega arith) in
     case (get_or l m false) (λ t. rw t (omega arith)) (λ u. rw u (omega arith)))

@@ -1,6 +1,6 @@
 -- Arrays that are filled or laid place by place, and sets of bids as arrays. Assumes nothing.
 use Rattle.std.specs.Prelude.{ℕ, zero, suc, ◌+◌, Bool, false, not, ◌&&◌, List, [], ◌∷◌, get_or, set, replicate}
-use Rattle.rules.specs.Names.{mostBids}
+use Rattle.rules.specs.Names.{most_bids}
 use Rattle.rules.specs.Lists.{sift, below}
 
 -- an array whose first n places have been filled, each by its number
@@ -15,7 +15,7 @@ placed f l at (suc k) = set (placed f l at k) (at + k) (f k)
 
 -- the set of none, and the set of those below n that pass a test
 unfoldable pub none : List Bool
-none = replicate mostBids false
+none = replicate most_bids false
 
 abbrev pub built : (ℕ → Bool) → ℕ → List Bool
 built f n = fill none f n

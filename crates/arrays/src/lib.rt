@@ -1,13 +1,13 @@
 // Sets of bids, as arrays with a place for each bid by number. specs/Sets.antt says what each function computes.
 ghost use Rattle.std.specs.Prelude.{◌≡◌, not, ◌&&◌, ◌≤◌, ◌<◌, length};
-ghost use Rattle.rules.specs.Names.{mostBids};
+ghost use Rattle.rules.specs.Names.{most_bids};
 ghost use Rattle.arrays.specs.Sets.{built, members, without};
 
 use names::BIDS;
 
 // How many bids a set has.
 pub fn count(set: [bool; BIDS], bids: usize) -> usize
-    requires { bids ≤ mostBids }
+    requires { bids ≤ most_bids }
     ensures { result ≡ length (members set bids) }
 {
     let mut count: usize = 0;
@@ -30,7 +30,7 @@ fn stays(within: bool, out: bool) -> bool
 
 // A set without the bids of another.
 pub fn others(set: [bool; BIDS], out: [bool; BIDS], bids: usize) -> [bool; BIDS]
-    requires { bids ≤ mostBids }
+    requires { bids ≤ most_bids }
     ensures { result ≡ built (without set out) bids }
 {
     let mut rest = [false; BIDS];

@@ -7,83 +7,83 @@ use native.Mathlib.Omega.{arith}
 use lib.ListN.{length, get_or, length-set}
 use lib.Dec.{eqb, ltb}
 use borrow.Author.Tests.{eqb-true}
-use Rattle.rules.specs.Names.{mostYears, mostBids, mostApps, noBid, noReason, becauseWon}
+use Rattle.rules.specs.Names.{most_years, most_bids, most_apps, no_bid, no_reason, because_won}
 use Rattle.rules.specs.Lists.{pick, memb, sift, below}
 use Rattle.laws_pot.specs.Lists.{case}
-use Rattle.sheet.specs.Sheet.{rowApp, entrantAt, entrants}
-use Rattle.arrays.proofs.Arrays.{eqb-sym, put_is, at-start, fill-each, zeros}
-use Rattle.auction.specs.Numbers.{reasonAt, noReasons, reasonsOf, automaticsOf, winningOf, noMoney, moneyOf}
+use Rattle.sheet.specs.Sheet.{row_app, entrant_at, entrants}
+use Rattle.arrays.proofs.Arrays.{eqb_sym, put_is, at_start, fill_each, zeros}
+use Rattle.auction.specs.Numbers.{reason_at, no_reasons, reasons_of, automatics_of, winning_of, no_money, money_of}
 
 -- the money of a row of totals
-pub money-each : (row : List ℕ) (g : ℕ → ℕ) (n : ℕ) → n ≤ mostYears → ((y : ℕ) → y < n → get_or row y 0 ≡ g y)
-    → (y : ℕ) → get_or (moneyOf row n) y 0 ≡ pick (ltb y n) (g y) 0
-money-each row g n h q y = fill-each noMoney (λ y. get_or row y 0) g n 0 (long h) blank q y
+pub money_each : (row : List ℕ) (g : ℕ → ℕ) (n : ℕ) → n ≤ most_years → ((y : ℕ) → y < n → get_or row y 0 ≡ g y)
+    → (y : ℕ) → get_or (money_of row n) y 0 ≡ pick (ltb y n) (g y) 0
+money_each row g n h q y = fill_each no_money (λ y. get_or row y 0) g n 0 (long h) blank q y
   where
-    long : n ≤ mostYears → n ≤ length noMoney
-    long h = unfold noMoney in h
+    long : n ≤ most_years → n ≤ length no_money
+    long h = unfold no_money in h
 
-    blank : (k : ℕ) → ◌≡◌ {A = ℕ} (get_or noMoney k 0) 0
-    blank k = unfold noMoney in zeros mostYears k
+    blank : (k : ℕ) → ◌≡◌ {A = ℕ} (get_or no_money k 0) 0
+    blank k = unfold no_money in zeros most_years k
 
 -- ---- reasons
 
-reasons-length : (sheet marks : List ℕ) (won : List Bool) (j : ℕ) → length (reasonsOf sheet marks won j) ≡ mostBids
-unfolding reasonsOf
-reasons-length sheet marks won zero = unfold noReasons in refl
-reasons-length sheet marks won (suc j) =
-    length-set (reasonsOf sheet marks won j) (entrantAt sheet j) (reasonAt sheet marks won (entrantAt sheet j)) ∙ reasons-length sheet marks won j
+reasons_length : (sheet marks : List ℕ) (won : List Bool) (j : ℕ) → length (reasons_of sheet marks won j) ≡ most_bids
+unfolding reasons_of
+reasons_length sheet marks won zero = unfold no_reasons in refl
+reasons_length sheet marks won (suc j) =
+    length-set (reasons_of sheet marks won j) (entrant_at sheet j) (reason_at sheet marks won (entrant_at sheet j)) ∙ reasons_length sheet marks won j
 
-pub reasons-at : (sheet marks : List ℕ) (won : List Bool) (j k : ℕ) → ((i : ℕ) → i < j → entrantAt sheet i < mostBids)
-    → get_or (reasonsOf sheet marks won j) k 0 ≡ pick (memb k (entrants sheet j)) (reasonAt sheet marks won k) noReason
-unfolding reasonsOf entrants
-reasons-at sheet marks won zero k h = unfold noReasons in zeros mostBids k
-reasons-at sheet marks won (suc j) k h =
-    let e = entrantAt sheet j in
-    put_is (reasonsOf sheet marks won j) e k (reasonAt sheet marks won e) 0 (omega (arith, reasons-length sheet marks won j, h j (omega arith)))
-    ∙ case (eqb k e) (λ t. rw (t, eqb-true k e t)) (λ f. rw f (reasons-at sheet marks won j k (λ i l. h i (omega arith))))
+pub reasons_at : (sheet marks : List ℕ) (won : List Bool) (j k : ℕ) → ((i : ℕ) → i < j → entrant_at sheet i < most_bids)
+    → get_or (reasons_of sheet marks won j) k 0 ≡ pick (memb k (entrants sheet j)) (reason_at sheet marks won k) no_reason
+unfolding reasons_of entrants
+reasons_at sheet marks won zero k h = unfold no_reasons in zeros most_bids k
+reasons_at sheet marks won (suc j) k h =
+    let e = entrant_at sheet j in
+    put_is (reasons_of sheet marks won j) e k (reason_at sheet marks won e) 0 (omega (arith, reasons_length sheet marks won j, h j (omega arith)))
+    ∙ case (eqb k e) (λ t. rw (t, eqb-true k e t)) (λ f. rw f (reasons_at sheet marks won j k (λ i l. h i (omega arith))))
 
 -- ---- automatic reasons
 
-automatics-length : (sheet : List ℕ) (why j : ℕ) → length (automaticsOf sheet why j) ≡ mostApps
-unfolding automaticsOf
-automatics-length sheet why zero = refl
-automatics-length sheet why (suc j) = length-set (automaticsOf sheet why j) (rowApp sheet (entrantAt sheet j)) noReason ∙ automatics-length sheet why j
+automatics_length : (sheet : List ℕ) (why j : ℕ) → length (automatics_of sheet why j) ≡ most_apps
+unfolding automatics_of
+automatics_length sheet why zero = refl
+automatics_length sheet why (suc j) = length-set (automatics_of sheet why j) (row_app sheet (entrant_at sheet j)) no_reason ∙ automatics_length sheet why j
 
 -- none where one of the bids passed is of the application
-pub automatics-at : (sheet : List ℕ) (why j a : ℕ) → ((i : ℕ) → i < j → rowApp sheet (entrantAt sheet i) < mostApps) → a < mostApps
-    → get_or (automaticsOf sheet why j) a 0 ≡ pick (not (memb a (map (rowApp sheet) (entrants sheet j)))) why noReason
-unfolding automaticsOf entrants
-automatics-at sheet why zero a h l = at-start mostApps a why 0 l
-automatics-at sheet why (suc j) a h l =
-    let e = rowApp sheet (entrantAt sheet j) in
-    put_is (automaticsOf sheet why j) e a noReason 0 (omega (arith, automatics-length sheet why j, h j (omega arith)))
-    ∙ case (eqb a e) (λ t. rw t) (λ f. rw f (automatics-at sheet why j a (λ i g. h i (omega arith)) l))
+pub automatics_at : (sheet : List ℕ) (why j a : ℕ) → ((i : ℕ) → i < j → row_app sheet (entrant_at sheet i) < most_apps) → a < most_apps
+    → get_or (automatics_of sheet why j) a 0 ≡ pick (not (memb a (map (row_app sheet) (entrants sheet j)))) why no_reason
+unfolding automatics_of entrants
+automatics_at sheet why zero a h l = at_start most_apps a why 0 l
+automatics_at sheet why (suc j) a h l =
+    let e = row_app sheet (entrant_at sheet j) in
+    put_is (automatics_of sheet why j) e a no_reason 0 (omega (arith, automatics_length sheet why j, h j (omega arith)))
+    ∙ case (eqb a e) (λ t. rw t) (λ f. rw f (automatics_at sheet why j a (λ i g. h i (omega arith)) l))
 
 -- ---- winning bids
 
 -- an application's winning bid, where those that won for it are listed
-abbrev pub bidOr : List ℕ → ℕ
-bidOr [] = noBid
-bidOr (w ∷ ws) = w
+abbrev pub bid_or : List ℕ → ℕ
+bid_or [] = no_bid
+bid_or (w ∷ ws) = w
 
 -- the winning bid of application a among the bids below n: the last that is marked as won for it
-abbrev pub wonFor : (sheet marks : List ℕ) (a w : ℕ) → Bool
-wonFor sheet marks a w = eqb (rowApp sheet w) a && eqb (get_or marks w 0) becauseWon
+abbrev pub won_for : (sheet marks : List ℕ) (a w : ℕ) → Bool
+won_for sheet marks a w = eqb (row_app sheet w) a && eqb (get_or marks w 0) because_won
 
-winning-length : (sheet marks : List ℕ) (n : ℕ) → length (winningOf sheet marks n) ≡ mostApps
-unfolding winningOf
-winning-length sheet marks zero = refl
-winning-length sheet marks (suc n) =
-    case (eqb (get_or marks n 0) becauseWon) (λ t. rw t (length-set (winningOf sheet marks n) (rowApp sheet n) n ∙ winning-length sheet marks n))
-    (λ f. rw f (winning-length sheet marks n))
+winning_length : (sheet marks : List ℕ) (n : ℕ) → length (winning_of sheet marks n) ≡ most_apps
+unfolding winning_of
+winning_length sheet marks zero = refl
+winning_length sheet marks (suc n) =
+    case (eqb (get_or marks n 0) because_won) (λ t. rw t (length-set (winning_of sheet marks n) (row_app sheet n) n ∙ winning_length sheet marks n))
+    (λ f. rw f (winning_length sheet marks n))
 
-pub winning-at : (sheet marks : List ℕ) (n a : ℕ) → ((k : ℕ) → k < n → rowApp sheet k < mostApps) → a < mostApps
-    → get_or (winningOf sheet marks n) a 0 ≡ bidOr (sift (wonFor sheet marks a) (below n))
-unfolding winningOf
-winning-at sheet marks zero a h l = at-start mostApps a noBid 0 l
-winning-at sheet marks (suc n) a h l =
-    let ih = winning-at sheet marks n a (λ k g. h k (omega arith)) l in
-    case (eqb (get_or marks n 0) becauseWon)
-    (λ t. rw t (put_is (winningOf sheet marks n) (rowApp sheet n) a n 0 (omega (arith, winning-length sheet marks n, h n (omega arith)))
-    ∙ rw (eqb-sym a (rowApp sheet n)) (case (eqb (rowApp sheet n) a) (λ u. rw u) (λ u. rw u ih))))
-    (λ f. rw f (case (eqb (rowApp sheet n) a) (λ u. rw u ih) (λ u. rw u ih)))
+pub winning_at : (sheet marks : List ℕ) (n a : ℕ) → ((k : ℕ) → k < n → row_app sheet k < most_apps) → a < most_apps
+    → get_or (winning_of sheet marks n) a 0 ≡ bid_or (sift (won_for sheet marks a) (below n))
+unfolding winning_of
+winning_at sheet marks zero a h l = at_start most_apps a no_bid 0 l
+winning_at sheet marks (suc n) a h l =
+    let ih = winning_at sheet marks n a (λ k g. h k (omega arith)) l in
+    case (eqb (get_or marks n 0) because_won)
+    (λ t. rw t (put_is (winning_of sheet marks n) (row_app sheet n) a n 0 (omega (arith, winning_length sheet marks n, h n (omega arith)))
+    ∙ rw (eqb_sym a (row_app sheet n)) (case (eqb (row_app sheet n) a) (λ u. rw u) (λ u. rw u ih))))
+    (λ f. rw f (case (eqb (row_app sheet n) a) (λ u. rw u ih) (λ u. rw u ih)))

@@ -1,10 +1,10 @@
 // The clearing of one pot: the first test, the auction, and what is told of the pot, of its applications and of its bids. specs/Cleared.antt says what it is in
 // the words of the rules, specs/Numbers.antt what each function computes.
 ghost use Rattle.std.specs.Prelude.{◌≡◌, ◌≤◌, ◌<◌};
-ghost use Rattle.rules.specs.Names.{mostYears};
-ghost use Rattle.sheet.specs.Sheet.{potIn, Ready};
+ghost use Rattle.rules.specs.Names.{most_years};
+ghost use Rattle.sheet.specs.Sheet.{pot_in, Ready};
 ghost use Rattle.auction.specs.Cleared.{EndedAs, ClearedAs};
-ghost use Rattle.auction.specs.Numbers.{reasonBy, reasonsOf, automaticsOf, winningOf, toldBy, appsOf, flatOf, soldOf, moneyOf};
+ghost use Rattle.auction.specs.Numbers.{reason_by, reasons_of, automatics_of, winning_of, told_by, apps_of, flat_of, sold_of, money_of};
 
 use names::{APPS, BIDS, MOST_DELIVERIES, YEARS};
 use pot::PotState;
@@ -39,7 +39,7 @@ const AT_ADMIN: u64 = BIDS as u64;
 
 // The reason of a bid by its mark: where it was not looked at, 4 if its application won and else 5.
 fn reason(mark: u16, won: bool) -> u64
-    ensures { result ≡ reasonBy mark won }
+    ensures { result ≡ reason_by mark won }
 {
     if mark != totals::marks::FRESH {
         return mark as u64;
@@ -54,7 +54,7 @@ fn reason(mark: u16, won: bool) -> u64
 // The reasons of the bids of the auction, by their numbers.
 fn reasons(sheet: &Sheet, of: Size, marks: [u16; BIDS], won: [bool; APPS]) -> [u64; BIDS]
     requires { Ready sheet.now of }
-    ensures { result ≡ reasonsOf sheet.now marks won of.entered }
+    ensures { result ≡ reasons_of sheet.now marks won of.entered }
 {
     let mut out = [names::NO_REASON; BIDS];
     let m = of.entered;
@@ -71,7 +71,7 @@ fn reasons(sheet: &Sheet, of: Size, marks: [u16; BIDS], won: [bool; APPS]) -> [u
 // The number of each application's winning bid.
 fn winning(sheet: &Sheet, of: Size, marks: [u16; BIDS]) -> [u64; APPS]
     requires { Ready sheet.now of }
-    ensures { result ≡ winningOf sheet.now marks of.bids }
+    ensures { result ≡ winning_of sheet.now marks of.bids }
 {
     let mut out = [names::NO_BID; APPS];
     let m = of.bids;
@@ -89,7 +89,7 @@ fn winning(sheet: &Sheet, of: Size, marks: [u16; BIDS]) -> [u64; APPS]
 // The automatic reasons of the applications: none for those that have a bid in the pot, and `why` for the others.
 fn automatics(sheet: &Sheet, of: Size, why: u64) -> [u64; APPS]
     requires { Ready sheet.now of }
-    ensures { result ≡ automaticsOf sheet.now why of.entered }
+    ensures { result ≡ automatics_of sheet.now why of.entered }
 {
     let mut out = [why; APPS];
     let m = of.entered;
@@ -106,7 +106,7 @@ fn automatics(sheet: &Sheet, of: Size, why: u64) -> [u64; APPS]
 fn told(sheet: &Sheet, of: Size, prices: [u64; MOST_DELIVERIES], a: usize, w: u64, why: u64) -> Told
     requires ready { Ready sheet.now of }
     requires known { a < of.applications }
-    ensures { result ≡ toldBy sheet.now of prices a w why }
+    ensures { result ≡ told_by sheet.now of prices a w why }
 {
     let k = w as usize;
     if k < of.bids {
@@ -145,7 +145,7 @@ fn apps(
     automatics: [u64; APPS],
 ) -> [Told; APPS]
     requires { Ready sheet.now of }
-    ensures { result ≡ appsOf sheet.now of prices winning automatics of.applications }
+    ensures { result ≡ apps_of sheet.now of prices winning automatics of.applications }
 {
     let nothing = Told {
         won: 0,
@@ -166,7 +166,7 @@ fn apps(
 
 // Outcomes 0 and 2: no price, one mark for all bids, which is also the reason of applications without one, and all applications won with w, or lost.
 fn flat(outcome: u64, totals: [u64; COLUMNS], mark: u16, w: u64) -> End
-    ensures { result ≡ flatOf outcome totals mark w }
+    ensures { result ≡ flat_of outcome totals mark w }
 {
     End {
         outcome,
@@ -182,7 +182,7 @@ fn flat(outcome: u64, totals: [u64; COLUMNS], mark: u16, w: u64) -> End
 // Outcome 1, from the state in which the auction ended.
 fn sold(sheet: &Sheet, of: Size, s: PotState) -> End
     requires { Ready sheet.now of }
-    ensures { result ≡ soldOf sheet.now of s }
+    ensures { result ≡ sold_of sheet.now of s }
 {
     let marks = s.marks;
     let won = s.won;
@@ -228,8 +228,8 @@ fn ended(sheet: &Sheet, of: Size) -> End
 
 // What is told of a row of totals: the money of the years, and nothing of a column after them.
 fn money(of: Size, row: [u64; COLUMNS]) -> [u64; YEARS]
-    requires { of.years ≤ mostYears }
-    ensures { result ≡ moneyOf row of.years }
+    requires { of.years ≤ most_years }
+    ensures { result ≡ money_of row of.years }
 {
     let mut out = [0u64; YEARS];
     let years = of.years;
@@ -244,7 +244,7 @@ fn money(of: Size, row: [u64; COLUMNS]) -> [u64; YEARS]
 // The clearing of the pot that a sheet shows: it ends, and what is told of its applications and bids is told from how it ended, whatever the outcome.
 pub fn clear_pot(sheet: &Sheet, of: Size) -> Cleared
     requires { Ready sheet.now of }
-    ensures { ClearedAs of (potIn sheet.now of) result }
+    ensures { ClearedAs of (pot_in sheet.now of) result }
 {
     let e = ended(sheet, of);
     let marks = e.marks;

@@ -1,20 +1,20 @@
 -- What the checks of the bids' records answer. Assumes nothing.
 use Rattle.std.specs.Prelude.{ℕ, ◌+◌, ◌*◌, ◌≤◌, ◌<◌, ◌≡◌, List, [], length, get_or}
 use Rattle.std.proofs.Math.Decide.{dec_le, dec_lt, ℕ_discrete}
-use Rattle.rules.specs.Names.{bidBroken, countWidth, yearWidth, techWidth, appWidth, bidWidth, mostYears}
+use Rattle.rules.specs.Names.{bid_broken, count_width, year_width, tech_width, app_width, bid_width, most_years}
 use Rattle.rules.specs.Lists.{given, both, when}
-use Rattle.rules.specs.File.{Round, App, Bid, yearAt, techAt, appAt, bidAt}
-use Rattle.rules.specs.Refusals.{scan, recordFault, bidFault, sameApp?, elevenOf}
+use Rattle.rules.specs.File.{Round, App, Bid, year_at, tech_at, app_at, bid_at}
+use Rattle.rules.specs.Refusals.{scan, record_fault, bid_fault, same_app?, eleven_of}
 use Rattle.rules.specs.declared.Sections.{Sections}
 use Rattle.rules.specs.declared.Reading.{Reading}
 use Rattle.rules.specs.declared.Reading.TheVariants.{Accepted}
-use Rattle.layout.specs.Layout.{yearsIn, technologiesIn, applicationsIn}
+use Rattle.layout.specs.Layout.{years_in, technologies_in, applications_in}
 
 -- ---- rule 7, where the numbers have been read
 
 -- 7 of a bid beside its application, the days of its year and the administrative price
-unfoldable pub judgeOf : Bid → App → (most-days admin : ℕ) → ℕ
-judgeOf b a most-days admin =
+unfoldable pub judge_of : Bid → App → (most-days admin : ℕ) → ℕ
+judge_of b a most-days admin =
     given
     (both (dec_lt 0 b.days)
     (both (dec_le b.days most-days)
@@ -22,23 +22,23 @@ judgeOf b a most-days admin =
     (both (dec_le b.capacity a.capacity)
     (both (dec_le a.year b.year) (both (when (ℕ_discrete a.year b.year) (dec_le b.days a.days)) (dec_le b.price admin)))))))
     0
-    bidBroken
+    bid_broken
 
 -- 7 of a bid beside the sections of a file
 unfoldable pub held_of : List ℕ → Sections → Bid → ℕ
 held_of s g b =
-    let a = appAt (applicationsIn s g) b.app in
-    judgeOf b a (yearAt (yearsIn s g) b.year).days ((techAt g.years (technologiesIn s g) a.tech).admin b.year)
+    let a = app_at (applications_in s g) b.app in
+    judge_of b a (year_at (years_in s g) b.year).days ((tech_at g.years (technologies_in s g) a.tech).admin b.year)
 
 -- ---- the records
 
 -- the tables that a bid is held to, of a file whose sections before the bids these are. No rule of a bid reads the pots' records
 abbrev pub tables_of : (s recs : List ℕ) → Sections → Round
 tables_of s recs g = record {
-  years = yearsIn s g;
+  years = years_in s g;
   pots = [];
-  techs = technologiesIn s g;
-  apps = applicationsIn s g;
+  techs = technologies_in s g;
+  apps = applications_in s g;
   bids = recs;
   y = g.years;
   d = g.deliveries;
@@ -51,39 +51,39 @@ tables_of s recs g = record {
 
 -- what is to be known of the sections before the bids, so that a bid can be looked up in them
 pub record TablesRight (s : List ℕ) (g : Sections) : Type 0 where
-  pub years-start : countWidth ≤ g.pots_at
-  pub years-end : g.pots_at ≤ length s
-  pub techs-start : g.technologies_at + countWidth ≤ g.applications_at
-  pub techs-end : g.applications_at ≤ length s
-  pub apps-start : g.applications_at + countWidth ≤ g.bids_at
-  pub apps-end : g.bids_at ≤ length s
+  pub years_start : count_width ≤ g.pots_at
+  pub years_end : g.pots_at ≤ length s
+  pub techs_start : g.technologies_at + count_width ≤ g.applications_at
+  pub techs_end : g.applications_at ≤ length s
+  pub apps_start : g.applications_at + count_width ≤ g.bids_at
+  pub apps_end : g.bids_at ≤ length s
   pub few : g.deliveries ≤ g.years
-  pub most : g.years ≤ mostYears
-  pub years-whole : g.years * yearWidth ≤ length (yearsIn s g)
-  pub techs-whole : g.technologies * techWidth g.years ≤ length (technologiesIn s g)
-  pub apps-whole : g.applications * appWidth ≤ length (applicationsIn s g)
-  pub tech : (a : ℕ) → a < g.applications → (appAt (applicationsIn s g) a).tech < g.technologies
+  pub most : g.years ≤ most_years
+  pub years_whole : g.years * year_width ≤ length (years_in s g)
+  pub techs_whole : g.technologies * tech_width g.years ≤ length (technologies_in s g)
+  pub apps_whole : g.applications * app_width ≤ length (applications_in s g)
+  pub tech : (a : ℕ) → a < g.applications → (app_at (applications_in s g) a).tech < g.technologies
 
-unfoldable pub bidsOf : (s recs : List ℕ) → (base : ℕ) → Sections → Reading
-bidsOf s recs base g = scan (recordFault recs bidWidth (bidFault (tables_of s recs g))) bidWidth base 0 g.bids (Accepted g)
+unfoldable pub bids_of : (s recs : List ℕ) → (base : ℕ) → Sections → Reading
+bids_of s recs base g = scan (record_fault recs bid_width (bid_fault (tables_of s recs g))) bid_width base 0 g.bids (Accepted g)
 
 -- a round of n bids alone, for the rules that read nothing else
 abbrev pub alone : (recs : List ℕ) → (n : ℕ) → Round
 alone recs n = record { years = []; pots = []; techs = []; apps = []; bids = recs; y = 0; d = 0; c = 0; p = 0; t = 0; n = 0; b = n }
 
 -- are bids k and i of one application and at one price?
-abbrev pub samePrice? : (recs : List ℕ) → (k i : ℕ) → Dec (((bidAt recs k).app ≡ (bidAt recs i).app) × ((bidAt recs k).price ≡ (bidAt recs i).price))
-samePrice? recs k i = both (sameApp? (alone recs i) k i) (ℕ_discrete (bidAt recs k).price (bidAt recs i).price)
+abbrev pub same_price? : (recs : List ℕ) → (k i : ℕ) → Dec (((bid_at recs k).app ≡ (bid_at recs i).app) × ((bid_at recs k).price ≡ (bid_at recs i).price))
+same_price? recs k i = both (same_app? (alone recs i) k i) (ℕ_discrete (bid_at recs k).price (bid_at recs i).price)
 
-unfoldable pub lowestOf : (recs : List ℕ) → (base : ℕ) → Sections → Reading
-lowestOf recs base g = scan (elevenOf (alone recs g.bids)) bidWidth base 0 g.bids (Accepted g)
+unfoldable pub lowest_of : (recs : List ℕ) → (base : ℕ) → Sections → Reading
+lowest_of recs base g = scan (eleven_of (alone recs g.bids)) bid_width base 0 g.bids (Accepted g)
 
 -- ---- the earlier bids of an application, chained from the latest to the first
 
 -- the bids from r to k are not of application a
 pub record Free (recs : List ℕ) (a r k : ℕ) : Type 0 where
   pub within : r ≤ k
-  pub none : (j : ℕ) → r ≤ j → j < k → (bidAt recs j).app ≡ a → ⊥
+  pub none : (j : ℕ) → r ≤ j → j < k → (bid_at recs j).app ≡ a → ⊥
 
 -- the link of each application leads to its latest bid before bid i
 pub record Latest (recs latest : List ℕ) (i : ℕ) : Type 0 where
@@ -91,4 +91,4 @@ pub record Latest (recs latest : List ℕ) (i : ℕ) : Type 0 where
 
 -- the link of each bid before bid i leads to the previous bid of its application
 pub record Previous (recs previous : List ℕ) (i : ℕ) : Type 0 where
-  pub each : (k : ℕ) → k < i → Free recs (bidAt recs k).app (get_or previous k k) k
+  pub each : (k : ℕ) → k < i → Free recs (bid_at recs k).app (get_or previous k k) k

@@ -3,12 +3,12 @@
 // one for each bid. A number that has no place in them leads to the bid just before, and no bid is passed over.
 ghost use Rattle.std.specs.Prelude.{◌≡◌, ◌+◌, ◌≤◌, ◌<◌, get_or, set};
 ghost use Rattle.std.proofs.Math.Decide.{dec_lt};
-ghost use Rattle.rules.specs.Names.{bidWidth, bidsEach, bidsAYear, bidsTooMany};
-ghost use Rattle.rules.specs.File.{bidAt};
+ghost use Rattle.rules.specs.Names.{bid_width, bids_each, bids_a_year, bids_too_many};
+ghost use Rattle.rules.specs.File.{bid_at};
 ghost use Rattle.rules.specs.Lists.{given, both};
-ghost use Rattle.rules.specs.Refusals.{orFault, eightOf, nineOf, sameApp?, sameYear?};
+ghost use Rattle.rules.specs.Refusals.{or_fault, eight_of, nine_of, same_app?, same_year?};
 ghost use Rattle.layout.specs.Layout.{Room};
-ghost use Rattle.bids.specs.Bids.{alone, samePrice?, Free, Latest, Previous};
+ghost use Rattle.bids.specs.Bids.{alone, same_price?, Free, Latest, Previous};
 
 use layout::bid;
 
@@ -35,8 +35,8 @@ fn put(links: &mut [usize], k: usize, r: usize)
 
 // The bids from the answer to bid i are not of its application.
 fn start(recs: &[u8], latest: &[usize], i: usize) -> usize
-    requires { Room recs.now bidWidth i × Latest recs.now latest.now i }
-    ensures { Free recs.now (bidAt recs.now i).app result i }
+    requires { Room recs.now bid_width i × Latest recs.now latest.now i }
+    ensures { Free recs.now (bid_at recs.now i).app result i }
 {
     let a = bid::application(recs, i);
     link(latest, a, i)
@@ -44,8 +44,8 @@ fn start(recs: &[u8], latest: &[usize], i: usize) -> usize
 
 // The bids from the answer to bid k are not of the application of bid i, which is a later one.
 fn next(recs: &[u8], previous: &[usize], k: usize, i: usize) -> usize
-    requires { (k < i) × Room recs.now bidWidth i × Previous recs.now previous.now i }
-    ensures { Free recs.now (bidAt recs.now i).app result k }
+    requires { (k < i) × Room recs.now bid_width i × Previous recs.now previous.now i }
+    ensures { Free recs.now (bid_at recs.now i).app result k }
 {
     if bid::application(recs, k) == bid::application(recs, i) {
         return link(previous, k, k);
@@ -55,7 +55,7 @@ fn next(recs: &[u8], previous: &[usize], k: usize, i: usize) -> usize
 
 // Bid i is accepted: it is the latest of its application.
 pub fn accept(recs: &[u8], latest: &mut [usize], previous: &mut [usize], i: usize)
-    requires room { Room recs.now bidWidth i }
+    requires room { Room recs.now bid_width i }
     requires latest { Latest recs.now latest.old i × Previous recs.now previous.old i }
     ensures { Latest recs.now latest.new (i + 1) × Previous recs.now previous.new (i + 1) }
 {
@@ -69,8 +69,8 @@ pub fn accept(recs: &[u8], latest: &mut [usize], previous: &mut [usize], i: usiz
 
 // 1 if bids k and i are of one application, else 0.
 fn same_app(recs: &[u8], k: usize, i: usize) -> usize
-    requires { Room recs.now bidWidth k × Room recs.now bidWidth i }
-    ensures { (result ≡ given (sameApp? (alone recs.now i) k i) 1 0) × (result ≤ 1) }
+    requires { Room recs.now bid_width k × Room recs.now bid_width i }
+    ensures { (result ≡ given (same_app? (alone recs.now i) k i) 1 0) × (result ≤ 1) }
 {
     if bid::application(recs, k) == bid::application(recs, i) {
         1
@@ -81,8 +81,8 @@ fn same_app(recs: &[u8], k: usize, i: usize) -> usize
 
 // 1 if bids k and i are of one application and in one year, else 0.
 pub fn same_year(recs: &[u8], k: usize, i: usize) -> usize
-    requires { Room recs.now bidWidth k × Room recs.now bidWidth i }
-    ensures { (result ≡ given (sameYear? (alone recs.now i) k i) 1 0) × (result ≤ 1) }
+    requires { Room recs.now bid_width k × Room recs.now bid_width i }
+    ensures { (result ≡ given (same_year? (alone recs.now i) k i) 1 0) × (result ≤ 1) }
 {
     if bid::application(recs, k) == bid::application(recs, i) {
         if bid::year(recs, k) == bid::year(recs, i) {
@@ -95,8 +95,8 @@ pub fn same_year(recs: &[u8], k: usize, i: usize) -> usize
 
 // 1 if bids k and i are of one application and at one price, else 0.
 fn same_price(recs: &[u8], k: usize, i: usize) -> usize
-    requires { Room recs.now bidWidth k × Room recs.now bidWidth i }
-    ensures { result ≡ given (samePrice? recs.now k i) 1 0 }
+    requires { Room recs.now bid_width k × Room recs.now bid_width i }
+    ensures { result ≡ given (same_price? recs.now k i) 1 0 }
 {
     if bid::application(recs, k) == bid::application(recs, i) {
         if bid::price(recs, k) == bid::price(recs, i) {
@@ -109,7 +109,7 @@ fn same_price(recs: &[u8], k: usize, i: usize) -> usize
 
 // Rule 9 of a bid beside so many earlier ones of its application, and of those so many in its year. 0 if it is kept.
 fn nine(of_app: usize, of_year: usize) -> u64
-    ensures { result ≡ given (both (dec_lt of_app bidsEach) (dec_lt of_year bidsAYear)) 0 bidsTooMany }
+    ensures { result ≡ given (both (dec_lt of_app bids_each) (dec_lt of_year bids_a_year)) 0 bids_too_many }
 {
     if names::BIDS_EACH <= of_app {
         return names::BIDS_TOO_MANY;
@@ -122,9 +122,9 @@ fn nine(of_app: usize, of_year: usize) -> u64
 
 // Rules 8 and 9 of bid i. 0 if both are kept.
 pub fn eight_nine(recs: &[u8], latest: &[usize], previous: &[usize], i: usize) -> u64
-    requires room { Room recs.now bidWidth i }
+    requires room { Room recs.now bid_width i }
     requires latest { Latest recs.now latest.now i × Previous recs.now previous.now i }
-    ensures { result ≡ orFault (eightOf (alone recs.now i) i) (nineOf (alone recs.now i) i) }
+    ensures { result ≡ or_fault (eight_of (alone recs.now i) i) (nine_of (alone recs.now i) i) }
 {
     let mut left = start(recs, latest, i);
     let mut of_app: usize = 0;

@@ -1,8 +1,8 @@
 // The bids' records: refusals 1, 7, 8 and 9 of each in file order; and 11, once the file has ended well.
 ghost use Rattle.std.specs.Prelude.{◌≡◌, ◌+◌, ◌*◌, ◌≤◌, ◌<◌, ◌^◌, length};
-ghost use Rattle.rules.specs.Names.{bidWidth};
-ghost use Rattle.rules.specs.Refusals.{recordFault, orFault, bidFault};
-ghost use Rattle.bids.specs.Bids.{tables_of, TablesRight, bidsOf, Latest, Previous};
+ghost use Rattle.rules.specs.Names.{bid_width};
+ghost use Rattle.rules.specs.Refusals.{record_fault, or_fault, bid_fault};
+ghost use Rattle.bids.specs.Bids.{tables_of, TablesRight, bids_of, Latest, Previous};
 
 mod earlier;
 pub mod lowest;
@@ -12,7 +12,7 @@ use rules::{Reading, Sections};
 
 // The first of two faults, 0 being none.
 fn first(a: u64, b: u64) -> u64
-    ensures { result ≡ orFault a b }
+    ensures { result ≡ or_fault a b }
 {
     if a != 0 { a } else { b }
 }
@@ -27,8 +27,8 @@ fn bid_fault(
     i: usize,
 ) -> u64
     requires tables_right { TablesRight file.now done }
-    requires bid_width_in_bounds { (i * bidWidth ≤ length recs.now) × Latest recs.now latest.now i × Previous recs.now previous.now i }
-    ensures { result ≡ recordFault recs.now bidWidth (bidFault (tables_of file.now recs.now done)) i }
+    requires bid_width_in_bounds { (i * bid_width ≤ length recs.now) × Latest recs.now latest.now i × Previous recs.now previous.now i }
+    ensures { result ≡ record_fault recs.now bid_width (bid_fault (tables_of file.now recs.now done)) i }
 {
     if recs.len() - i * names::BID_WIDTH < names::BID_WIDTH {
         return names::ENDS_EARLY;
@@ -49,7 +49,7 @@ fn judged(
 ) -> Reading
     requires tables_right { TablesRight file.now done }
     requires recs_bound { (base + length recs.now < 2 ^ 63) × Latest recs.now latest.old 0 × Previous recs.now previous.old 0 }
-    ensures { result ≡ bidsOf file.now recs.now base done }
+    ensures { result ≡ bids_of file.now recs.now base done }
 {
     let n = done.bids;
     let mut i: usize = 0;
@@ -71,7 +71,7 @@ fn judged(
 // stand in the file where `done` says. If nothing is wrong, `done` is the answer.
 pub fn bids(file: &[u8], recs: &[u8], base: usize, done: Sections) -> Reading
     requires { TablesRight file.now done × (base + length recs.now < 2 ^ 63) }
-    ensures { result ≡ bidsOf file.now recs.now base done }
+    ensures { result ≡ bids_of file.now recs.now base done }
 {
     let mut latest = [0usize; names::MOST_APPS as usize];
     let mut previous = [0usize; names::MOST_BIDS as usize];

@@ -8,34 +8,34 @@ use native.Mathlib.Omega.{arith}
 use lib.Dec.{eqb, leb}
 use borrow.Author.Tests.{eqb-true, eqb-false, lt-leb, le-leb, leb-true, leb-false}
 use Rattle.rules.specs.Pot.{has, best}
-use Rattle.laws_pot.specs.Lists.{case, clash, and-true, and-false, and_none}
-use Rattle.laws_pot.specs.Bits.{has-none}
-use Rattle.laws_pot.specs.Tie.{Best, best-is}
+use Rattle.laws_pot.specs.Lists.{case, clash, and_true, and_false, and_none}
+use Rattle.laws_pot.specs.Bits.{has_none}
+use Rattle.laws_pot.specs.Tie.{Best, best_is}
 use Rattle.sheet.specs.declared.Size.{Size}
-use Rattle.sheet.specs.Sheet.{columns, limitAt, Ready}
-use Rattle.totals.specs.Totals.{fitsTo}
-use Rattle.combinations.specs.Combinations.{combinations, partSize, twoParts, threeParts, partRows, costsAt, mostBase, jointOf, unionOf, Tabled}
+use Rattle.sheet.specs.Sheet.{columns, limit_at, Ready}
+use Rattle.totals.specs.Totals.{fits_to}
+use Rattle.combinations.specs.Combinations.{combinations, part_size, two_parts, three_parts, part_rows, costs_at, most_base, joint_of, union_of, Tabled}
 use Rattle.ties.specs.declared.best.Best as declared
-use Rattle.ties.specs.Ties.{bestOf, okBy, last_by, Searching, Cuttable}
-use Rattle.ties.proofs.Laws.{fits-at}
+use Rattle.ties.specs.Ties.{best_of, ok_by, last_by, Searching, Cuttable}
+use Rattle.ties.proofs.Laws.{fits_at_lem}
 use Rattle.branches.specs.declared.greatest.Found.{Found}
-use Rattle.branches.specs.Branches.{Lasting, Short, Fallen, metOf}
+use Rattle.branches.specs.Branches.{Lasting, Short, Fallen, met_of}
 
 module _ (ok : ℕ → Bool) (tot : ℕ → ℕ) where
   -- ---- a look at one more
   module _ (n : ℕ) (g : Found) {w : ℕ} (ew : w ≡ tot n) where
-    pub met_less : w < g.goal → g ≡ metOf ok tot n g
-    unfolding metOf
+    pub met_less : w < g.goal → g ≡ met_of ok tot n g
+    unfolding met_of
     met_less q = rw (← ew, lt-leb g.goal w q, and_none (ok n))
 
     module _ {f : Bool} (ef : f ≡ ok n) where
-      pub met-not : f ≡ false → g ≡ metOf ok tot n g
-      unfolding metOf
-      met-not h = rw (← ef, h)
+      pub met_not : f ≡ false → g ≡ met_of ok tot n g
+      unfolding met_of
+      met_not h = rw (← ef, h)
 
-      pub met-more : f ≡ true → g.goal ≤ w → ◌≡◌ {A = Found} (record { mask = n; goal = w + 1 }) (metOf ok tot n g)
-      unfolding metOf
-      met-more h q = rw (← ef, h, ← ew, le-leb g.goal w q)
+      pub met_more : f ≡ true → g.goal ≤ w → ◌≡◌ {A = Found} (record { mask = n; goal = w + 1 }) (met_of ok tot n g)
+      unfolding met_of
+      met_more h q = rw (← ef, h, ← ew, le-leb g.goal w q)
 
   -- ---- what has been found among the numbers from lo on, below n
   pub record Sought (lo n : ℕ) (g : Found) : Type 0 where
@@ -43,18 +43,18 @@ module _ (ok : ℕ → Bool) (tot : ℕ → ℕ) where
     pub is : (g.goal ≡ 0) ⊎ ((ok g.mask ≡ true) × (g.mask < n) × (g.goal ≡ tot g.mask + 1)
         × ((m : ℕ) → g.mask < m → m < n → ok m ≡ true → tot m < tot g.mask))
 
-  pub sought-none : (n : ℕ) → Sought n n (record { mask = 0; goal = 0 })
-  sought-none n = record { under = λ m a b o. absurd (omega arith); is = inl refl }
+  pub sought_none : (n : ℕ) → Sought n n (record { mask = 0; goal = 0 })
+  sought_none n = record { under = λ m a b o. absurd (omega arith); is = inl refl }
 
-  pub sought-at : (n : ℕ) {lo lo' : ℕ} (g : Found) → lo ≡ lo' → Sought lo n g → Sought lo' n g
-  sought-at n g e F = rw e at F
+  pub sought_at : (n : ℕ) {lo lo' : ℕ} (g : Found) → lo ≡ lo' → Sought lo n g → Sought lo' n g
+  sought_at n g e F = rw e at F
 
-  pub sought-next : (c n : ℕ) {g r : Found} → c < n → Sought (c + 1) n g → r ≡ metOf ok tot c g → Sought c n r
-  unfolding metOf
-  sought-next c n {g} l F er =
+  pub sought_next : (c n : ℕ) {g r : Found} → c < n → Sought (c + 1) n g → r ≡ met_of ok tot c g → Sought c n r
+  unfolding met_of
+  sought_next c n {g} l F er =
       rw er (case (ok c && leb g.goal (tot c))
       (λ t.
-      let a = and-true (ok c) (leb g.goal (tot c)) t in
+      let a = and_true (ok c) (leb g.goal (tot c)) t in
       let le = leb-true g.goal (tot c) a.1 in
       rw t (record {
         under = λ m h k o. case (eqb m c) (λ e. rw (eqb-true m c e) (omega arith))
@@ -64,109 +64,109 @@ module _ (ok : ℕ → Bool) (tot : ℕ → ℕ) where
       (λ f. rw f (record {
         under = λ m h k o. case (eqb m c)
             (λ e. let q = eqb-true m c e in
-            ⊎_elim (λ v. clash (ap ok (sym q) ∙ o) v) (λ v. let w = leb-false g.goal (tot c) v in rw q w) (and-false (ok c) (leb g.goal (tot c)) f))
+            ⊎_elim (λ v. clash (ap ok (sym q) ∙ o) v) (λ v. let w = leb-false g.goal (tot c) v in rw q w) (and_false (ok c) (leb g.goal (tot c)) f))
             (λ e. let d = eqb-false m c e in F.under m (omega arith) k o);
         is = F.is;
       })))
 
   -- some are passed over
-  pub sought-past : (left n : ℕ) {g : Found} (r : ℕ) → Sought left n g → Fallen ok tot g.goal left r → Sought (left - r) n g
-  sought-past left n {g} r F P = record {
+  pub sought_past : (left n : ℕ) {g : Found} (r : ℕ) → Sought left n g → Fallen ok tot g.goal left r → Sought (left - r) n g
+  sought_past left n {g} r F P = record {
     under = λ m h k o. case (leb left m) (λ t. F.under m (leb-true left m t) k o)
         (λ f. let l = leb-false left m f in
         let e : left - r + (m - (left - r)) ≡ m = omega arith in
         let z : (ok m && leb g.goal (tot m)) ≡ false = sym (ap (λ (x : ℕ). ok x && leb g.goal (tot x)) e) ∙ P.past (m - (left - r)) (omega (arith, P.few)) in
-        ⊎_elim (λ v. clash o v) (λ v. leb-false g.goal (tot m) v) (and-false (ok m) (leb g.goal (tot m)) z));
+        ⊎_elim (λ v. clash o v) (λ v. leb-false g.goal (tot m) v) (and_false (ok m) (leb g.goal (tot m)) z));
     is = F.is;
   }
 
   -- ---- what is found is the best
-  best-only : (n r s : ℕ) → Best ok tot n r → Best ok tot n s → 0 < n → r ≡ s
-  best-only n r s A B h =
+  best_only : (n r s : ℕ) → Best ok tot n r → Best ok tot n s → 0 < n → r ≡ s
+  best_only n r s A B h =
       ⊎_elim (λ u. ⊎_elim (λ v. absurd (omega (arith, u, v))) (λ v. absurd (omega (arith, u, v.0))) (B.top r (omega (arith, A.small)) A.fit))
       (λ u. ⊎_elim (λ v. absurd (omega (arith, u.0, v))) (λ v. omega (arith, u.1, v.1)) (B.top r (omega (arith, A.small)) A.fit))
       (A.top s (omega (arith, B.small)) B.fit)
 
-  best-nothing : (n : ℕ) → ((m : ℕ) → m < n → ok m ≡ false) → best ok tot n ≡ 0
+  best_nothing : (n : ℕ) → ((m : ℕ) → m < n → ok m ≡ false) → best ok tot n ≡ 0
   unfolding best
-  best-nothing zero h = refl
-  best-nothing (suc n) h = rw (h n (omega arith)) (best-nothing n (λ m l. h m (omega arith)))
+  best_nothing zero h = refl
+  best_nothing (suc n) h = rw (h n (omega arith)) (best_nothing n (λ m l. h m (omega arith)))
 
   module _ (n : ℕ) {g : Found} (F : Sought 0 n g) where
-    pub nothing-best : {w : ℕ} → g.goal ≡ 0 → w ≡ tot 0 → ◌≡◌ {A = declared.Best} (record { mask = 0; total = w }) (bestOf ok tot n)
-    nothing-best e ew = rw (ew, best-nothing n (λ m l. case (ok m) (λ t. let z = F.under m (omega arith) l t in absurd (omega arith)) (λ f. f)))
+    pub nothing_best : {w : ℕ} → g.goal ≡ 0 → w ≡ tot 0 → ◌≡◌ {A = declared.Best} (record { mask = 0; total = w }) (best_of ok tot n)
+    nothing_best e ew = rw (ew, best_nothing n (λ m l. case (ok m) (λ t. let z = F.under m (omega arith) l t in absurd (omega arith)) (λ f. f)))
 
     -- the winners alone fit where anything does
     first_fits : Cuttable ok tot → (m : ℕ) → m < combinations → ok m ≡ true → ok 0 ≡ true
-    first_fits C m l t = C.down 0 m (omega arith) l (λ i u. clash u (has-none i)) t
+    first_fits C m l t = C.down 0 m (omega arith) l (λ i u. clash u (has_none i)) t
 
-    pub found-best : Cuttable ok tot → n ≤ combinations → (g.goal ≡ 0 → ⊥)
-        → ◌≡◌ {A = declared.Best} (record { mask = g.mask; total = g.goal - 1 }) (bestOf ok tot n)
-    found-best C l z =
+    pub found_best : Cuttable ok tot → n ≤ combinations → (g.goal ≡ 0 → ⊥)
+        → ◌≡◌ {A = declared.Best} (record { mask = g.mask; total = g.goal - 1 }) (best_of ok tot n)
+    found_best C l z =
         ⊎_elim (λ e. absurd (z e))
         (λ q.
         let fit = first_fits C g.mask (omega (arith, q.1)) q.0 in
         let same : g.mask ≡ best ok tot n
-        = best-only n g.mask (best ok tot n) (record {
+        = best_only n g.mask (best ok tot n) (record {
           fit = q.0;
           small = omega (arith, q.1);
           top = λ m h o. let u = F.under m (omega arith) h o in case (leb m g.mask)
               (λ t. inr (omega (arith, q.2), leb-true m g.mask t)) (λ t. inl (q.3 m (leb-false m g.mask t) h o));
-        }) (best-is ok tot fit n) (omega (arith, q.1)) in
+        }) (best_is ok tot fit n) (omega (arith, q.1)) in
         let goal : g.goal - 1 ≡ tot g.mask = omega (arith, q.2) in
         rw (goal, same))
         F.is
 
 -- ---- how many are passed over
-pub fallen-none : {ok : ℕ → Bool} {tot : ℕ → ℕ} {goal left : ℕ} → Fallen ok tot goal left 0
-fallen-none = record { few = omega arith; past = λ j l. absurd (omega arith) }
+pub fallen_none : {ok : ℕ → Bool} {tot : ℕ → ℕ} {goal left : ℕ} → Fallen ok tot goal left 0
+fallen_none = record { few = omega arith; past = λ j l. absurd (omega arith) }
 
-pub fallen-all : (ok : ℕ → Bool) (tot : ℕ → ℕ) (goal : ℕ) {left : ℕ} → ((m : ℕ) → (ok m && leb goal (tot m)) ≡ false) → Fallen ok tot goal left left
-fallen-all ok tot goal {left} h = record { few = omega arith; past = λ j l. h (left - left + j) }
+pub fallen_all : (ok : ℕ → Bool) (tot : ℕ → ℕ) (goal : ℕ) {left : ℕ} → ((m : ℕ) → (ok m && leb goal (tot m)) ≡ false) → Fallen ok tot goal left left
+fallen_all ok tot goal {left} h = record { few = omega arith; past = λ j l. h (left - left + j) }
 
 -- none that fits has more in the last year than the budget
-pub over : (sheet : List ℕ) (of : Size) (table : List ℕ) {goal q : ℕ} → Ready sheet of → q ≡ limitAt sheet (of.years - 1) → q < goal
-    → (m : ℕ) → (okBy sheet of table m && leb goal (last_by of table m)) ≡ false
-unfolding okBy last_by
+pub over : (sheet : List ℕ) (of : Size) (table : List ℕ) {goal q : ℕ} → Ready sheet of → q ≡ limit_at sheet (of.years - 1) → q < goal
+    → (m : ℕ) → (ok_by sheet of table m && leb goal (last_by of table m)) ≡ false
+unfolding ok_by last_by
 over sheet of table {goal} R e h m =
-    let f = jointOf table m (unionOf table m) in
-    case (fitsTo f sheet of.columns)
-    (λ t. rw (t, lt-leb goal (f (of.years - 1)) (omega (arith, e, fits-at f sheet (of.years - 1) of.columns t (omega (arith, R.some, R.columns-least))))))
+    let f = joint_of table m (union_of table m) in
+    case (fits_to f sheet of.columns)
+    (λ t. rw (t, lt-leb goal (f (of.years - 1)) (omega (arith, e, fits_at_lem f sheet (of.years - 1) of.columns t (omega (arith, R.some, R.columns_least))))))
     (λ u. rw u)
 
 -- nor any that falls short of the goal
-pub fallen-short : (sheet : List ℕ) (of : Size) (table : List ℕ) {goal q left r : ℕ} → Ready sheet of → q ≡ limitAt sheet (of.years - 1)
-    → Short (last_by of table) goal q left r → Fallen (okBy sheet of table) (last_by of table) goal left r
-fallen-short sheet of table {goal} {q} {left} {r} R e S = record {
+pub fallen_short : (sheet : List ℕ) (of : Size) (table : List ℕ) {goal q left r : ℕ} → Ready sheet of → q ≡ limit_at sheet (of.years - 1)
+    → Short (last_by of table) goal q left r → Fallen (ok_by sheet of table) (last_by of table) goal left r
+fallen_short sheet of table {goal} {q} {left} {r} R e S = record {
   few = S.few;
   past = λ j l.
-      ⊎_elim (λ h. rw (lt-leb goal (last_by of table (left - r + j)) h) (and_none (okBy sheet of table (left - r + j)))) (λ h. beyond (left - r + j) h)
+      ⊎_elim (λ h. rw (lt-leb goal (last_by of table (left - r + j)) h) (and_none (ok_by sheet of table (left - r + j)))) (λ h. beyond (left - r + j) h)
       (S.none (left - r + j) (omega arith) (omega (arith, S.few)));
 }
   where
-    within : (m : ℕ) → okBy sheet of table m ≡ true → last_by of table m ≤ limitAt sheet (of.years - 1)
-    within m t = unfold okBy last_by in
-        fits-at (jointOf table m (unionOf table m)) sheet (of.years - 1) of.columns t (omega (arith, R.some, R.columns-least))
+    within : (m : ℕ) → ok_by sheet of table m ≡ true → last_by of table m ≤ limit_at sheet (of.years - 1)
+    within m t = unfold ok_by last_by in
+        fits_at_lem (joint_of table m (union_of table m)) sheet (of.years - 1) of.columns t (omega (arith, R.some, R.columns_least))
 
-    beyond : (m : ℕ) → q < last_by of table m → (okBy sheet of table m && leb goal (last_by of table m)) ≡ false
-    beyond m h = case (okBy sheet of table m) (λ t. absurd (omega (arith, e, h, within m t))) (λ u. rw u)
+    beyond : (m : ℕ) → q < last_by of table m → (ok_by sheet of table m && leb goal (last_by of table m)) ≡ false
+    beyond m h = case (ok_by sheet of table m) (λ t. absurd (omega (arith, e, h, within m t))) (λ u. rw u)
 
 -- no total is large
-pub joint-small : (table : List ℕ) (m t c : ℕ) → Tabled table → jointOf table m t c ≤ mostBase * 5
-unfolding jointOf
-joint-small table m t c T =
+pub joint_small : (table : List ℕ) (m t c : ℕ) → Tabled table → joint_of table m t c ≤ most_base * 5
+unfolding joint_of
+joint_small table m t c T =
     omega (
       arith,
       T.small.small (t * columns + c),
-      T.small.small (costsAt + 0 * partRows + m % partSize * columns + c),
-      T.small.small (costsAt + 1 * partRows + m / partSize % partSize * columns + c),
-      T.small.small (costsAt + 2 * partRows + m / twoParts % partSize * columns + c),
-      T.small.small (costsAt + 3 * partRows + m / threeParts * columns + c),
+      T.small.small (costs_at + 0 * part_rows + m % part_size * columns + c),
+      T.small.small (costs_at + 1 * part_rows + m / part_size % part_size * columns + c),
+      T.small.small (costs_at + 2 * part_rows + m / two_parts % part_size * columns + c),
+      T.small.small (costs_at + 3 * part_rows + m / three_parts * columns + c),
     )
 
-pub last-small : (of : Size) (table : List ℕ) (m : ℕ) → Tabled table → last_by of table m ≤ mostBase * 5
+pub last_small : (of : Size) (table : List ℕ) (m : ℕ) → Tabled table → last_by of table m ≤ most_base * 5
 unfolding last_by
-last-small of table m T = joint-small table m (unionOf table m) (of.years - 1) T
+last_small of table m T = joint_small table m (union_of table m) (of.years - 1) T
 
 pub lasting : {sheet : List ℕ} {of : Size} {table : List ℕ} → Searching sheet of table → Lasting of table
 lasting S = record { tables = S.tables; some = S.ready.some; years = S.ready.years }

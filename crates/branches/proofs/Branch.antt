@@ -9,13 +9,13 @@ use lib.Pow.{pow_pos}
 use borrow.Author.Tests.{lt-leb}
 use Rattle.rules.specs.Pot.{has}
 use Rattle.laws_pot.specs.Lists.{case, clash, and_none, or_right, or_left, or_cases}
-use Rattle.laws_pot.specs.Bits.{add-lt, has_join, has-high, all_ones}
+use Rattle.laws_pot.specs.Bits.{add_lt, has_join, has_high, all_ones}
 use Rattle.combinations.specs.Combinations.{combinations}
 use Rattle.ties.specs.Ties.{Within, Cuttable}
 use Rattle.branches.specs.Branches.{Sized, Branch, Past}
 
-pub sized-some : {size : ℕ} → Sized size → 0 < size
-sized-some S = omega (arith, S.is, pow_pos S.places)
+pub sized_some : {size : ℕ} → Sized size → 0 < size
+sized_some S = omega (arith, S.is, pow_pos S.places)
 
 module _ {mask size : ℕ} (B : Branch mask size) where
   abbrev k : ℕ
@@ -28,10 +28,10 @@ module _ {mask size : ℕ} (B : Branch mask size) where
   place v i h = ap (λ (x : ℕ). has x i) (at_head v) ∙ has_join B.head k v i (omega (arith, B.sized.is))
 
   pub some_size : 0 < size
-  some_size = sized-some B.sized
+  some_size = sized_some B.sized
 
-  pub head-within : (j : ℕ) → j < size → Within mask (mask + j)
-  head-within j l i t = place j i l ∙ or_right (has j i) (has (2 ^ k * B.head) i) (ap (λ (x : ℕ). has x i) none ∙ t)
+  pub head_within : (j : ℕ) → j < size → Within mask (mask + j)
+  head_within j l i t = place j i l ∙ or_right (has j i) (has (2 ^ k * B.head) i) (ap (λ (x : ℕ). has x i) none ∙ t)
     where
       none : 2 ^ k * B.head ≡ mask
       none = omega (arith, B.at, ap (λ (x : ℕ). x * B.head) B.sized.is)
@@ -46,17 +46,17 @@ module _ {mask size : ℕ} (B : Branch mask size) where
       ones u = ap (λ (x : ℕ). has (x - 1) i) B.sized.is ∙ all_ones k j i (omega (arith, B.sized.is)) u
 
   -- a place below k that the last part of a combination lacks is one that the combination lacks
-  pub place-free : (j i : ℕ) → j < size → i < k → has j i ≡ false → has (mask + j) i ≡ false
-  place-free j i l h f = place j i l ∙ ap (λ (b : Bool). b || has (2 ^ k * B.head) i) f ∙ has-high B.head k i h
+  pub place_free : (j i : ℕ) → j < size → i < k → has j i ≡ false → has (mask + j) i ≡ false
+  place_free j i l h f = place j i l ∙ ap (λ (b : Bool). b || has (2 ^ k * B.head) i) f ∙ has_high B.head k i h
 
-  pub added-low : (j i : ℕ) → j < size → i < k → has j i ≡ false → j + 2 ^ i < size
-  added-low j i l h f = omega (arith, B.sized.is, add-lt j i k f h (omega (arith, B.sized.is)))
+  pub added_low : (j i : ℕ) → j < size → i < k → has j i ≡ false → j + 2 ^ i < size
+  added_low j i l h f = omega (arith, B.sized.is, add_lt j i k f h (omega (arith, B.sized.is)))
 
   -- ---- a branch that is cut off
   module _ (ok : ℕ → Bool) (tot : ℕ → ℕ) (C : Cuttable ok tot) (goal : ℕ) where
-    pub cut-misfit : {f : Bool} → f ≡ ok mask → f ≡ false → Past ok tot goal mask size
-    cut-misfit ef e j l =
-        rw (case (ok (mask + j)) (λ t. clash (C.down mask (mask + j) (omega (arith, B.room)) (omega (arith, B.room)) (head-within j l) t) (sym ef ∙ e)) (λ f. f))
+    pub cut_misfit : {f : Bool} → f ≡ ok mask → f ≡ false → Past ok tot goal mask size
+    cut_misfit ef e j l =
+        rw (case (ok (mask + j)) (λ t. clash (C.down mask (mask + j) (omega (arith, B.room)) (omega (arith, B.room)) (head_within j l) t) (sym ef ∙ e)) (λ f. f))
 
     pub cut_low : {w : ℕ} → w ≡ tot (mask + (size - 1)) → w < goal → Past ok tot goal mask size
     cut_low ew h j l =
@@ -68,8 +68,8 @@ module _ {mask size : ℕ} (B : Branch mask size) where
         (and_none (ok (mask + j)))
 
 -- ---- where branches start, and where they end
-pub starts-at : {mask size : ℕ} → Sized size → mask % size ≤ 0 → mask + size ≤ combinations → Branch mask size
-starts-at {mask} {size} S h r = record { sized = S; head = mask / size; at = whole; room = r }
+pub starts_at : {mask size : ℕ} → Sized size → mask % size ≤ 0 → mask + size ≤ combinations → Branch mask size
+starts_at {mask} {size} S h r = record { sized = S; head = mask / size; at = whole; room = r }
   where
     whole : mask ≡ size * (mask / size)
     whole = omega (arith, div-add-mod' mask size, mul_comm (mask / size) size)

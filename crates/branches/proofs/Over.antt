@@ -5,50 +5,50 @@ use mathlib.Core.Bool.{Bool, true, false}
 use mathlib.Core.Logic.{inl, inr}
 use native.Mathlib.Omega.{arith}
 use borrow.Author.Tests.{eq-eqb, ne_eqb}
-use Rattle.laws_pot.specs.Bits.{free-place}
+use Rattle.laws_pot.specs.Bits.{free_place}
 use Rattle.ties.specs.Ties.{Cuttable}
-use Rattle.branches.specs.Branches.{Branch, Past, Other, Open, Passed, nearBy}
-use Rattle.branches.proofs.Branch.{place-free, added-low, within_all, some_size}
+use Rattle.branches.specs.Branches.{Branch, Past, Other, Open, Passed, near_by}
+use Rattle.branches.proofs.Branch.{place_free, added_low, within_all, some_size}
 
 -- one that fits and has the greatest total
 module _ (ok : ℕ → Bool) (tot : ℕ → ℕ) (most m : ℕ) {w : ℕ} (ew : w ≡ tot m) where
-  pub near-is : {f : Bool} → w ≡ most → f ≡ ok m → f ≡ nearBy ok tot most m
-  unfolding nearBy
-  near-is e ef = rw (← ew, eq-eqb w most e) ef
+  pub near_is : {f : Bool} → w ≡ most → f ≡ ok m → f ≡ near_by ok tot most m
+  unfolding near_by
+  near_is e ef = rw (← ew, eq-eqb w most e) ef
 
-  pub near-other : (w ≡ most → ⊥) → false ≡ nearBy ok tot most m
-  unfolding nearBy
-  near-other n = rw (← ew, ne_eqb w most n)
+  pub near_other : (w ≡ most → ⊥) → false ≡ near_by ok tot most m
+  unfolding near_by
+  near_other n = rw (← ew, ne_eqb w most n)
 
 pub passed_none : {ok : ℕ → Bool} {tot : ℕ → ℕ} {most mask left : ℕ} → Passed ok tot most mask left 0
 passed_none = record { few = omega arith; none = λ j l. absurd (omega arith) }
 
 module _ {ok : ℕ → Bool} {tot : ℕ → ℕ} {most mask left size : ℕ} (B : Branch mask size) (room : size ≤ left) where
-  pub passed-cut : Past ok tot most mask size → Passed ok tot most mask left size
-  passed-cut p = record { few = room; none = λ j l. inl (p j l) }
+  pub passed_cut : Past ok tot most mask size → Passed ok tot most mask left size
+  passed_cut p = record { few = room; none = λ j l. inl (p j l) }
 
   -- all undecided bids fit: to any combination but the last one of them can be added
-  pub passed-open : Cuttable ok tot → ok (mask + (size - 1)) ≡ true → Passed ok tot most mask left (size - 1)
-  passed-open C t = record { few = omega arith; none = λ j l. inr (inr (open_at j l)) }
+  pub passed_open : Cuttable ok tot → ok (mask + (size - 1)) ≡ true → Passed ok tot most mask left (size - 1)
+  passed_open C t = record { few = omega arith; none = λ j l. inr (inr (open_at j l)) }
     where
       open_at : (j : ℕ) → j < size - 1 → Open ok (mask + left) (mask + j)
       open_at j l =
-          let q = free-place B.sized.places j (omega (arith, B.sized.is)) in
+          let q = free_place B.sized.places j (omega (arith, B.sized.is)) in
           let i = q.0 in
           let small : j < size = omega arith in
           let more : mask + j + 2 ^ i ≡ mask + (j + 2 ^ i) = omega arith in
-          let h = added-low B j i small q.1 q.2 in
+          let h = added_low B j i small q.1 q.2 in
           record {
             place = i;
-            free = place-free B j i small q.1 q.2;
+            free = place_free B j i small q.1 q.2;
             low = omega (arith, h, room);
             fits = ap ok more
                 ∙ C.down (mask + (j + 2 ^ i)) (mask + (size - 1)) (omega (arith, B.room, h)) (omega (arith, B.room, some_size B)) (within_all B (j + 2 ^ i) h) t;
           }
 
 module _ {ok : ℕ → Bool} {tot : ℕ → ℕ} {most mask left n : ℕ} (O : Other tot most mask n) where
-  pub passed-others : n ≤ left → Passed ok tot most mask left n
-  passed-others h = record { few = h; none = λ j l. inr (inl (O.none j l)) }
+  pub passed_others : n ≤ left → Passed ok tot most mask left n
+  passed_others h = record { few = h; none = λ j l. inr (inl (O.none j l)) }
 
-  pub passed-left : left < n → Passed ok tot most mask left left
-  passed-left h = record { few = omega arith; none = λ j l. inr (inl (O.none j (omega arith))) }
+  pub passed_left : left < n → Passed ok tot most mask left left
+  passed_left h = record { few = omega arith; none = λ j l. inr (inl (O.none j (omega arith))) }

@@ -1,12 +1,12 @@
 -- What the functions of `branches` compute and need: branches of combinations, and when nothing in one is looked for. Assumes nothing.
 use Rattle.std.specs.Prelude.{ℕ, ◌+◌, ◌-◌, ◌*◌, ◌/◌, ◌%◌, ◌^◌, ◌≤◌, ◌<◌, ◌≡◌, Bool, true, false, ◌&&◌, ◌⊎◌, List, get_or, eqb, leb}
 use Rattle.std.specs.Int.Bits.{bit_or}
-use Rattle.rules.specs.Names.{mostYears}
+use Rattle.rules.specs.Names.{most_years}
 use Rattle.rules.specs.Lists.{pick}
 use Rattle.rules.specs.Pot.{has}
 use Rattle.sheet.specs.declared.Size.{Size}
 use Rattle.sheet.specs.Sheet.{columns}
-use Rattle.combinations.specs.Combinations.{yearSets, combinations, partSize, mostBase, partCost, partYears, Tabled}
+use Rattle.combinations.specs.Combinations.{year_sets, combinations, part_size, most_base, part_cost, part_years, Tabled}
 use Rattle.branches.specs.declared.greatest.Found.{Found}
 use Rattle.branches.specs.declared.scan.Upper.{Upper}
 
@@ -32,33 +32,33 @@ pub record Fallen (ok : ℕ → Bool) (tot : ℕ → ℕ) (goal left n : ℕ) : 
 -- ---- the best, with the larger numbers first
 
 -- a look at one more
-unfoldable pub metOf : (ok : ℕ → Bool) (tot : ℕ → ℕ) (mask : ℕ) → Found → Found
-metOf ok tot mask f = pick (ok mask && leb f.goal (tot mask)) (record { mask = mask; goal = tot mask + 1 }) f
+unfoldable pub met_of : (ok : ℕ → Bool) (tot : ℕ → ℕ) (mask : ℕ) → Found → Found
+met_of ok tot mask f = pick (ok mask && leb f.goal (tot mask)) (record { mask = mask; goal = tot mask + 1 }) f
 
 -- ---- the numbers whose upper parts are those of h: which years these touch and what they count in the last year; and the total with the lowest part v
 pub record Lasting (of : Size) (table : List ℕ) : Type 0 where
   pub tables : Tabled table
   pub some : 0 < of.years
-  pub years : of.years ≤ mostYears
+  pub years : of.years ≤ most_years
 
-unfoldable pub upperOf : (of : Size) (table : List ℕ) (h : ℕ) → Upper
-upperOf of table h = record {
-  years = bit_or (partYears table 1 (h % partSize)) (bit_or (partYears table 2 (h / partSize % partSize)) (partYears table 3 (h / partSize / partSize)));
-  sum = partCost table 1 (h % partSize) (of.years - 1) + partCost table 2 (h / partSize % partSize) (of.years - 1)
-      + partCost table 3 (h / partSize / partSize) (of.years - 1);
+unfoldable pub upper_of : (of : Size) (table : List ℕ) (h : ℕ) → Upper
+upper_of of table h = record {
+  years = bit_or (part_years table 1 (h % part_size)) (bit_or (part_years table 2 (h / part_size % part_size)) (part_years table 3 (h / part_size / part_size)));
+  sum = part_cost table 1 (h % part_size) (of.years - 1) + part_cost table 2 (h / part_size % part_size) (of.years - 1)
+      + part_cost table 3 (h / part_size / part_size) (of.years - 1);
 }
 
 pub record Upright (u : Upper) : Type 0 where
-  pub years : u.years < yearSets
-  pub sum : u.sum ≤ 3 * mostBase
+  pub years : u.years < year_sets
+  pub sum : u.sum ≤ 3 * most_base
 
-unfoldable pub totalAt : (of : Size) (table : List ℕ) → Upper → (v : ℕ) → ℕ
-totalAt of table u v =
-    get_or table (bit_or (partYears table 0 v) u.years * columns + (of.years - 1)) 0 + partCost table 0 v (of.years - 1) + u.sum
+unfoldable pub total_at : (of : Size) (table : List ℕ) → Upper → (v : ℕ) → ℕ
+total_at of table u v =
+    get_or table (bit_or (part_years table 0 v) u.years * columns + (of.years - 1)) 0 + part_cost table 0 v (of.years - 1) + u.sum
 
 -- n combinations from `mask` on have another total; and n before `left` have less, or more than the limit
 pub record Other (tot : ℕ → ℕ) (most mask n : ℕ) : Type 0 where
-  pub few : n ≤ partSize - mask % partSize
+  pub few : n ≤ part_size - mask % part_size
   pub none : (j : ℕ) → j < n → tot (mask + j) ≡ most → ⊥
 
 pub record Short (tot : ℕ → ℕ) (goal limit left n : ℕ) : Type 0 where
@@ -83,5 +83,5 @@ pub record Passed (ok : ℕ → Bool) (tot : ℕ → ℕ) (most mask left n : �
   pub none : (j : ℕ) → j < n → Unsought ok tot most (mask + left) (mask + j)
 
 -- one that fits and has the greatest total
-unfoldable pub nearBy : (ok : ℕ → Bool) (tot : ℕ → ℕ) (most m : ℕ) → Bool
-nearBy ok tot most m = eqb (tot m) most && ok m
+unfoldable pub near_by : (ok : ℕ → Bool) (tot : ℕ → ℕ) (most m : ℕ) → Bool
+near_by ok tot most m = eqb (tot m) most && ok m

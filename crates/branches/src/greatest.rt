@@ -1,9 +1,9 @@
 // The best combination, from the largest number down: of equals the first that is found is taken, so that from then on a branch must have more to be gone through.
 ghost use Rattle.std.specs.Prelude.{true, ◌≡◌, ◌^◌, ◌≤◌, ◌<◌};
-ghost use Rattle.rules.specs.Names.{widestTie};
+ghost use Rattle.rules.specs.Names.{widest_tie};
 ghost use Rattle.combinations.specs.Combinations.{combinations};
-ghost use Rattle.ties.specs.Ties.{Searching, okBy, last_by, bestOf, Cuttable};
-ghost use Rattle.branches.specs.Branches.{Fallen, Sized, metOf};
+ghost use Rattle.ties.specs.Ties.{Searching, ok_by, last_by, best_of, Cuttable};
+ghost use Rattle.branches.specs.Branches.{Fallen, Sized, met_of};
 
 use super::scan::shorts;
 use super::{ONE_LOW, THREE_LOW, TWO_LOW, cut};
@@ -21,9 +21,9 @@ pub struct Found {
 
 // Does a branch of so many combinations end before `left`, and can it be cut off?
 fn ends(sheet: &Sheet, of: Size, table: &Table, goal: u64, left: u32, size: u32) -> bool
-    requires searching { Searching sheet.now of table.now × Cuttable (okBy sheet.now of table.now) (last_by of table.now) }
+    requires searching { Searching sheet.now of table.now × Cuttable (ok_by sheet.now of table.now) (last_by of table.now) }
     requires left_nonzero { (0 < left) × (left ≤ combinations) × Sized size }
-    ensures { result ≡ true → Fallen (okBy sheet.now of table.now) (last_by of table.now) goal left size }
+    ensures { result ≡ true → Fallen (ok_by sheet.now of table.now) (last_by of table.now) goal left size }
 {
     if left % size > 0 {
         return false;
@@ -33,9 +33,9 @@ fn ends(sheet: &Sheet, of: Size, table: &Table, goal: u64, left: u32, size: u32)
 
 // How many combinations before `left` can be passed over.
 fn fall(sheet: &Sheet, of: Size, table: &Table, goal: u64, left: u32) -> u32
-    requires searching { Searching sheet.now of table.now × Cuttable (okBy sheet.now of table.now) (last_by of table.now) }
+    requires searching { Searching sheet.now of table.now × Cuttable (ok_by sheet.now of table.now) (last_by of table.now) }
     requires left_nonzero { (0 < left) × (left ≤ combinations) }
-    ensures { Fallen (okBy sheet.now of table.now) (last_by of table.now) goal left result }
+    ensures { Fallen (ok_by sheet.now of table.now) (last_by of table.now) goal left result }
 {
     let limit = sheet::limit(sheet, of.years - 1);
     if left % ONE_LOW > 0 {
@@ -60,7 +60,7 @@ fn fall(sheet: &Sheet, of: Size, table: &Table, goal: u64, left: u32) -> u32
 // The one found, or a combination with a smaller number, if it is better.
 fn meet(sheet: &Sheet, of: Size, table: &Table, found: Found, mask: u32) -> Found
     requires { Searching sheet.now of table.now × (mask < combinations) }
-    ensures { result ≡ metOf (okBy sheet.now of table.now) (last_by of table.now) mask found }
+    ensures { result ≡ met_of (ok_by sheet.now of table.now) (last_by of table.now) mask found }
 {
     let total = last(of, table, mask);
     if total < found.goal {
@@ -77,8 +77,8 @@ fn meet(sheet: &Sheet, of: Size, table: &Table, found: Found, mask: u32) -> Foun
 
 // The best combination of so many bids.
 pub fn greatest(sheet: &Sheet, of: Size, table: &Table, count: usize) -> Best
-    requires { Searching sheet.now of table.now × Cuttable (okBy sheet.now of table.now) (last_by of table.now) × (count ≤ widestTie) }
-    ensures { result ≡ bestOf (okBy sheet.now of table.now) (last_by of table.now) (2 ^ count) }
+    requires { Searching sheet.now of table.now × Cuttable (ok_by sheet.now of table.now) (last_by of table.now) × (count ≤ widest_tie) }
+    ensures { result ≡ best_of (ok_by sheet.now of table.now) (last_by of table.now) (2 ^ count) }
 {
     let mut found = Found { mask: 0, goal: 0 };
     let mut left = power(count as u32);

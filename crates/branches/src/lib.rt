@@ -2,8 +2,8 @@
 // reach what is sought, or where what is chosen already does not fit. specs/Branches.antt says what each function computes.
 ghost use Rattle.std.specs.Prelude.{true, ◌≡◌, ◌+◌, ◌≤◌, ◌<◌};
 ghost use Rattle.combinations.specs.Combinations.{combinations};
-ghost use Rattle.ties.specs.Ties.{Searching, okBy, last_by, Cuttable};
-ghost use Rattle.branches.specs.Branches.{Sized, Branch, Past, Passed, nearBy};
+ghost use Rattle.ties.specs.Ties.{Searching, ok_by, last_by, Cuttable};
+ghost use Rattle.branches.specs.Branches.{Sized, Branch, Past, Passed, near_by};
 
 pub mod greatest;
 pub mod scan;
@@ -23,8 +23,8 @@ pub const THREE_LOW: u32 = THREE_PARTS as u32;
 // Can the branch of so many combinations from `mask` on be cut off, where what is sought has at least `goal` in the last year? Its last combination has all of
 // the undecided bids, and its first none.
 pub fn cut(sheet: &Sheet, of: Size, table: &Table, goal: u64, mask: u32, size: u32) -> bool
-    requires { Searching sheet.now of table.now × Cuttable (okBy sheet.now of table.now) (last_by of table.now) × Branch mask size }
-    ensures { result ≡ true → Past (okBy sheet.now of table.now) (last_by of table.now) goal mask size }
+    requires { Searching sheet.now of table.now × Cuttable (ok_by sheet.now of table.now) (last_by of table.now) × Branch mask size }
+    ensures { result ≡ true → Past (ok_by sheet.now of table.now) (last_by of table.now) goal mask size }
 {
     if last(of, table, mask + (size - 1)) < goal {
         return true;
@@ -42,9 +42,9 @@ pub struct From {
 // Of the branch of so many combinations that starts there, if one does, how many from its first on are not sought: all where it can be cut off; all but the last
 // where all undecided bids fit, for then one of them can be added to any other; else none is passed over.
 pub fn passed(sheet: &Sheet, of: Size, table: &Table, most: u64, from: From, size: u32) -> u32
-    requires searching { Searching sheet.now of table.now × Cuttable (okBy sheet.now of table.now) (last_by of table.now) }
+    requires searching { Searching sheet.now of table.now × Cuttable (ok_by sheet.now of table.now) (last_by of table.now) }
     requires left_bound { (from.mask + from.left ≤ combinations) × Sized size }
-    ensures { Passed (okBy sheet.now of table.now) (last_by of table.now) most from.mask from.left result }
+    ensures { Passed (ok_by sheet.now of table.now) (last_by of table.now) most from.mask from.left result }
 {
     if from.mask % size > 0 {
         return 0;
@@ -69,7 +69,7 @@ pub fn passed(sheet: &Sheet, of: Size, table: &Table, most: u64, from: From, siz
 // Does a combination fit and have the greatest total?
 pub fn near(sheet: &Sheet, of: Size, table: &Table, most: u64, mask: u32) -> bool
     requires { Searching sheet.now of table.now × (mask < combinations) }
-    ensures { result ≡ nearBy (okBy sheet.now of table.now) (last_by of table.now) most mask }
+    ensures { result ≡ near_by (ok_by sheet.now of table.now) (last_by of table.now) most mask }
 {
     if last(of, table, mask) == most {
         return fitting(sheet, of, table, mask);

@@ -1,9 +1,9 @@
 // The combinations of one branch in which the lowest part of the number alone is undecided, one after the other: what the upper parts come to is read once.
 ghost use Rattle.std.specs.Prelude.{◌≡◌, ◌+◌, ◌-◌, ◌*◌, ◌/◌, ◌%◌, ◌≤◌, ◌<◌};
 ghost use Rattle.sheet.specs.declared.Size.{Size};
-ghost use Rattle.combinations.specs.Combinations.{combinations, partSize};
+ghost use Rattle.combinations.specs.Combinations.{combinations, part_size};
 ghost use Rattle.ties.specs.Ties.{last_by};
-ghost use Rattle.branches.specs.Branches.{Lasting, upperOf, Upright, totalAt, Short, Other};
+ghost use Rattle.branches.specs.Branches.{Lasting, upper_of, Upright, total_at, Short, Other};
 
 use super::ONE_LOW;
 use combinations::places::PART;
@@ -19,8 +19,8 @@ pub struct Upper {
 
 // Of the numbers whose upper parts are those of h.
 fn above(of: Size, table: &Table, h: usize) -> Upper
-    requires { Lasting of table.now × (h < combinations / partSize) }
-    ensures { (result ≡ upperOf of table.now h) × Upright result }
+    requires { Lasting of table.now × (h < combinations / part_size) }
+    ensures { (result ≡ upper_of of table.now h) × Upright result }
 {
     let c = of.years - 1;
     let second = h % PART;
@@ -40,8 +40,8 @@ fn above(of: Size, table: &Table, h: usize) -> Upper
 
 // The total in the last year of the one of them whose lowest part is v.
 fn total(of: Size, table: &Table, upper: Upper, v: usize) -> u64
-    requires { Lasting of table.now × Upright upper × (v < partSize) }
-    ensures { result ≡ totalAt of table.now upper v }
+    requires { Lasting of table.now × Upright upper × (v < part_size) }
+    ensures { result ≡ total_at of table.now upper v }
 {
     let c = of.years - 1;
     let t = part_years(table, 0, v) | upper.years;

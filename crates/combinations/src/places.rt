@@ -1,8 +1,8 @@
 // Numbers as sets, by their binary places: a combination has a place for each remaining bid, a set of delivery years one for each of these.
 ghost use Rattle.std.specs.Prelude.{◌≡◌, ◌*◌, ◌^◌, ◌≤◌, ◌<◌};
-ghost use Rattle.rules.specs.Names.{mostDeliveries, widestTie};
+ghost use Rattle.rules.specs.Names.{most_deliveries, widest_tie};
 ghost use Rattle.rules.specs.Pot.{has};
-ghost use Rattle.combinations.specs.Combinations.{yearSets, parts, partSize, partPlaces, touch_of};
+ghost use Rattle.combinations.specs.Combinations.{year_sets, parts, part_size, part_places, touch_of};
 
 // The sets of delivery years.
 pub const SETS: usize = 16;
@@ -36,8 +36,8 @@ pub fn power(i: u32) -> u32
 
 // The highest binary place of a number of one part.
 pub fn top(v: usize) -> u32
-    requires { (0 < v) × (v < partSize) }
-    ensures { (result < partPlaces) × (2 ^ result ≤ v) × (v < 2 * 2 ^ result) }
+    requires { (0 < v) × (v < part_size) }
+    ensures { (result < part_places) × (2 ^ result ≤ v) × (v < 2 * 2 ^ result) }
 {
     if v < 2 {
         return 0;
@@ -56,16 +56,16 @@ pub fn top(v: usize) -> u32
 
 // As many parts as have the places of so many bids.
 pub fn parts_of(count: usize) -> usize
-    requires { count ≤ widestTie }
-    ensures { (count ≤ result * partPlaces) × (result ≤ parts) }
+    requires { count ≤ widest_tie }
+    ensures { (count ≤ result * part_places) × (result ≤ parts) }
 {
     (count + PART_PLACES - 1) / PART_PLACES
 }
 
 // The set t of delivery years, with year d.
 pub fn touch(t: u32, d: u32) -> u32
-    requires { (t < yearSets) × (d < mostDeliveries) }
-    ensures { (result ≡ touch_of t d) × (result < yearSets) }
+    requires { (t < year_sets) × (d < most_deliveries) }
+    ensures { (result ≡ touch_of t d) × (result < year_sets) }
 {
     if member(t, d) { t } else { t + power(d) }
 }

@@ -2,9 +2,9 @@
 // number; and beside what the present winners count, in one table, off which a combination is read.
 ghost use Rattle.std.specs.Prelude.{◌≡◌, ◌*◌, ◌/◌, ◌≤◌, ◌<◌};
 ghost use Rattle.sheet.specs.Sheet.{columns, Ready};
-ghost use Rattle.combinations.specs.Combinations.{yearSets, combinations, mostBase, tableLength, Numbers, Placed, Owned, ownAt, ownsOf, touchedOf};
-ghost use Rattle.combinations.specs.Combinations.{combinedOf, onesOf, costsOf, oneYearsOf, yearsOf, table_at, tableBy, partCost, partYears, jointOf};
-ghost use Rattle.combinations.specs.Combinations.{unionOf, Tabled, Parted, Joining};
+ghost use Rattle.combinations.specs.Combinations.{year_sets, combinations, most_base, table_length, Numbers, Placed, Owned, own_at, owns_of, touched_of};
+ghost use Rattle.combinations.specs.Combinations.{combined_of, ones_of, costs_of, one_years_of, years_of, table_at, table_by, part_cost, part_years, joint_of};
+ghost use Rattle.combinations.specs.Combinations.{union_of, Tabled, Parted, Joining};
 
 use super::Tied;
 use super::places::{
@@ -37,7 +37,7 @@ pub type Table = [u64; DATES_AT + PARTS * PART];
 // One place of `owns`.
 fn own_at(sheet: &Sheet, of: Size, tied: Tied, price: u64, i: usize) -> u64
     requires { Ready sheet.now of × Numbers tied.bids tied.count of.bids × (i / columns < tied.count) }
-    ensures { result ≡ ownAt sheet.now of tied.bids price i }
+    ensures { result ≡ own_at sheet.now of tied.bids price i }
 {
     let c = i % COLUMNS;
     if c < of.columns {
@@ -49,7 +49,7 @@ fn own_at(sheet: &Sheet, of: Size, tied: Tied, price: u64, i: usize) -> u64
 // What each bid counts at a price.
 pub fn owns(sheet: &Sheet, of: Size, tied: Tied, price: u64) -> Owns
     requires { Ready sheet.now of × Numbers tied.bids tied.count of.bids }
-    ensures { result ≡ ownsOf sheet.now of tied.bids price tied.count }
+    ensures { result ≡ owns_of sheet.now of tied.bids price tied.count }
 {
     let mut own = [0u64; WIDEST_TIE * COLUMNS];
     let end = tied.count * COLUMNS;
@@ -64,7 +64,7 @@ pub fn owns(sheet: &Sheet, of: Size, tied: Tied, price: u64) -> Owns
 // The delivery years in which the bids of a combination start.
 fn touched(tied: Tied, mask: u32) -> u32
     requires { Placed tied }
-    ensures { (result ≡ touchedOf tied.ranks tied.starts mask tied.count) × (result < yearSets) }
+    ensures { (result ≡ touched_of tied.ranks tied.starts mask tied.count) × (result < year_sets) }
 {
     let mut t: u32 = 0;
     let count = tied.count;
@@ -81,7 +81,7 @@ fn touched(tied: Tied, mask: u32) -> u32
 // What the bids of a combination count in column c.
 fn combined(own: &Owns, tied: Tied, mask: u32, c: usize) -> u64
     requires { Owned own.now tied × (c < columns) }
-    ensures { result ≡ combinedOf own.now tied.ranks mask c tied.count }
+    ensures { result ≡ combined_of own.now tied.ranks mask c tied.count }
 {
     let mut sum: u64 = 0;
     let count = tied.count;
@@ -98,7 +98,7 @@ fn combined(own: &Owns, tied: Tied, mask: u32, c: usize) -> u64
 // The same for each binary place alone. No bid has one of the places past the number of bids.
 fn ones(own: &Owns, tied: Tied) -> Owns
     requires { Owned own.now tied }
-    ensures { result ≡ onesOf own.now tied.ranks tied.count }
+    ensures { result ≡ ones_of own.now tied.ranks tied.count }
 {
     let mut out = [0u64; WIDEST_TIE * COLUMNS];
     let end = tied.count * COLUMNS;
@@ -114,7 +114,7 @@ fn ones(own: &Owns, tied: Tied) -> Owns
 // The same for each number of each part: that without its highest place, and that place.
 fn costs(own: &Owns, tied: Tied) -> Costs
     requires { Owned own.now tied }
-    ensures { result ≡ costsOf own.now tied.ranks tied.count }
+    ensures { result ≡ costs_of own.now tied.ranks tied.count }
 {
     let one = ones(own, tied);
     let mut out = [0u64; PARTS * ROWS];
@@ -136,7 +136,7 @@ fn costs(own: &Owns, tied: Tied) -> Costs
 // The delivery years that each binary place touches.
 fn one_years(tied: Tied) -> [u64; WIDEST_TIE]
     requires { Placed tied }
-    ensures { result ≡ oneYearsOf tied.ranks tied.starts tied.count }
+    ensures { result ≡ one_years_of tied.ranks tied.starts tied.count }
 {
     let mut out = [0u64; WIDEST_TIE];
     let count = tied.count;
@@ -151,7 +151,7 @@ fn one_years(tied: Tied) -> [u64; WIDEST_TIE]
 // The same for each number of each part.
 fn years(tied: Tied) -> Dates
     requires { Placed tied }
-    ensures { result ≡ yearsOf tied.ranks tied.starts tied.count }
+    ensures { result ≡ years_of tied.ranks tied.starts tied.count }
 {
     let one = one_years(tied);
     let mut out = [0u64; PARTS * PART];
@@ -171,7 +171,7 @@ fn years(tied: Tied) -> Dates
 
 // One place of `table`.
 fn table_at(base: &Base, costs: &Costs, dates: &Dates, i: usize) -> u64
-    requires { i < tableLength }
+    requires { i < table_length }
     ensures { result ≡ table_at base.now costs.now dates.now i }
 {
     if i < COSTS_AT {
@@ -186,7 +186,7 @@ fn table_at(base: &Base, costs: &Costs, dates: &Dates, i: usize) -> u64
 // All that the totals of combinations are read off.
 pub fn table(base: &Base, own: &Owns, tied: Tied) -> Table
     requires { Owned own.now tied }
-    ensures { result ≡ tableBy base.now own.now tied.ranks tied.starts tied.count }
+    ensures { result ≡ table_by base.now own.now tied.ranks tied.starts tied.count }
 {
     let costs = costs(own, tied);
     let dates = years(tied);
@@ -202,7 +202,7 @@ pub fn table(base: &Base, own: &Owns, tied: Tied) -> Table
 // Of the number v of one part, what its bids count in column c.
 pub fn part_cost(table: &Table, part: usize, v: usize, c: usize) -> u64
     requires { Parted table.now part v × (c < columns) }
-    ensures { (result ≡ partCost table.now part v c) × (result ≤ mostBase) }
+    ensures { (result ≡ part_cost table.now part v c) × (result ≤ most_base) }
 {
     table[COSTS_AT + part * ROWS + v * COLUMNS + c]
 }
@@ -210,7 +210,7 @@ pub fn part_cost(table: &Table, part: usize, v: usize, c: usize) -> u64
 // And the delivery years that they touch.
 pub fn part_years(table: &Table, part: usize, v: usize) -> usize
     requires { Parted table.now part v }
-    ensures { (result ≡ partYears table.now part v) × (result < yearSets) }
+    ensures { (result ≡ part_years table.now part v) × (result < year_sets) }
 {
     table[DATES_AT + part * PART + v] as usize
 }
@@ -218,7 +218,7 @@ pub fn part_years(table: &Table, part: usize, v: usize) -> usize
 // The delivery years that a combination touches.
 pub fn union(table: &Table, mask: u32) -> usize
     requires { Tabled table.now × (mask < combinations) }
-    ensures { (result ≡ unionOf table.now mask) × (result < yearSets) }
+    ensures { (result ≡ union_of table.now mask) × (result < year_sets) }
 {
     let n = mask as usize;
     let low = part_years(table, 0, n % PART);
@@ -231,7 +231,7 @@ pub fn union(table: &Table, mask: u32) -> usize
 // The total in column c where a combination, which touches the years t, is added to the winners.
 pub fn joint(table: &Table, mask: u32, t: usize, c: usize) -> u64
     requires { Joining table.now mask t × (c < columns) }
-    ensures { result ≡ jointOf table.now mask t c }
+    ensures { result ≡ joint_of table.now mask t c }
 {
     let n = mask as usize;
     let low = part_cost(table, 0, n % PART, c);

@@ -1,13 +1,13 @@
 // A section's count, judged.
 ghost use Rattle.std.specs.Prelude.{◌≡◌};
-ghost use Rattle.rules.specs.Names.{mostPots};
-ghost use Rattle.rules.specs.File.{potsTold};
-ghost use Rattle.rules.specs.Refusals.{plain, countFault};
-ghost use Rattle.file.specs.Reads.{rangeFault};
+ghost use Rattle.rules.specs.Names.{most_pots};
+ghost use Rattle.rules.specs.File.{pots_told};
+ghost use Rattle.rules.specs.Refusals.{plain, count_fault};
+ghost use Rattle.file.specs.Reads.{range_fault};
 
 // What is wrong with so many records, where they are to be from `low` to `high`: 0 if nothing is.
 fn range_fault(n: u64, low: u64, high: u64) -> u64
-    ensures { result ≡ rangeFault n low high }
+    ensures { result ≡ range_fault n low high }
 {
     if n < low {
         return names::COUNT_OUTSIDE;
@@ -20,7 +20,7 @@ fn range_fault(n: u64, low: u64, high: u64) -> u64
 
 // What is wrong with the count at `at`, which is to be from `low` to `high`: 0 if nothing is.
 pub fn count_fault(file: &[u8], at: usize, low: u64, high: u64) -> u64
-    ensures { result ≡ countFault plain file.now at low high }
+    ensures { result ≡ count_fault plain file.now at low high }
 {
     if reader::left(file, at) < names::COUNT_WIDTH {
         return names::ENDS_EARLY;
@@ -30,7 +30,7 @@ pub fn count_fault(file: &[u8], at: usize, low: u64, high: u64) -> u64
 
 // What is wrong with the count of pots at `at`, which may tell of caps and drawn numbers as well: 0 if nothing is.
 pub fn pots_count_fault(file: &[u8], at: usize) -> u64
-    ensures { result ≡ countFault potsTold file.now at 1 mostPots }
+    ensures { result ≡ count_fault pots_told file.now at 1 most_pots }
 {
     if reader::left(file, at) < names::COUNT_WIDTH {
         return names::ENDS_EARLY;

@@ -2,7 +2,7 @@
 ghost use Rattle.std.specs.Prelude.{◌≡◌};
 ghost use Rattle.rules.specs.Refusals.{reading};
 ghost use Rattle.rules.specs.declared.Reading.TheVariants.{Accepted};
-ghost use Rattle.file.specs.Reads.{readBids};
+ghost use Rattle.file.specs.Reads.{read_bids};
 
 mod count;
 mod section;
@@ -11,7 +11,7 @@ use rules::{Reading, Sections};
 
 // "Then 10, 11": the sections were read, and nothing is to follow them.
 fn ending(file: &[u8], done: Sections) -> Reading
-    requires { readBids file.now ≡ Accepted done }
+    requires { read_bids file.now ≡ Accepted done }
     ensures { result ≡ reading file.now }
 {
     let at = done.bids_at;

@@ -1,7 +1,7 @@
 // The five sections: each count is judged, then the records are handed on as the part of the file that they occupy.
 ghost use Rattle.std.specs.Prelude.{◌≡◌};
 ghost use Rattle.rules.specs.declared.Reading.TheVariants.{Accepted};
-ghost use Rattle.file.specs.Reads.{readYears, readPots, readTechs, readApps, readBids};
+ghost use Rattle.file.specs.Reads.{read_years, read_pots, read_techs, read_apps, read_bids};
 
 use super::count::{count_fault, pots_count_fault};
 use layout::{parts, pot, technology};
@@ -14,7 +14,7 @@ use rules::{Reading, Sections};
 
 // The years, with which a file begins.
 pub fn read_years(file: &[u8]) -> Reading
-    ensures { result ≡ readYears file.now }
+    ensures { result ≡ read_years file.now }
 {
     let f = count_fault(file, 0, 1, names::MOST_YEARS);
     if f != 0 {
@@ -27,8 +27,8 @@ pub fn read_years(file: &[u8]) -> Reading
 
 // The pots, after the years. Their count tells of caps and drawn numbers as well.
 pub fn read_pots(file: &[u8], past: Sections) -> Reading
-    requires { readYears file.now ≡ Accepted past }
-    ensures { result ≡ readPots file.now }
+    requires { read_years file.now ≡ Accepted past }
+    ensures { result ≡ read_pots file.now }
 {
     let at = past.pots_at;
     let f = pots_count_fault(file, at);
@@ -49,8 +49,8 @@ pub fn read_pots(file: &[u8], past: Sections) -> Reading
 
 // The technologies, after the pots.
 pub fn read_technologies(file: &[u8], past: Sections) -> Reading
-    requires { readPots file.now ≡ Accepted past }
-    ensures { result ≡ readTechs file.now }
+    requires { read_pots file.now ≡ Accepted past }
+    ensures { result ≡ read_techs file.now }
 {
     let at = past.technologies_at;
     let f = count_fault(file, at, 1, names::MOST_TECHS);
@@ -68,8 +68,8 @@ pub fn read_technologies(file: &[u8], past: Sections) -> Reading
 
 // The applications, after the technologies. They are held to the years.
 pub fn read_applications(file: &[u8], past: Sections) -> Reading
-    requires { readTechs file.now ≡ Accepted past }
-    ensures { result ≡ readApps file.now }
+    requires { read_techs file.now ≡ Accepted past }
+    ensures { result ≡ read_apps file.now }
 {
     let at = past.applications_at;
     let f = count_fault(file, at, 0, names::MOST_APPS);
@@ -92,8 +92,8 @@ pub fn read_applications(file: &[u8], past: Sections) -> Reading
 
 // The bids, after the applications. They are held to the years, the technologies and the applications.
 pub fn read_bids(file: &[u8], past: Sections) -> Reading
-    requires { readApps file.now ≡ Accepted past }
-    ensures { result ≡ readBids file.now }
+    requires { read_apps file.now ≡ Accepted past }
+    ensures { result ≡ read_bids file.now }
 {
     let at = past.bids_at;
     let f = count_fault(file, at, 0, names::MOST_BIDS);

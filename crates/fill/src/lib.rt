@@ -1,10 +1,10 @@
 // The sheet of one pot, filled from the sections of an accepted file. The lent sheet is blank.
 ghost use Rattle.std.specs.Prelude.{◌≡◌, ◌+◌, ◌≤◌, ◌<◌, length};
-ghost use Rattle.rules.specs.Names.{mostBids, mostApps, longYear, largestCapacity};
-ghost use Rattle.rules.specs.Round.{potOf};
-ghost use Rattle.layout.specs.Layout.{bidShown};
-ghost use Rattle.sheet.specs.Sheet.{sheetLength, places, potIn, Ready};
-ghost use Rattle.rows.specs.Rows.{roundIn, Held};
+ghost use Rattle.rules.specs.Names.{most_bids, most_apps, long_year, largest_capacity};
+ghost use Rattle.rules.specs.Round.{pot_of};
+ghost use Rattle.layout.specs.Layout.{bid_shown};
+ghost use Rattle.sheet.specs.Sheet.{sheet_length, places, pot_in, Ready};
+ghost use Rattle.rows.specs.Rows.{round_in, Held};
 ghost use Rattle.fill.specs.Fill.{Blank, BlankAdmins, BlankFrom, Put, RowsRight, AdminsRight, AllFigures, RowsWritten, AdminsWritten, FiguresOf};
 ghost use Rattle.fill.specs.Fill.{FiguresWritten, LimitsWritten, CapWritten, DrawnWritten, Entered, size_of};
 
@@ -15,7 +15,7 @@ use sheet::{Sheet, Size};
 
 // The numbers v at a place of the sheet.
 fn put(sheet: &mut Sheet, at: usize, v: &[u64])
-    requires { (at + length v.now ≤ sheetLength) × (length sheet.old ≡ sheetLength) }
+    requires { (at + length v.now ≤ sheet_length) × (length sheet.old ≡ sheet_length) }
     ensures { Put v.now (length v.now) at sheet.old sheet.new }
 {
     let mut j: usize = 0;
@@ -27,8 +27,8 @@ fn put(sheet: &mut Sheet, at: usize, v: &[u64])
 
 // The rows of all bids. Those of other pots are zeros, and so are those after the last bid.
 fn fill_rows(file: &[u8], sections: Sections, p: usize, sheet: &mut Sheet)
-    requires { Held file.now sections × (length sheet.old ≡ sheetLength) }
-    ensures { RowsWritten (roundIn file.now sections) p sheet.old sheet.new }
+    requires { Held file.now sections × (length sheet.old ≡ sheet_length) }
+    ensures { RowsWritten (round_in file.now sections) p sheet.old sheet.new }
 {
     let mut k: usize = 0;
     while k < names::BIDS {
@@ -40,9 +40,9 @@ fn fill_rows(file: &[u8], sections: Sections, p: usize, sheet: &mut Sheet)
 
 // The administrative prices of the applications, over blank ones: those of other pots stay zeros.
 fn fill_admins(file: &[u8], sections: Sections, p: usize, sheet: &mut Sheet)
-    requires held { Held file.now sections × (length sheet.old ≡ sheetLength) }
+    requires held { Held file.now sections × (length sheet.old ≡ sheet_length) }
     requires blank_admins { BlankAdmins sheet.old }
-    ensures { AdminsWritten (roundIn file.now sections) p sheet.old sheet.new }
+    ensures { AdminsWritten (round_in file.now sections) p sheet.old sheet.new }
 {
     let mut a: usize = 0;
     while a < names::APPS {
@@ -56,9 +56,9 @@ fn fill_admins(file: &[u8], sections: Sections, p: usize, sheet: &mut Sheet)
 
 // The capacity and the figures of a bid of technology t, or of an application at its administrative price, at place k, in the years of the file.
 fn fill_years(file: &[u8], sections: Sections, t: usize, bid: Bid, k: usize, sheet: &mut Sheet)
-    requires held { Held file.now sections × (length sheet.old ≡ sheetLength) }
-    requires t_lt_technologies { (t < sections.technologies) × (bid.days ≤ longYear) × (bid.capacity ≤ largestCapacity) × (k < places) }
-    ensures { FiguresOf (roundIn file.now sections) t (bidShown bid) k sheet.old sheet.new }
+    requires held { Held file.now sections × (length sheet.old ≡ sheet_length) }
+    requires t_lt_technologies { (t < sections.technologies) × (bid.days ≤ long_year) × (bid.capacity ≤ largest_capacity) × (k < places) }
+    ensures { FiguresOf (round_in file.now sections) t (bid_shown bid) k sheet.old sheet.new }
 {
     let years = sections.years;
     sheet[sheet::FIGURES_AT + k * sheet::FIGURES] = bid.capacity;
@@ -76,9 +76,9 @@ fn fill_years(file: &[u8], sections: Sections, t: usize, bid: Bid, k: usize, she
 
 // The figures of all bids, over blank ones: those of other pots, which the rows tell, stay zeros.
 fn fill_figures(file: &[u8], sections: Sections, p: usize, sheet: &mut Sheet)
-    requires held { Held file.now sections × (length sheet.old ≡ sheetLength) }
-    requires rows_right { RowsRight (roundIn file.now sections) p mostBids sheet.old × BlankFrom 0 sheet.old }
-    ensures { FiguresWritten (roundIn file.now sections) p mostBids sheet.old sheet.new }
+    requires held { Held file.now sections × (length sheet.old ≡ sheet_length) }
+    requires rows_right { RowsRight (round_in file.now sections) p most_bids sheet.old × BlankFrom 0 sheet.old }
+    ensures { FiguresWritten (round_in file.now sections) p most_bids sheet.old sheet.new }
 {
     let mut k: usize = 0;
     while k < names::BIDS {
@@ -93,10 +93,10 @@ fn fill_figures(file: &[u8], sections: Sections, p: usize, sheet: &mut Sheet)
 
 // And those of all applications at their administrative prices, in the places after the bids'.
 fn fill_admin_figures(file: &[u8], sections: Sections, p: usize, sheet: &mut Sheet)
-    requires held { Held file.now sections × (length sheet.old ≡ sheetLength) }
-    requires admins_right { AdminsRight (roundIn file.now sections) p mostApps sheet.old }
-    requires all_figures { AllFigures (roundIn file.now sections) p mostBids sheet.old × BlankFrom mostBids sheet.old }
-    ensures { FiguresWritten (roundIn file.now sections) p places sheet.old sheet.new }
+    requires held { Held file.now sections × (length sheet.old ≡ sheet_length) }
+    requires admins_right { AdminsRight (round_in file.now sections) p most_apps sheet.old }
+    requires all_figures { AllFigures (round_in file.now sections) p most_bids sheet.old × BlankFrom most_bids sheet.old }
+    ensures { FiguresWritten (round_in file.now sections) p places sheet.old sheet.new }
 {
     let mut a: usize = 0;
     while a < names::APPS {
@@ -111,8 +111,8 @@ fn fill_admin_figures(file: &[u8], sections: Sections, p: usize, sheet: &mut She
 
 // The limits of the years: the budgets of pot p, in pence.
 fn fill_limits(file: &[u8], sections: Sections, p: usize, sheet: &mut Sheet)
-    requires { Held file.now sections × (p < sections.pots) × (length sheet.old ≡ sheetLength) }
-    ensures { LimitsWritten (roundIn file.now sections) p sheet.old sheet.new }
+    requires { Held file.now sections × (p < sections.pots) × (length sheet.old ≡ sheet_length) }
+    ensures { LimitsWritten (round_in file.now sections) p sheet.old sheet.new }
 {
     let recs = parts::pots(file, sections);
     let years = sections.years;
@@ -126,8 +126,8 @@ fn fill_limits(file: &[u8], sections: Sections, p: usize, sheet: &mut Sheet)
 
 // The cap of pot p, if it has one, as the limit after those of the years; how many limits there are then.
 fn fill_cap(file: &[u8], sections: Sections, p: usize, sheet: &mut Sheet) -> usize
-    requires { Held file.now sections × (p < sections.pots) × (length sheet.old ≡ sheetLength) }
-    ensures { CapWritten (roundIn file.now sections) p sheet.old sheet.new result }
+    requires { Held file.now sections × (p < sections.pots) × (length sheet.old ≡ sheet_length) }
+    ensures { CapWritten (round_in file.now sections) p sheet.old sheet.new result }
 {
     let years = sections.years;
     let gained = sections.gained;
@@ -145,8 +145,8 @@ fn fill_cap(file: &[u8], sections: Sections, p: usize, sheet: &mut Sheet) -> usi
 
 // The drawn number of pot p, as one more than it is; 0 in a file without drawn numbers.
 fn fill_drawn(file: &[u8], sections: Sections, p: usize, sheet: &mut Sheet)
-    requires { Held file.now sections × (p < sections.pots) × (length sheet.old ≡ sheetLength) }
-    ensures { DrawnWritten (roundIn file.now sections) p sheet.old sheet.new }
+    requires { Held file.now sections × (p < sections.pots) × (length sheet.old ≡ sheet_length) }
+    ensures { DrawnWritten (round_in file.now sections) p sheet.old sheet.new }
 {
     let years = sections.years;
     let gained = sections.gained;
@@ -160,7 +160,7 @@ fn fill_drawn(file: &[u8], sections: Sections, p: usize, sheet: &mut Sheet)
 
 // The bids that enter the auction, among the first m, and how many these are.
 fn fill_entrants(m: usize, sheet: &mut Sheet) -> usize
-    requires { (m ≤ mostBids) × (length sheet.old ≡ sheetLength) }
+    requires { (m ≤ most_bids) × (length sheet.old ≡ sheet_length) }
     ensures { Entered m sheet.old sheet.new result }
 {
     let mut n: usize = 0;
@@ -178,9 +178,9 @@ fn fill_entrants(m: usize, sheet: &mut Sheet) -> usize
 // The sheet of pot p: it shows the pot of the round, and is ready to be cleared.
 pub fn fill(file: &[u8], sections: Sections, p: usize, sheet: &mut Sheet) -> Size
     requires held { Held file.now sections × (p < sections.pots) }
-    requires sheet_len { (length sheet.old ≡ sheetLength) × Blank sheet.old }
-    ensures result_after { (potIn sheet.new result ≡ potOf (roundIn file.now sections) p) × Ready sheet.new result }
-    ensures value { result ≡ size_of (roundIn file.now sections) result.columns result.entered }
+    requires sheet_len { (length sheet.old ≡ sheet_length) × Blank sheet.old }
+    ensures result_after { (pot_in sheet.new result ≡ pot_of (round_in file.now sections) p) × Ready sheet.new result }
+    ensures value { result ≡ size_of (round_in file.now sections) result.columns result.entered }
 {
     fill_rows(file, sections, p, sheet);
     fill_admins(file, sections, p, sheet);

@@ -1,10 +1,10 @@
 // What a tie starts from: the bids that remain, gathered as a list, with "one binary place for each remaining bid, the lowest draw highest"; and what the present
 // winners count at its price. `combinations/specs/Combinations.antt` says what each function computes.
 ghost use Rattle.std.specs.Prelude.{◌≡◌, ◌≤◌, length};
-ghost use Rattle.rules.specs.Names.{mostBids, widestTie};
+ghost use Rattle.rules.specs.Names.{most_bids, widest_tie};
 ghost use Rattle.arrays.specs.Sets.{members};
 ghost use Rattle.sheet.specs.Sheet.{Ready};
-ghost use Rattle.combinations.specs.Combinations.{Few, Numbers, compactOf, above_of, ranksOf, startsOf, tiedOf};
+ghost use Rattle.combinations.specs.Combinations.{Few, Numbers, compact_of, above_of, ranks_of, starts_of, tied_of};
 
 pub mod winners;
 
@@ -14,8 +14,8 @@ use sheet::{Sheet, Size};
 
 // The numbers of the bids of a small set.
 fn compact(of: Size, set: [bool; BIDS]) -> [usize; WIDEST_TIE]
-    requires { (of.bids ≤ mostBids) × (length (members set of.bids) ≤ widestTie) }
-    ensures { result ≡ compactOf set of.bids }
+    requires { (of.bids ≤ most_bids) × (length (members set of.bids) ≤ widest_tie) }
+    ensures { result ≡ compact_of set of.bids }
 {
     let mut list = [0usize; WIDEST_TIE];
     let mut c: usize = 0;
@@ -50,7 +50,7 @@ fn above(sheet: &Sheet, of: Size, list: &[usize; WIDEST_TIE], count: usize, x: u
 // The binary place of each bid: the lowest draw highest.
 fn ranks(sheet: &Sheet, of: Size, list: &[usize; WIDEST_TIE], count: usize) -> [u32; WIDEST_TIE]
     requires { Ready sheet.now of × Numbers list.now count of.bids }
-    ensures { result ≡ ranksOf sheet.now list.now count }
+    ensures { result ≡ ranks_of sheet.now list.now count }
 {
     let mut out = [0u32; WIDEST_TIE];
     let mut j: usize = 0;
@@ -64,7 +64,7 @@ fn ranks(sheet: &Sheet, of: Size, list: &[usize; WIDEST_TIE], count: usize) -> [
 // The start year of each bid.
 fn starts(sheet: &Sheet, of: Size, list: &[usize; WIDEST_TIE], count: usize) -> [u32; WIDEST_TIE]
     requires { Ready sheet.now of × Numbers list.now count of.bids }
-    ensures { result ≡ startsOf sheet.now list.now count }
+    ensures { result ≡ starts_of sheet.now list.now count }
 {
     let mut out = [0u32; WIDEST_TIE];
     let mut j: usize = 0;
@@ -78,7 +78,7 @@ fn starts(sheet: &Sheet, of: Size, list: &[usize; WIDEST_TIE], count: usize) -> 
 // The bids of a set, of which there are `count`.
 pub fn gathered(sheet: &Sheet, of: Size, set: [bool; BIDS], count: usize) -> Tied
     requires { Ready sheet.now of × Few of set count }
-    ensures { result ≡ tiedOf sheet.now of set count }
+    ensures { result ≡ tied_of sheet.now of set count }
 {
     let bids = compact(of, set);
     let ranks = ranks(sheet, of, &bids, count);

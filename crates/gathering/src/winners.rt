@@ -1,9 +1,9 @@
 // What the present winners count where some delivery years have the price of the tie: a row of columns for each set of these.
 ghost use Rattle.std.specs.Prelude.{◌≡◌, ◌*◌, ◌<◌, get_or};
-ghost use Rattle.rules.specs.Names.{mostDeliveries};
+ghost use Rattle.rules.specs.Names.{most_deliveries};
 ghost use Rattle.arrays.specs.Sets.{placed};
 ghost use Rattle.sheet.specs.Sheet.{columns, Ready};
-ghost use Rattle.combinations.specs.Combinations.{yearSets, repricedTo, basesOf};
+ghost use Rattle.combinations.specs.Combinations.{year_sets, repriced_to, bases_of};
 
 use combinations::places::{SETS, member};
 use combinations::tables::Base;
@@ -12,7 +12,7 @@ use sheet::{COLUMNS, Sheet, Size};
 
 // The clearing prices of a trial: one price in each delivery year of the set t.
 fn repriced(prices: [u64; MOST_DELIVERIES], price: u64, t: u32) -> [u64; MOST_DELIVERIES]
-    ensures { result ≡ repricedTo prices price t mostDeliveries }
+    ensures { result ≡ repriced_to prices price t most_deliveries }
 {
     let mut row = prices;
     let mut d: usize = 0;
@@ -27,7 +27,7 @@ fn repriced(prices: [u64; MOST_DELIVERIES], price: u64, t: u32) -> [u64; MOST_DE
 
 // A row of totals, laid as that of the set t.
 fn laid(base: Base, row: [u64; COLUMNS], t: usize) -> Base
-    requires { t < yearSets }
+    requires { t < year_sets }
     ensures { result ≡ placed (λ c. get_or row c 0) base (t * columns) columns }
 {
     let mut out = base;
@@ -48,7 +48,7 @@ pub fn bases(
     price: u64,
 ) -> Base
     requires { Ready sheet.now of }
-    ensures { result ≡ basesOf sheet.now of marks prices price }
+    ensures { result ≡ bases_of sheet.now of marks prices price }
 {
     let mut base = [0u64; SETS * COLUMNS];
     let mut t: usize = 0;

@@ -24,29 +24,29 @@ pick_all Q false x y f g = g refl
 pub clash : {A : Type 0} {b : Bool} → b ≡ true → b ≡ false → A
 clash t f = absurd (true≢false (sym t ∙ f))
 
-pub and-true : (a b : Bool) → (a && b) ≡ true → (a ≡ true) × (b ≡ true)
-and-true true b e = (refl, e)
-and-true false b e = clash e refl
+pub and_true : (a b : Bool) → (a && b) ≡ true → (a ≡ true) × (b ≡ true)
+and_true true b e = (refl, e)
+and_true false b e = clash e refl
 
-pub and-false : (a b : Bool) → (a && b) ≡ false → (a ≡ false) ⊎ (b ≡ false)
-and-false true b e = inr e
-and-false false b e = inl refl
+pub and_false : (a b : Bool) → (a && b) ≡ false → (a ≡ false) ⊎ (b ≡ false)
+and_false true b e = inr e
+and_false false b e = inl refl
 
 pub and_none : (b : Bool) → (b && false) ≡ false
 and_none true = refl
 and_none false = refl
 
-pub not-is-true : (a : Bool) → not a ≡ true → a ≡ false
-not-is-true true e = clash e refl
-not-is-true false e = refl
+pub not_is_true : (a : Bool) → not a ≡ true → a ≡ false
+not_is_true true e = clash e refl
+not_is_true false e = refl
 
-pub not-is-false : (a : Bool) → not a ≡ false → a ≡ true
-not-is-false true e = refl
-not-is-false false e = clash refl e
+pub not_is_false : (a : Bool) → not a ≡ false → a ≡ true
+not_is_false true e = refl
+not_is_false false e = clash refl e
 
-pub or-none : (b : Bool) → (b || false) ≡ b
-or-none true = refl
-or-none false = refl
+pub or_none : (b : Bool) → (b || false) ≡ b
+or_none true = refl
+or_none false = refl
 
 pub or_cases : (a b : Bool) → (a || b) ≡ true → (a ≡ true) ⊎ (b ≡ true)
 or_cases true b e = inl refl
@@ -65,16 +65,16 @@ pub data In (k : ℕ) : List ℕ → Type 0 where
   here : {x : ℕ} {xs : List ℕ} → k ≡ x → In k (x ∷ xs)
   there : {x : ℕ} {xs : List ℕ} → In k xs → In k (x ∷ xs)
 
-pub in-none : {A : Type 0} {k : ℕ} → In k [] → A
-in-none i = absurd (elim i [ ])
+pub in_none : {A : Type 0} {k : ℕ} → In k [] → A
+in_none i = absurd (elim i [ ])
 
-pub memb-in : (k : ℕ) (l : List ℕ) → memb k l ≡ true → In k l
-memb-in k [] e = clash e refl
-memb-in k (x ∷ xs) e = ⊎_elim (λ t. here (eqb-true k x t)) (λ t. there (memb-in k xs t)) (or_cases (eqb k x) (memb k xs) e)
+pub memb_in : (k : ℕ) (l : List ℕ) → memb k l ≡ true → In k l
+memb_in k [] e = clash e refl
+memb_in k (x ∷ xs) e = ⊎_elim (λ t. here (eqb-true k x t)) (λ t. there (memb_in k xs t)) (or_cases (eqb k x) (memb k xs) e)
 
-pub in-memb : {k : ℕ} {l : List ℕ} → In k l → memb k l ≡ true
-in-memb {k} (here {x} {xs} e) = or_left (eqb k x) (memb k xs) (eq-eqb k x e)
-in-memb {k} (there {x} {xs} i) = or_right (eqb k x) (memb k xs) (in-memb i)
+pub in_memb : {k : ℕ} {l : List ℕ} → In k l → memb k l ≡ true
+in_memb {k} (here {x} {xs} e) = or_left (eqb k x) (memb k xs) (eq-eqb k x e)
+in_memb {k} (there {x} {xs} i) = or_right (eqb k x) (memb k xs) (in_memb i)
 
 pub in_left : {k : ℕ} {a : List ℕ} (b : List ℕ) → In k a → In k (a ++ b)
 in_left b (here e) = here e
@@ -84,107 +84,107 @@ pub in_right : {k : ℕ} (a : List ℕ) {b : List ℕ} → In k b → In k (a ++
 in_right [] i = i
 in_right (x ∷ a) i = there (in_right a i)
 
-pub in-cases : {k : ℕ} (a b : List ℕ) → In k (a ++ b) → In k a ⊎ In k b
-in-cases [] b i = inr i
-in-cases (x ∷ a) b (here e) = inl (here e)
-in-cases (x ∷ a) b (there i) = ⊎_elim (λ j. inl (there j)) (λ j. inr j) (in-cases a b i)
+pub in_cases : {k : ℕ} (a b : List ℕ) → In k (a ++ b) → In k a ⊎ In k b
+in_cases [] b i = inr i
+in_cases (x ∷ a) b (here e) = inl (here e)
+in_cases (x ∷ a) b (there i) = ⊎_elim (λ j. inl (there j)) (λ j. inr j) (in_cases a b i)
 
 pub in_map : {k : ℕ} (f : ℕ → ℕ) {l : List ℕ} → In k l → In (f k) (map f l)
 in_map f (here e) = here (ap f e)
 in_map f (there i) = there (in_map f i)
 
-pub map-in : {y : ℕ} (f : ℕ → ℕ) (l : List ℕ) → In y (map f l) → (k : ℕ) × In k l × (y ≡ f k)
-map-in f [] i = in-none i
-map-in f (x ∷ l) (here e) = (x, here refl, e)
-map-in f (x ∷ l) (there i) = let r = map-in f l i in (r.0, there r.1, r.2)
+pub map_in : {y : ℕ} (f : ℕ → ℕ) (l : List ℕ) → In y (map f l) → (k : ℕ) × In k l × (y ≡ f k)
+map_in f [] i = in_none i
+map_in f (x ∷ l) (here e) = (x, here refl, e)
+map_in f (x ∷ l) (there i) = let r = map_in f l i in (r.0, there r.1, r.2)
 
-pub sift-in : (k : ℕ) (f : ℕ → Bool) (l : List ℕ) → In k (sift f l) → In k l × (f k ≡ true)
-sift-in k f [] i = in-none i
-sift-in k f (x ∷ l) i = go (sift-in k f l) (f x) refl i
+pub sift_in : (k : ℕ) (f : ℕ → Bool) (l : List ℕ) → In k (sift f l) → In k l × (f k ≡ true)
+sift_in k f [] i = in_none i
+sift_in k f (x ∷ l) i = go (sift_in k f l) (f x) refl i
   where
     go : (In k (sift f l) → In k l × (f k ≡ true)) → (b : Bool) → f x ≡ b → In k (keep b x (sift f l)) → In k (x ∷ l) × (f k ≡ true)
     go ih true t (here e) = (here e, ap f e ∙ t)
     go ih true t (there j) = (there (ih j).0, (ih j).1)
     go ih false t j = (there (ih j).0, (ih j).1)
 
-pub in-sift : {k : ℕ} (f : ℕ → Bool) {l : List ℕ} → In k l → f k ≡ true → In k (sift f l)
-in-sift f (here {x} e) t = rw (sym (ap f e) ∙ t) (here e)
-in-sift f (there {x} {xs} i) t = ⊎_elim (λ u. rw u (there (in-sift f i t))) (λ u. rw u (in-sift f i t)) (split (f x))
+pub in_sift : {k : ℕ} (f : ℕ → Bool) {l : List ℕ} → In k l → f k ≡ true → In k (sift f l)
+in_sift f (here {x} e) t = rw (sym (ap f e) ∙ t) (here e)
+in_sift f (there {x} {xs} i) t = ⊎_elim (λ u. rw u (there (in_sift f i t))) (λ u. rw u (in_sift f i t)) (split (f x))
 
-pub in-below : (k n : ℕ) → k < n → In k (below n)
-in-below k zero h = absurd (omega arith)
-in-below k (suc n) h = ⊎_elim (λ e. here (eqb-true k n e)) (λ f. let d = eqb-false k n f in there (in-below k n (omega arith))) (split (eqb k n))
+pub in_below : (k n : ℕ) → k < n → In k (below n)
+in_below k zero h = absurd (omega arith)
+in_below k (suc n) h = ⊎_elim (λ e. here (eqb-true k n e)) (λ f. let d = eqb-false k n f in there (in_below k n (omega arith))) (split (eqb k n))
 
 pub below_in : (k n : ℕ) → In k (below n) → k < n
-below_in k zero i = in-none i
+below_in k zero i = in_none i
 below_in k (suc n) (here e) = omega arith
 below_in k (suc n) (there i) = let h = below_in k n i in omega arith
 
 pub in_one : {c b : ℕ} → In c (b ∷ []) → c ≡ b
 in_one (here e) = e
-in_one (there i) = in-none i
+in_one (there i) = in_none i
 
 pub in_tail : {c b : ℕ} {l : List ℕ} → In c (b ∷ l) → (c ≡ b) ⊎ In c l
 in_tail (here e) = inl e
 in_tail (there i) = inr i
 
-pub memb-parts : (k : ℕ) (a b : List ℕ) → memb k (a ++ b) ≡ false → (memb k a ≡ false) × (memb k b ≡ false)
-memb-parts k a b f = (
-  ⊎_elim (λ t. clash (in-memb (in_left b (memb-in k a t))) f) (λ g. g) (split (memb k a)),
-  ⊎_elim (λ t. clash (in-memb (in_right a (memb-in k b t))) f) (λ g. g) (split (memb k b)),
+pub memb_parts : (k : ℕ) (a b : List ℕ) → memb k (a ++ b) ≡ false → (memb k a ≡ false) × (memb k b ≡ false)
+memb_parts k a b f = (
+  ⊎_elim (λ t. clash (in_memb (in_left b (memb_in k a t))) f) (λ g. g) (split (memb k a)),
+  ⊎_elim (λ t. clash (in_memb (in_right a (memb_in k b t))) f) (λ g. g) (split (memb k b)),
 )
 
-pub memb-map-more : (y : ℕ) (f : ℕ → ℕ) (a b : List ℕ) → memb y (map f b) ≡ true → memb y (map f (a ++ b)) ≡ true
-memb-map-more y f a b t = let r = map-in f b (memb-in y (map f b) t) in rw r.2 (in-memb (in_map f (in_right a r.1)))
+pub memb_map_more : (y : ℕ) (f : ℕ → ℕ) (a b : List ℕ) → memb y (map f b) ≡ true → memb y (map f (a ++ b)) ≡ true
+memb_map_more y f a b t = let r = map_in f b (memb_in y (map f b) t) in rw r.2 (in_memb (in_map f (in_right a r.1)))
 
-pub length-below : (n : ℕ) → length (below n) ≡ n
-length-below zero = refl
-length-below (suc n) = ap suc (length-below n)
+pub length_below : (n : ℕ) → length (below n) ≡ n
+length_below zero = refl
+length_below (suc n) = ap suc (length_below n)
 
-pub sift-le : (f : ℕ → Bool) (l : List ℕ) → length (sift f l) ≤ length l
-sift-le f [] = omega arith
-sift-le f (x ∷ l) = let h = sift-le f l in ⊎_elim (λ t. rw t (omega arith)) (λ t. rw t (omega arith)) (split (f x))
+pub sift_le : (f : ℕ → Bool) (l : List ℕ) → length (sift f l) ≤ length l
+sift_le f [] = omega arith
+sift_le f (x ∷ l) = let h = sift_le f l in ⊎_elim (λ t. rw t (omega arith)) (λ t. rw t (omega arith)) (split (f x))
 
 -- a test that passes less keeps no more
-pub sift-fewer : (f g : ℕ → Bool) (l : List ℕ) → ((k : ℕ) → g k ≡ true → f k ≡ true) → length (sift g l) ≤ length (sift f l)
-sift-fewer f g [] h = omega arith
-sift-fewer f g (x ∷ l) h =
-    let r = sift-fewer f g l h in
+pub sift_fewer : (f g : ℕ → Bool) (l : List ℕ) → ((k : ℕ) → g k ≡ true → f k ≡ true) → length (sift g l) ≤ length (sift f l)
+sift_fewer f g [] h = omega arith
+sift_fewer f g (x ∷ l) h =
+    let r = sift_fewer f g l h in
     case (g x) (λ t. rw (t, h x t) (omega arith)) (λ t. case (f x) (λ u. rw (t, u) (omega arith)) (λ u. rw (t, u) (omega arith)))
 
 -- and keeps fewer, where one that passed does not any more
-pub sift-less : (f g : ℕ → Bool) {b : ℕ} {l : List ℕ} → ((k : ℕ) → g k ≡ true → f k ≡ true) → In b l
+pub sift_less : (f g : ℕ → Bool) {b : ℕ} {l : List ℕ} → ((k : ℕ) → g k ≡ true → f k ≡ true) → In b l
     → f b ≡ true → g b ≡ false → length (sift g l) < length (sift f l)
-sift-less f g {b} h (here {x} {xs} e) t u = rw (sym (ap g e) ∙ u, sym (ap f e) ∙ t) (omega (arith, sift-fewer f g xs h))
-sift-less f g h (there {x} {xs} i) t u =
-    let r = sift-less f g h i t u in
+sift_less f g {b} h (here {x} {xs} e) t u = rw (sym (ap g e) ∙ u, sym (ap f e) ∙ t) (omega (arith, sift_fewer f g xs h))
+sift_less f g h (there {x} {xs} i) t u =
+    let r = sift_less f g h i t u in
     case (g x) (λ p. rw (p, h x p) (omega arith)) (λ p. case (f x) (λ q. rw (p, q) (omega arith)) (λ q. rw (p, q) (omega arith)))
 
-pub in-length : {b : ℕ} {l : List ℕ} → In b l → 0 < length l
-in-length (here e) = omega arith
-in-length (there i) = omega arith
+pub in_length : {b : ℕ} {l : List ℕ} → In b l → 0 < length l
+in_length (here e) = omega arith
+in_length (there i) = omega arith
 
 -- two tests that agree keep the same
-pub sift-same : (f g : ℕ → Bool) (l : List ℕ) → ((k : ℕ) → In k l → f k ≡ g k) → sift f l ≡ sift g l
-sift-same f g [] h = refl
-sift-same f g (x ∷ l) h = rw (h x (here refl), sift-same f g l (λ k i. h k (there i)))
+pub sift_same : (f g : ℕ → Bool) (l : List ℕ) → ((k : ℕ) → In k l → f k ≡ g k) → sift f l ≡ sift g l
+sift_same f g [] h = refl
+sift_same f g (x ∷ l) h = rw (h x (here refl), sift_same f g l (λ k i. h k (there i)))
 
 -- a test within another
-pub sift-sift : (f g : ℕ → Bool) (l : List ℕ) → ((k : ℕ) → f k ≡ true → g k ≡ true) → sift f (sift g l) ≡ sift f l
-sift-sift f g [] h = refl
-sift-sift f g (x ∷ l) h =
-    let r = sift-sift f g l h in
+pub sift_sift : (f g : ℕ → Bool) (l : List ℕ) → ((k : ℕ) → f k ≡ true → g k ≡ true) → sift f (sift g l) ≡ sift f l
+sift_sift f g [] h = refl
+sift_sift f g (x ∷ l) h =
+    let r = sift_sift f g l h in
     case (f x) (λ t. rw (t, h x t, t, r)) (λ u. rw u (case (g x) (λ t. rw (t, u, r)) (λ t. rw (t, r))))
 
 -- one test after another is both
-pub sift-both : (f g : ℕ → Bool) (l : List ℕ) → sift f (sift g l) ≡ sift (λ b. g b && f b) l
-sift-both f g [] = refl
-sift-both f g (x ∷ l) = case (g x) (λ t. rw (t, sift-both f g l)) (λ u. rw (u, sift-both f g l))
+pub sift_both : (f g : ℕ → Bool) (l : List ℕ) → sift f (sift g l) ≡ sift (λ b. g b && f b) l
+sift_both f g [] = refl
+sift_both f g (x ∷ l) = case (g x) (λ t. rw (t, sift_both f g l)) (λ u. rw (u, sift_both f g l))
 
-pub memb-join : (k : ℕ) (a b : List ℕ) → memb k (a ++ b) ≡ (memb k a || memb k b)
-memb-join k [] b = refl
-memb-join k (x ∷ a) b = case (eqb k x) (λ t. rw t) (λ f. rw (f, memb-join k a b))
+pub memb_join : (k : ℕ) (a b : List ℕ) → memb k (a ++ b) ≡ (memb k a || memb k b)
+memb_join k [] b = refl
+memb_join k (x ∷ a) b = case (eqb k x) (λ t. rw t) (λ f. rw (f, memb_join k a b))
 
-pub memb-map-join : (k : ℕ) (f : ℕ → ℕ) (a b : List ℕ) → memb k (map f (a ++ b)) ≡ (memb k (map f a) || memb k (map f b))
-memb-map-join k f [] b = refl
-memb-map-join k f (x ∷ a) b = case (eqb k (f x)) (λ t. rw t) (λ g. rw (g, memb-map-join k f a b))
+pub memb_map_join : (k : ℕ) (f : ℕ → ℕ) (a b : List ℕ) → memb k (map f (a ++ b)) ≡ (memb k (map f a) || memb k (map f b))
+memb_map_join k f [] b = refl
+memb_map_join k f (x ∷ a) b = case (eqb k (f x)) (λ t. rw t) (λ g. rw (g, memb_map_join k f a b))

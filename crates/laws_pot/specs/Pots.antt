@@ -3,8 +3,8 @@
 use Rattle.std.specs.Prelude.{ℕ, ◌+◌, ◌*◌, ◌/◌, ◌≡◌, refl, Bool, true, false, not, ◌&&◌, ◌||◌, List, [], ◌∷◌, ◌++◌, map, eqb, leb, ltb}
 use Rattle.std.proofs.Math.Option.{Option, none, some}
 use Rattle.rules.specs.Lists.{pick, memb, below}
-use Rattle.rules.specs.Pot.{Pot, Trace, winners, downs, seen, closed, hanging, wideEnd, divided, goesOn, at_most, best, all, at_place, value, priceFrom, tally}
-use Rattle.rules.specs.Pot.{within, total, exact, counted, summedCapacity, live, least, lowest, taken, follows, remaining, rank, combination, topNumber}
+use Rattle.rules.specs.Pot.{Pot, Trace, winners, downs, seen, closed, hanging, wide_end, divided, goes_on, at_most, best, all, at_place, value, price_from, tally}
+use Rattle.rules.specs.Pot.{within, total, exact, counted, summed_capacity, live, least, lowest, taken, follows, remaining, rank, combination, top_number}
 use Rattle.rules.specs.Pot.{full, keeps, kept, number, chosen, choose, ways_of, tied, alone, lost, look, run, auction}
 
 unfoldable pub any : {A : Type 0} → (A → Bool) → List A → Bool
@@ -29,17 +29,17 @@ module _ (P : Pot) where
 
   -- "adds that the winners stay within the cap" (02, CR 5)
   abbrev small : Trace → Bool
-  small s = not (more P.cap (summedCapacity P (winners s)))
+  small s = not (more P.cap (summed_capacity P (winners s)))
 
   -- 4: "every bid looked at and turned down would, added at its own price to all that had won by the end of its step, revalued, have cost in some year more
   -- than the budget less one penny for each bid counted", "or more capacity than the cap, exactly" (02, CR 5)
-  abbrev tooMuch : List ℕ → Bool
-  tooMuch ws =
-      any (λ y. ltb (P.budget y * P.scale) (exact P ws y + counted P ws * P.scale)) (below P.years) || more P.cap (summedCapacity P ws)
+  abbrev too_much : List ℕ → Bool
+  too_much ws =
+      any (λ y. ltb (P.budget y * P.scale) (exact P ws y + counted P ws * P.scale)) (below P.years) || more P.cap (summed_capacity P ws)
 
   unfoldable pub dear : Trace → Bool
   dear [] = true
-  dear (e ∷ s) = all (λ c. tooMuch (c ∷ (e.wins ++ winners s))) e.downs && dear s
+  dear (e ∷ s) = all (λ c. too_much (c ∷ (e.wins ++ winners s))) e.downs && dear s
 
   -- 5: "every bid never looked at belongs to an application that won, or to a delivery year in which a cheaper bid had been turned down"
   abbrev unlooked : Trace → Bool
@@ -52,8 +52,8 @@ module _ (P : Pot) where
   shut s = all (λ c. memb (P.yr c) (closed s)) (downs s)
 
 -- a pot of one year, ten parts to the penny, whose bid k is of application k, costs `parts k` at a price of 1 and has a capacity of as many
-abbrev potWith : (cap : Option ℕ) → (bids : List ℕ) (price parts : ℕ → ℕ) (budget : ℕ) → Pot
-potWith cap bids price parts budget = record {
+abbrev pot_with : (cap : Option ℕ) → (bids : List ℕ) (price parts : ℕ → ℕ) (budget : ℕ) → Pot
+pot_with cap bids price parts budget = record {
   bids = bids;
   apps = [];
   years = 1;
@@ -68,14 +68,14 @@ potWith cap bids price parts budget = record {
   capacity = parts;
   cap = cap;
   drawn = none;
-  adminPrice = λ a. 100;
-  adminCost = λ a y. 0;
-  appCapacity = λ a. 0;
+  admin_price = λ a. 100;
+  admin_cost = λ a y. 0;
+  app_capacity = λ a. 0;
 }
 
 -- and no cap
 abbrev pot : (bids : List ℕ) (price parts : ℕ → ℕ) (budget : ℕ) → Pot
-pot bids price parts budget = potWith none bids price parts budget
+pot bids price parts budget = pot_with none bids price parts budget
 
 -- two bids at 10 and 20, of 3 parts each: the second fits alone, but not beside the first at its price
 abbrev dearer : Pot
@@ -91,16 +91,16 @@ unordered = pot (0 ∷ 1 ∷ 2 ∷ []) (λ k. pick (eqb k 0) 20 (pick (eqb k 1) 
 
 -- three tied bids of 3, 2 and 2, and a cap that any two fit under and all do not, with money for all; and a fourth, dearer one
 abbrev crowded : Pot
-crowded = potWith (some 5) (3 ∷ 2 ∷ 1 ∷ 0 ∷ []) (λ k. pick (eqb k 3) 20 10) (λ k. pick (eqb k 0) 3 2) 1000
+crowded = pot_with (some 5) (3 ∷ 2 ∷ 1 ∷ 0 ∷ []) (λ k. pick (eqb k 3) 20 10) (λ k. pick (eqb k 0) 3 2) 1000
 
 -- two bids at 10 and 20, of 3 and 2, which together are the cap
 abbrev even : Pot
-even = potWith (some 5) (1 ∷ 0 ∷ []) (λ k. 10 + 10 * k) (λ k. pick (eqb k 0) 3 2) 1000
+even = pot_with (some 5) (1 ∷ 0 ∷ []) (λ k. 10 + 10 * k) (λ k. pick (eqb k 0) 3 2) 1000
 
 -- bids 0 and 1 tie in year 0, bids 2 and 3 in year 1, and in each year there is money for one; a bid costs in its own year alone, so that in the first tie all
 -- combinations come to nothing in the last year; and a number drawn for them
-abbrev drawnPot : (drawn : ℕ) → Pot
-drawnPot drawn = record {
+abbrev drawn_pot : (drawn : ℕ) → Pot
+drawn_pot drawn = record {
   bids = 3 ∷ 2 ∷ 1 ∷ 0 ∷ [];
   apps = [];
   years = 2;
@@ -115,23 +115,23 @@ drawnPot drawn = record {
   capacity = λ k. 0;
   cap = none;
   drawn = some drawn;
-  adminPrice = λ a. 100;
-  adminCost = λ a y. 0;
-  appCapacity = λ a. 0;
+  admin_price = λ a. 100;
+  admin_cost = λ a y. 0;
+  app_capacity = λ a. 0;
 }
 
 -- "Ties must be drawn fairly" (02, CR 6): of the numbers below 4 one has bids i and j win
-abbrev drawnBoth : (i j : ℕ) → Bool
-drawnBoth i j = any (λ d. memb i (winners (auction (drawnPot d))) && memb j (winners (auction (drawnPot d)))) (below 4)
+abbrev drawn_both : (i j : ℕ) → Bool
+drawn_both i j = any (λ d. memb i (winners (auction (drawn_pot d))) && memb j (winners (auction (drawn_pot d)))) (below 4)
 
 abbrev fair : Bool
-fair = all (λ i. all (drawnBoth i) (2 ∷ 3 ∷ [])) (0 ∷ 1 ∷ [])
+fair = all (λ i. all (drawn_both i) (2 ∷ 3 ∷ [])) (0 ∷ 1 ∷ [])
 
 -- and whatever number is drawn one of the first two wins
 abbrev filled : Bool
-filled = all (λ d. any (λ i. memb i (winners (auction (drawnPot d)))) (0 ∷ 1 ∷ [])) (below 4)
+filled = all (λ d. any (λ i. memb i (winners (auction (drawn_pot d)))) (0 ∷ 1 ∷ [])) (below 4)
 
-pub small-pots :
+pub small_pots :
     (affordable dearer (auction dearer) ≡ true)
     × (near tenth (auction tenth) ≡ true)
     × (dear dearer (auction dearer) ≡ true)
@@ -142,6 +142,6 @@ pub small-pots :
     × (dear even (auction even) ≡ true)
     × (fair ≡ true)
     × (filled ≡ true)
-unfolding any more dear winners downs seen closed hanging wideEnd divided goesOn at_most best all at_place value priceFrom tally within live least lowest taken
-    follows remaining rank combination topNumber full keeps kept number chosen choose ways_of tied alone lost look run auction
-small-pots = (refl, refl, refl, refl, refl, refl, refl, refl, refl, refl)
+unfolding any more dear winners downs seen closed hanging wide_end divided goes_on at_most best all at_place value price_from tally within live least lowest taken
+    follows remaining rank combination top_number full keeps kept number chosen choose ways_of tied alone lost look run auction
+small_pots = (refl, refl, refl, refl, refl, refl, refl, refl, refl, refl)

@@ -9,12 +9,12 @@ use Rattle.std.proofs.Math.ListN.{length}
 use Rattle.std.proofs.Math.Dec.{ltb}
 use borrow.Author.Tests.{eqb-true, eqb-false, eq-eqb, ne_eqb, leb-true, leb-false, lt-ltb, le-ltb, ltb-true, ltb-false}
 use Rattle.rules.specs.Lists.{memb, pick, sift}
-use Rattle.laws_pot.specs.Lists.{case, clash, and-true, and-false, In, here, there, memb-in, in-memb, in_tail, in_left, in_right, in-cases, in_map}
-use Rattle.laws_pot.specs.Lists.{map-in, sift-in, in-sift, sift-le, sift-less}
-use Rattle.rules.specs.Pot.{Pot, value, priceFrom, clearing, tally, summed, summedCapacity, total, fits, has, rank, combination, best, fitsAt, last_at}
-use Rattle.rules.specs.Pot.{topNumber}
-use Rattle.laws_pot.specs.Bits.{has-none, add-lt, add-adds, add-other}
-use Rattle.laws_pot.specs.Money.{fitting-same}
+use Rattle.laws_pot.specs.Lists.{case, clash, and_true, and_false, In, here, there, memb_in, in_memb, in_tail, in_left, in_right, in_cases, in_map}
+use Rattle.laws_pot.specs.Lists.{map_in, sift_in, in_sift, sift_le, sift_less}
+use Rattle.rules.specs.Pot.{Pot, value, price_from, clearing, tally, summed, summed_capacity, total, fits, has, rank, combination, best, fits_at, last_at}
+use Rattle.rules.specs.Pot.{top_number}
+use Rattle.laws_pot.specs.Bits.{has_none, add_lt, add_adds, add_other}
+use Rattle.laws_pot.specs.Money.{fitting_same}
 use Rattle.laws_pot.specs.Mono.{Lawful, Dearer, dearer}
 
 -- two lists with the same members
@@ -22,21 +22,21 @@ pub record Alike (a b : List ℕ) : Type 0 where
   pub to : (k : ℕ) → In k a → In k b
   pub back : (k : ℕ) → In k b → In k a
 
-pub memb-alike : {a b : List ℕ} (k : ℕ) → Alike a b → memb k a ≡ memb k b
-memb-alike {a} {b} k A =
-    case (memb k a) (λ t. t ∙ sym (in-memb (A.to k (memb-in k a t))))
-    (λ f. case (memb k b) (λ u. clash (in-memb (A.back k (memb-in k b u))) f) (λ g. f ∙ sym g))
+pub memb_alike : {a b : List ℕ} (k : ℕ) → Alike a b → memb k a ≡ memb k b
+memb_alike {a} {b} k A =
+    case (memb k a) (λ t. t ∙ sym (in_memb (A.to k (memb_in k a t))))
+    (λ f. case (memb k b) (λ u. clash (in_memb (A.back k (memb_in k b u))) f) (λ g. f ∙ sym g))
 
-pub alike-join : {a b : List ℕ} (c : List ℕ) → Alike a b → Alike (a ++ c) (b ++ c)
-alike-join {a} {b} c A = record {
-  to = λ k i. ⊎_elim (λ j. in_left c (A.to k j)) (λ j. in_right b j) (in-cases a c i);
-  back = λ k i. ⊎_elim (λ j. in_left c (A.back k j)) (λ j. in_right a j) (in-cases b c i);
+pub alike_join : {a b : List ℕ} (c : List ℕ) → Alike a b → Alike (a ++ c) (b ++ c)
+alike_join {a} {b} c A = record {
+  to = λ k i. ⊎_elim (λ j. in_left c (A.to k j)) (λ j. in_right b j) (in_cases a c i);
+  back = λ k i. ⊎_elim (λ j. in_left c (A.back k j)) (λ j. in_right a j) (in_cases b c i);
 }
 
-pub alike-map : (f : ℕ → ℕ) {a b : List ℕ} → Alike a b → Alike (map f a) (map f b)
-alike-map f {a} {b} A = record {
-  to = λ k i. let r = map-in f a i in rw r.2 (in_map f (A.to r.0 r.1));
-  back = λ k i. let r = map-in f b i in rw r.2 (in_map f (A.back r.0 r.1));
+pub alike_map : (f : ℕ → ℕ) {a b : List ℕ} → Alike a b → Alike (map f a) (map f b)
+alike_map f {a} {b} A = record {
+  to = λ k i. let r = map_in f a i in rw r.2 (in_map f (A.to r.0 r.1));
+  back = λ k i. let r = map_in f b i in rw r.2 (in_map f (A.back r.0 r.1));
 }
 
 -- ---- the best number
@@ -46,16 +46,16 @@ pub record Best (ok : ℕ → Bool) (tot : ℕ → ℕ) (n r : ℕ) : Type 0 whe
   pub small : r ≤ n - 1
   pub top : (m : ℕ) → m < n → ok m ≡ true → (tot m < tot r) ⊎ ((tot m ≤ tot r) × (m ≤ r))
 
-pub best-is : (ok : ℕ → Bool) (tot : ℕ → ℕ) → ok 0 ≡ true → (n : ℕ) → Best ok tot n (best ok tot n)
+pub best_is : (ok : ℕ → Bool) (tot : ℕ → ℕ) → ok 0 ≡ true → (n : ℕ) → Best ok tot n (best ok tot n)
 unfolding best
-best-is ok tot z zero = record { fit = z; small = omega arith; top = λ m h t. absurd (omega arith) }
-best-is ok tot z (suc n) = go (best-is ok tot z n)
+best_is ok tot z zero = record { fit = z; small = omega arith; top = λ m h t. absurd (omega arith) }
+best_is ok tot z (suc n) = go (best_is ok tot z n)
   where
     go : {r : ℕ} → Best ok tot n r → Best ok tot (suc n) (pick (ok n && leb (tot r) (tot n)) n r)
     go {r} B =
         case (ok n && leb (tot r) (tot n))
         (λ t.
-        let a = and-true (ok n) (leb (tot r) (tot n)) t in
+        let a = and_true (ok n) (leb (tot r) (tot n)) t in
         let le = leb-true (tot r) (tot n) a.1 in
         rw t (record {
           fit = a.0;
@@ -69,7 +69,7 @@ best-is ok tot z (suc n) = go (best-is ok tot z n)
           small = omega (arith, B.small);
           top = λ m h u. case (eqb m n)
               (λ e. let q = eqb-true m n e in
-              ⊎_elim (λ v. clash (ap ok (sym q) ∙ u) v) (λ v. let w = leb-false (tot r) (tot n) v in inl (rw q w)) (and-false (ok n) (leb (tot r) (tot n)) f))
+              ⊎_elim (λ v. clash (ap ok (sym q) ∙ u) v) (λ v. let w = leb-false (tot r) (tot n) v in inl (rw q w)) (and_false (ok n) (leb (tot r) (tot n)) f))
               (λ e. let d = eqb-false m n e in B.top m (omega arith) u);
         }))
 
@@ -77,19 +77,19 @@ module _ (P : Pot) where
   -- ---- the ranks
 
   -- of two members the lower draw has the higher rank
-  rank-order : (r : List ℕ) (c d : ℕ) → In d r → P.draw c < P.draw d → rank P r d < rank P r c
+  rank_order : (r : List ℕ) (c d : ℕ) → In d r → P.draw c < P.draw d → rank P r d < rank P r c
   unfolding rank
-  rank-order r c d i h =
-      sift-less (λ x. ltb (P.draw c) (P.draw x)) (λ x. ltb (P.draw d) (P.draw x))
+  rank_order r c d i h =
+      sift_less (λ x. ltb (P.draw c) (P.draw x)) (λ x. ltb (P.draw d) (P.draw x))
       (λ k t. lt-ltb (P.draw c) (P.draw k) (omega (arith, ltb-true (P.draw d) (P.draw k) t))) i
       (lt-ltb (P.draw c) (P.draw d) h) (le-ltb (P.draw d) (P.draw d) (omega arith))
 
-  rank-apart : (r : List ℕ) (c d : ℕ) → In c r → In d r → rank P r c ≡ rank P r d → P.draw c ≡ P.draw d
-  rank-apart r c d i j e =
+  rank_apart : (r : List ℕ) (c d : ℕ) → In c r → In d r → rank P r c ≡ rank P r d → P.draw c ≡ P.draw d
+  rank_apart r c d i j e =
       case (ltb (P.draw c) (P.draw d))
-      (λ t. absurd (omega (arith, rank-order r c d j (ltb-true (P.draw c) (P.draw d) t))))
+      (λ t. absurd (omega (arith, rank_order r c d j (ltb-true (P.draw c) (P.draw d) t))))
       (λ f. case (ltb (P.draw d) (P.draw c))
-      (λ t. absurd (omega (arith, rank-order r d c i (ltb-true (P.draw d) (P.draw c) t))))
+      (λ t. absurd (omega (arith, rank_order r d c i (ltb-true (P.draw d) (P.draw c) t))))
       (λ g. omega (arith, ltb-false (P.draw c) (P.draw d) f, ltb-false (P.draw d) (P.draw c) g)))
 
   pub rank_lt : (r : List ℕ) (c : ℕ) → In c r → rank P r c < length r
@@ -97,128 +97,128 @@ module _ (P : Pot) where
   rank_lt r c i = go i
     where
       go : {l : List ℕ} → In c l → length (sift (λ x. ltb (P.draw c) (P.draw x)) l) < length l
-      go (here {x} {xs} e) = rw (le-ltb (P.draw c) (P.draw x) (omega (arith, ap P.draw e))) (omega (arith, sift-le (λ x. ltb (P.draw c) (P.draw x)) xs))
+      go (here {x} {xs} e) = rw (le-ltb (P.draw c) (P.draw x) (omega (arith, ap P.draw e))) (omega (arith, sift_le (λ x. ltb (P.draw c) (P.draw x)) xs))
       go (there {x} {xs} j) =
           let h = go j in
           case (ltb (P.draw c) (P.draw x)) (λ t. rw t (omega arith)) (λ f. rw f (omega arith))
 
   -- ---- combinations
 
-  pub combination-in : (c m : ℕ) (r : List ℕ) → In c (combination P r m) → In c r
+  pub combination_in : (c m : ℕ) (r : List ℕ) → In c (combination P r m) → In c r
   unfolding combination
-  combination-in c m r i = (sift-in c (λ b. has m (rank P r b)) r i).0
+  combination_in c m r i = (sift_in c (λ b. has m (rank P r b)) r i).0
 
-  pub combination-none : (r : List ℕ) → combination P r 0 ≡ []
+  pub combination_none : (r : List ℕ) → combination P r 0 ≡ []
   unfolding combination
-  combination-none r = go r
+  combination_none r = go r
     where
       go : (l : List ℕ) → sift (λ b. has 0 (rank P r b)) l ≡ []
       go [] = refl
-      go (x ∷ l) = rw (has-none (rank P r x), go l)
+      go (x ∷ l) = rw (has_none (rank P r x), go l)
 
   -- a bid that is left out can be put in: that is a larger number
   module _ (r : List ℕ) (m c : ℕ) (ap : (a : ℕ) → In a r → P.draw a ≡ P.draw c → a ≡ c) (i : In c r) (f : memb c (combination P r m) ≡ false) where
     free : has m (rank P r c) ≡ false
     unfolding combination
-    free = case (has m (rank P r c)) (λ t. clash (in-memb (in-sift (λ b. has m (rank P r b)) i t)) f) (λ g. g)
+    free = case (has m (rank P r c)) (λ t. clash (in_memb (in_sift (λ b. has m (rank P r b)) i t)) f) (λ g. g)
 
     same_place : (k : ℕ) → In k r → (k ≡ c → ⊥) → has (m + 2 ^ rank P r c) (rank P r k) ≡ has m (rank P r k)
-    same_place k j n = add-other m (rank P r c) (rank P r k) free (λ e. n (ap k j (rank-apart r k c j i e)))
+    same_place k j n = add_other m (rank P r c) (rank P r k) free (λ e. n (ap k j (rank_apart r k c j i e)))
 
-    pub with-one : Alike (combination P r (m + 2 ^ rank P r c)) (c ∷ combination P r m)
+    pub with_one : Alike (combination P r (m + 2 ^ rank P r c)) (c ∷ combination P r m)
     unfolding combination
-    with-one = record {
+    with_one = record {
       to = λ k j.
-          let z = sift-in k (λ b. has (m + 2 ^ rank P r c) (rank P r b)) r j in
+          let z = sift_in k (λ b. has (m + 2 ^ rank P r c) (rank P r b)) r j in
           case (eqb k c) (λ t. here (eqb-true k c t))
-          (λ u. there (in-sift (λ b. has m (rank P r b)) z.0 (sym (same_place k z.0 (eqb-false k c u)) ∙ z.1)));
+          (λ u. there (in_sift (λ b. has m (rank P r b)) z.0 (sym (same_place k z.0 (eqb-false k c u)) ∙ z.1)));
       back = λ k j. ⊎_elim
-          (λ e. rw e (in-sift (λ b. has (m + 2 ^ rank P r c) (rank P r b)) i (add-adds m (rank P r c) free)))
+          (λ e. rw e (in_sift (λ b. has (m + 2 ^ rank P r c) (rank P r b)) i (add_adds m (rank P r c) free)))
           (λ q.
-          let z = sift-in k (λ b. has m (rank P r b)) r q in
+          let z = sift_in k (λ b. has m (rank P r b)) r q in
           case (eqb k c)
-          (λ t. rw (eqb-true k c t) (in-sift (λ b. has (m + 2 ^ rank P r c) (rank P r b)) i (add-adds m (rank P r c) free)))
-          (λ u. in-sift (λ b. has (m + 2 ^ rank P r c) (rank P r b)) z.0 (same_place k z.0 (eqb-false k c u) ∙ z.1)))
+          (λ t. rw (eqb-true k c t) (in_sift (λ b. has (m + 2 ^ rank P r c) (rank P r b)) i (add_adds m (rank P r c) free)))
+          (λ u. in_sift (λ b. has (m + 2 ^ rank P r c) (rank P r b)) z.0 (same_place k z.0 (eqb-false k c u) ∙ z.1)))
           (in_tail j);
     }
 
     more : m < 2 ^ length r → (n : ℕ) × (m < n) × (n < 2 ^ length r) × Alike (combination P r n) (c ∷ combination P r m)
-    more h = (m + 2 ^ rank P r c, omega (arith, pow_pos (rank P r c)), add-lt m (rank P r c) (length r) free (rank_lt r c i) h, with-one)
+    more h = (m + 2 ^ rank P r c, omega (arith, pow_pos (rank P r c)), add_lt m (rank P r c) (length r) free (rank_lt r c i) h, with_one)
 
   -- ---- what a list of winners costs hangs on its members alone, where the new ones are at one price
 
-  clearing-one : (q : ℕ) (ns ws : List ℕ) (d : ℕ) → ((a : ℕ) → In a ns → P.price a ≡ q)
+  clearing_one : (q : ℕ) (ns ws : List ℕ) (d : ℕ) → ((a : ℕ) → In a ns → P.price a ≡ q)
       → clearing P (ns ++ ws) d ≡ pick (memb d (map P.yr ns)) q (clearing P ws d)
-  unfolding priceFrom
-  clearing-one q [] ws d h = refl
-  clearing-one q (a ∷ ns) ws d h =
+  unfolding price_from
+  clearing_one q [] ws d h = refl
+  clearing_one q (a ∷ ns) ws d h =
       case (eqb (P.yr a) d)
       (λ t. rw (t, eq-eqb d (P.yr a) (sym (eqb-true (P.yr a) d t))) (h a (here refl)))
-      (λ f. rw (f, ne_eqb d (P.yr a) (λ e. eqb-false (P.yr a) d f (sym e))) (clearing-one q ns ws d (λ b i. h b (there i))))
+      (λ f. rw (f, ne_eqb d (P.yr a) (λ e. eqb-false (P.yr a) d f (sym e))) (clearing_one q ns ws d (λ b i. h b (there i))))
 
-  pub clearing-alike : (q : ℕ) (a b ws : List ℕ) (d : ℕ) → Alike a b → ((x : ℕ) → In x b → P.price x ≡ q) → clearing P (a ++ ws) d ≡ clearing P (b ++ ws) d
-  clearing-alike q a b ws d A h =
-      clearing-one q a ws d (λ x i. h x (A.to x i)) ∙ ap (λ (t : Bool). pick t q (clearing P ws d)) (memb-alike d (alike-map P.yr A))
-      ∙ sym (clearing-one q b ws d h)
+  pub clearing_alike : (q : ℕ) (a b ws : List ℕ) (d : ℕ) → Alike a b → ((x : ℕ) → In x b → P.price x ≡ q) → clearing P (a ++ ws) d ≡ clearing P (b ++ ws) d
+  clearing_alike q a b ws d A h =
+      clearing_one q a ws d (λ x i. h x (A.to x i)) ∙ ap (λ (t : Bool). pick t q (clearing P ws d)) (memb_alike d (alike_map P.yr A))
+      ∙ sym (clearing_one q b ws d h)
 
-  pub tally-same : (f : ℕ → ℕ → ℕ → ℕ) (on in' : ℕ → Bool) (at to : ℕ → ℕ) (y : ℕ) (bs : List ℕ) → ((b : ℕ) → In b bs → on b ≡ in' b)
+  pub tally_same : (f : ℕ → ℕ → ℕ → ℕ) (on in' : ℕ → Bool) (at to : ℕ → ℕ) (y : ℕ) (bs : List ℕ) → ((b : ℕ) → In b bs → on b ≡ in' b)
       → ((b : ℕ) → In b bs → on b ≡ true → at (P.yr b) ≡ to (P.yr b))
       → tally P f on at y bs ≡ tally P f in' to y bs
   unfolding tally
-  tally-same f on in' at to y [] h k = refl
-  tally-same f on in' at to y (b ∷ bs) h k =
-      let r = tally-same f on in' at to y bs (λ c i. h c (there i)) (λ c i. k c (there i)) in
+  tally_same f on in' at to y [] h k = refl
+  tally_same f on in' at to y (b ∷ bs) h k =
+      let r = tally_same f on in' at to y bs (λ c i. h c (there i)) (λ c i. k c (there i)) in
       case (on b) (λ t. rw (t, sym (h b (here refl)) ∙ t, k b (here refl) t, r)) (λ g. rw (g, sym (h b (here refl)) ∙ g, r))
 
-  summed-alike : (f : ℕ → ℕ → ℕ → ℕ) (q : ℕ) (a b ws : List ℕ) (y : ℕ) → Alike a b → ((x : ℕ) → In x b → P.price x ≡ q)
+  summed_alike : (f : ℕ → ℕ → ℕ → ℕ) (q : ℕ) (a b ws : List ℕ) (y : ℕ) → Alike a b → ((x : ℕ) → In x b → P.price x ≡ q)
       → summed P f (a ++ ws) y ≡ summed P f (b ++ ws) y
-  summed-alike f q a b ws y A h =
-      tally-same f (λ k. memb k (a ++ ws)) (λ k. memb k (b ++ ws)) (clearing P (a ++ ws)) (clearing P (b ++ ws)) y P.bids
-      (λ k i. memb-alike k (alike-join ws A)) (λ k i t. clearing-alike q a b ws (P.yr k) A h)
+  summed_alike f q a b ws y A h =
+      tally_same f (λ k. memb k (a ++ ws)) (λ k. memb k (b ++ ws)) (clearing P (a ++ ws)) (clearing P (b ++ ws)) y P.bids
+      (λ k i. memb_alike k (alike_join ws A)) (λ k i t. clearing_alike q a b ws (P.yr k) A h)
 
   -- so whether they fit does as well
-  pub fits-alike : (q : ℕ) (a b ws : List ℕ) → Alike a b → ((x : ℕ) → In x b → P.price x ≡ q) → fits P (a ++ ws) ≡ fits P (b ++ ws)
-  fits-alike q a b ws A h =
-      fitting-same P P (total P (a ++ ws)) (total P (b ++ ws)) (summedCapacity P (a ++ ws)) (summedCapacity P (b ++ ws)) refl refl (λ y. refl)
-      (λ y. summed-alike (value P) q a b ws y A h) (summed-alike (λ b p y. P.capacity b) q a b ws 0 A h)
+  pub fits_alike : (q : ℕ) (a b ws : List ℕ) → Alike a b → ((x : ℕ) → In x b → P.price x ≡ q) → fits P (a ++ ws) ≡ fits P (b ++ ws)
+  fits_alike q a b ws A h =
+      fitting_same P P (total P (a ++ ws)) (total P (b ++ ws)) (summed_capacity P (a ++ ws)) (summed_capacity P (b ++ ws)) refl refl (λ y. refl)
+      (λ y. summed_alike (value P) q a b ws y A h) (summed_alike (λ b p y. P.capacity b) q a b ws 0 A h)
 
-  clearing-joined : (q : ℕ) (ns ws : List ℕ) (d : ℕ) → ((a : ℕ) → In a ns → P.price a ≡ q) → clearing P ws d ≤ q → clearing P (ns ++ ws) d ≤ q
-  unfolding priceFrom
-  clearing-joined q [] ws d h k = k
-  clearing-joined q (n ∷ ns) ws d h k =
-      case (eqb (P.yr n) d) (λ t. rw t (omega (arith, h n (here refl)))) (λ f. rw f (clearing-joined q ns ws d (λ a i. h a (there i)) k))
+  clearing_joined : (q : ℕ) (ns ws : List ℕ) (d : ℕ) → ((a : ℕ) → In a ns → P.price a ≡ q) → clearing P ws d ≤ q → clearing P (ns ++ ws) d ≤ q
+  unfolding price_from
+  clearing_joined q [] ws d h k = k
+  clearing_joined q (n ∷ ns) ws d h k =
+      case (eqb (P.yr n) d) (λ t. rw t (omega (arith, h n (here refl)))) (λ f. rw f (clearing_joined q ns ws d (λ a i. h a (there i)) k))
 
   module _ (L : Lawful P) where
     -- one more bid, no cheaper than the clearing prices, never lowers a total
     grows : (c : ℕ) (vs : List ℕ) → ((d : ℕ) → clearing P vs d ≤ P.price c) → Dearer P vs (c ∷ vs)
-    unfolding priceFrom
+    unfolding price_from
     grows c vs h = dearer P L vs (c ∷ vs) (λ b i. there i) (λ d. case (eqb (P.yr c) d) (λ t. rw t (h d)) (λ f. rw f (omega arith)))
 
     -- the best of the remaining bids r
     module _ (ws r : List ℕ) (w : fits P ws ≡ true) where
-      pub top-best : Best (fitsAt P ws r) (last_at P ws r) (2 ^ length r) (topNumber P ws r)
-      unfolding topNumber
-      top-best = best-is (fitsAt P ws r) (last_at P ws r) (rw (combination-none r) w) (2 ^ length r)
+      pub top_best : Best (fits_at P ws r) (last_at P ws r) (2 ^ length r) (top_number P ws r)
+      unfolding top_number
+      top_best = best_is (fits_at P ws r) (last_at P ws r) (rw (combination_none r) w) (2 ^ length r)
 
-      pub top_small : topNumber P ws r < 2 ^ length r
-      top_small = omega (arith, top-best.small, pow_pos (length r))
+      pub top_small : top_number P ws r < 2 ^ length r
+      top_small = omega (arith, top_best.small, pow_pos (length r))
 
       -- where they are at one price, no lower than the clearing prices, none can be added
       module _ (q c : ℕ) (pq : (a : ℕ) → In a r → In a P.bids × (P.price a ≡ q)) (cl : (d : ℕ) → clearing P ws d ≤ q) (i : In c r) where
-        most-of : (k : ℕ) → Best (fitsAt P ws r) (last_at P ws r) (2 ^ length r) k → memb c (combination P r k) ≡ false
+        most_of : (k : ℕ) → Best (fits_at P ws r) (last_at P ws r) (2 ^ length r) k → memb c (combination P r k) ≡ false
             → fits P (c ∷ (combination P r k ++ ws)) ≡ false
-        most-of k B f =
+        most_of k B f =
             case (fits P (c ∷ (combination P r k ++ ws)))
             (λ t. ⊎_elim
             (λ (u : last_at P ws r n < last_at P ws r k).
             absurd (omega (
               arith,
-              summed-alike (value P) q (combination P r n) (c ∷ combination P r k) ws (P.years - 1) z.3 at,
+              summed_alike (value P) q (combination P r n) (c ∷ combination P r k) ws (P.years - 1) z.3 at,
               (grows c (combination P r k ++ ws) (λ d.
-                  omega (arith, (pq c i).1, clearing-joined q (combination P r k) ws d (λ a j. (pq a (combination-in a k r j)).1) (cl d)))).money (P.years - 1),
+                  omega (arith, (pq c i).1, clearing_joined q (combination P r k) ws d (λ a j. (pq a (combination_in a k r j)).1) (cl d)))).money (P.years - 1),
             )))
             (λ u. absurd (omega (arith, z.1, u.1)))
-            (B.top n z.2 (fits-alike q (combination P r n) (c ∷ combination P r k) ws z.3 at ∙ t)))
+            (B.top n z.2 (fits_alike q (combination P r n) (c ∷ combination P r k) ws z.3 at ∙ t)))
             (λ g. g)
           where
             z : (n : ℕ) × (k < n) × (n < 2 ^ length r) × Alike (combination P r n) (c ∷ combination P r k)
@@ -228,13 +228,13 @@ module _ (P : Pot) where
             n = z.0
 
             at : (x : ℕ) → In x (c ∷ combination P r k) → P.price x ≡ q
-            at x j = ⊎_elim (λ e. ap P.price e ∙ (pq c i).1) (λ h. (pq x (combination-in x k r h)).1) (in_tail j)
+            at x j = ⊎_elim (λ e. ap P.price e ∙ (pq c i).1) (λ h. (pq x (combination_in x k r h)).1) (in_tail j)
 
-        pub top-most : memb c (combination P r (topNumber P ws r)) ≡ false → fits P (c ∷ (combination P r (topNumber P ws r) ++ ws)) ≡ false
-        top-most f = most-of (topNumber P ws r) top-best f
+        pub top_most : memb c (combination P r (top_number P ws r)) ≡ false → fits P (c ∷ (combination P r (top_number P ws r) ++ ws)) ≡ false
+        top_most f = most_of (top_number P ws r) top_best f
 
 -- two listings that agree have one best
-pub best-same : (f g : ℕ → Bool) (t u : ℕ → ℕ) (n : ℕ) → ((m : ℕ) → f m ≡ g m) → ((m : ℕ) → t m ≡ u m) → best f t n ≡ best g u n
+pub best_same : (f g : ℕ → Bool) (t u : ℕ → ℕ) (n : ℕ) → ((m : ℕ) → f m ≡ g m) → ((m : ℕ) → t m ≡ u m) → best f t n ≡ best g u n
 unfolding best
-best-same f g t u zero h k = refl
-best-same f g t u (suc n) h k = rw (h n, k n, best-same f g t u n h k, k (best g u n))
+best_same f g t u zero h k = refl
+best_same f g t u (suc n) h k = rw (h n, k n, best_same f g t u n h k, k (best g u n))

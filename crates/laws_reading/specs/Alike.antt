@@ -18,22 +18,22 @@ le_same (suc k) s t at w x h l u =
     omega arith
 
 -- lists as long as each other, with the same numbers
-pub lists-same : (s t : List ℕ) → length s ≡ length t → ((i : ℕ) → i < length s → get_or s i 0 ≡ get_or t i 0) → s ≡ t
-lists-same [] [] e h = refl
-lists-same [] (y ∷ t) e h = absurd (omega arith)
-lists-same (x ∷ s) [] e h = absurd (omega arith)
-lists-same (x ∷ s) (y ∷ t) e h =
-    λ j. h 0 (omega arith) j ∷ lists-same s t (omega arith) (λ i l. h (suc i) (omega arith)) j
+pub lists_same : (s t : List ℕ) → length s ≡ length t → ((i : ℕ) → i < length s → get_or s i 0 ≡ get_or t i 0) → s ≡ t
+lists_same [] [] e h = refl
+lists_same [] (y ∷ t) e h = absurd (omega arith)
+lists_same (x ∷ s) [] e h = absurd (omega arith)
+lists_same (x ∷ s) (y ∷ t) e h =
+    λ j. h 0 (omega arith) j ∷ lists_same s t (omega arith) (λ i l. h (suc i) (omega arith)) j
 
 -- a byte of a part is the file's; past the part there is none
-pub part-byte : (s : List ℕ) (a e i : ℕ) → i < e - a → get_or (part s a e) i 0 ≡ get_or s (a + i) 0
-part-byte s a e i h = get_or-take (e - a) (drop a s) i 0 h ∙ get_or-drop a s i 0
+pub part_byte : (s : List ℕ) (a e i : ℕ) → i < e - a → get_or (part s a e) i 0 ≡ get_or s (a + i) 0
+part_byte s a e i h = get_or-take (e - a) (drop a s) i 0 h ∙ get_or-drop a s i 0
 
 less : (e n a : ℕ) → min (e - a) (n - a) ≡ min e n - a
 less e n a = omega arith
 
-pub part-size : (s : List ℕ) (a e : ℕ) → length (part s a e) ≡ min e (length s) - a
-part-size s a e = length-take (e - a) (drop a s) ∙ ap (min (e - a)) (length-drop a s) ∙ less e (length s) a
+pub part_size_lem : (s : List ℕ) (a e : ℕ) → length (part s a e) ≡ min e (length s) - a
+part_size_lem s a e = length-take (e - a) (drop a s) ∙ ap (min (e - a)) (length-drop a s) ∙ less e (length s) a
 
 -- past its end a list has no number
 pub get_d_past : (l : List ℕ) (i : ℕ) → length l ≤ i → get_or l i 0 ≡ 0
@@ -45,8 +45,8 @@ get_d_past (x ∷ l) (suc i) h = get_d_past l i (omega arith)
 pub part_same : (s t : List ℕ) (a e : ℕ) → min e (length s) ≡ min e (length t) → ((i : ℕ) → a ≤ i → i < e → get_or s i 0 ≡ get_or t i 0)
     → part s a e ≡ part t a e
 part_same s t a e m h =
-    lists-same (part s a e) (part t a e) (part-size s a e ∙ ap (λ (n : ℕ). n - a) m ∙ sym (part-size t a e))
-    (λ i l. let k = within i (rw (part-size s a e) at l) in part-byte s a e i k ∙ h (a + i) (omega arith) (omega arith) ∙ sym (part-byte t a e i k))
+    lists_same (part s a e) (part t a e) (part_size_lem s a e ∙ ap (λ (n : ℕ). n - a) m ∙ sym (part_size_lem t a e))
+    (λ i l. let k = within i (rw (part_size_lem s a e) at l) in part_byte s a e i k ∙ h (a + i) (omega arith) (omega arith) ∙ sym (part_byte t a e i k))
   where
     within : (i : ℕ) → i < min e (length s) - a → i < e - a
     within i l = omega arith

@@ -2,74 +2,74 @@
 use Rattle.std.specs.Prelude.{ℕ, ◌+◌, ◌≤◌, ◌<◌, ◌≡◌, refl, List, [], ◌∷◌, ◌++◌, length, take, drop, ltb}
 use Rattle.std.proofs.Common.{sym, ap, ◌∙◌, arith, ltb-false}
 use Rattle.rules.specs.Bytes.{onto}
-use Rattle.rules.specs.File.{Round, roundOf, sectionsOf}
+use Rattle.rules.specs.File.{Round, round_of, sections_of}
 use Rattle.rules.specs.Refusals.{refusal, judged, reading, IsAccepted}
-use Rattle.rules.specs.Result.{resultBytes, needed, refusedAs, answerTo, answer_of, after, clearOf}
+use Rattle.rules.specs.Result.{result_bytes, needed, refused_as, answer_to, answer_of, after, clear_of}
 use Rattle.rules.specs.declared.Sections.{Sections}
 use Rattle.rules.specs.declared.Reading.{Reading}
 use Rattle.rules.specs.declared.Reading.TheVariants as r
 use Rattle.rules.specs.declared.Answer.{Answer}
 use Rattle.rules.specs.declared.Answer.TheVariants.{Cleared, Refused}
 use Rattle.laws_pot.specs.Lists.{case}
-use Rattle.laws_reading.specs.Walk.{or-then, or-passed, section-then, scan-then}
-use Rattle.laws_reading.specs.Reading.{Sound, section-right, accepted}
+use Rattle.laws_reading.specs.Walk.{or_then, or_passed, section_then, scan_then}
+use Rattle.laws_reading.specs.Reading.{Sound, section_right, accepted}
 use Rattle.laws_reading.specs.Small.{largest}
-use Rattle.laws_reading.specs.Longer.{first-bytes, never-accepted}
-use Rattle.laws_round.specs.Places.{At, at-start}
-use Rattle.laws_round.specs.Read.{needed-is}
+use Rattle.laws_reading.specs.Longer.{first_bytes, never_accepted}
+use Rattle.laws_round.specs.Places.{At, at_start}
+use Rattle.laws_round.specs.Read.{needed_is}
 
 -- ---- a reading without a refusal is the sections
 
-judged-through : (R : Round) (s : List ℕ) (q : Reading) → refusal (judged R s q) ≡ 0 → judged R s q ≡ q
+judged_through : (R : Round) (s : List ℕ) (q : Reading) → refusal (judged R s q) ≡ 0 → judged R s q ≡ q
 unfolding judged
-judged-through R s q e =
-    let Y = (section-right _ _ _ _ _ _ _ _ _ e).rest in
-    let P = (section-right _ _ _ _ _ _ _ _ _ Y).rest in
-    let T = (section-right _ _ _ _ _ _ _ _ _ P).rest in
-    let N = (section-right _ _ _ _ _ _ _ _ _ T).rest in
-    let B = (section-right _ _ _ _ _ _ _ _ _ N).rest in
-    section-then _ _ _ _ _ _ _ _ _ _ e
-    ∙ section-then _ _ _ _ _ _ _ _ _ _ Y
-    ∙ section-then _ _ _ _ _ _ _ _ _ _ P
-    ∙ section-then _ _ _ _ _ _ _ _ _ _ T
-    ∙ section-then _ _ _ _ _ _ _ _ _ _ N
-    ∙ or-then _ _ _ _ B
-    ∙ scan-then _ _ _ _ _ q q (or-passed _ _ _ B).1
+judged_through R s q e =
+    let Y = (section_right _ _ _ _ _ _ _ _ _ e).rest in
+    let P = (section_right _ _ _ _ _ _ _ _ _ Y).rest in
+    let T = (section_right _ _ _ _ _ _ _ _ _ P).rest in
+    let N = (section_right _ _ _ _ _ _ _ _ _ T).rest in
+    let B = (section_right _ _ _ _ _ _ _ _ _ N).rest in
+    section_then _ _ _ _ _ _ _ _ _ _ e
+    ∙ section_then _ _ _ _ _ _ _ _ _ _ Y
+    ∙ section_then _ _ _ _ _ _ _ _ _ _ P
+    ∙ section_then _ _ _ _ _ _ _ _ _ _ T
+    ∙ section_then _ _ _ _ _ _ _ _ _ _ N
+    ∙ or_then _ _ _ _ B
+    ∙ scan_then _ _ _ _ _ q q (or_passed _ _ _ B).1
 
-pub accepted-is : (s : List ℕ) → IsAccepted s → reading s ≡ r.Accepted (sectionsOf (roundOf s))
+pub accepted_is : (s : List ℕ) → IsAccepted s → reading s ≡ r.Accepted (sections_of (round_of s))
 unfolding reading
-accepted-is s e = judged-through (roundOf s) s _ e
+accepted_is s e = judged_through (round_of s) s _ e
 
 -- ---- an answer without a refusal
 
-not-refused : (q : Reading) (need lent : ℕ) → refusedAs (answerTo q need lent) ≡ 0 → refusal q ≡ 0
-unfolding answerTo refusedAs refusal
-not-refused (r.Accepted g) need lent e = refl
-not-refused (r.Refused m at) need lent e = e
+not_refused : (q : Reading) (need lent : ℕ) → refused_as (answer_to q need lent) ≡ 0 → refusal q ≡ 0
+unfolding answer_to refused_as refusal
+not_refused (r.Accepted g) need lent e = refl
+not_refused (r.Refused m at) need lent e = e
 
-has_room : (g : Sections) (need lent : ℕ) → refusedAs (answerTo (r.Accepted g) need lent) ≡ 0
-    → (need ≤ lent) × (answerTo (r.Accepted g) need lent ≡ Cleared need)
-unfolding answerTo refusedAs
+has_room : (g : Sections) (need lent : ℕ) → refused_as (answer_to (r.Accepted g) need lent) ≡ 0
+    → (need ≤ lent) × (answer_to (r.Accepted g) need lent ≡ Cleared need)
+unfolding answer_to refused_as
 has_room g need lent =
     case (ltb lent need) (λ t. rw t (λ e. absurd (omega arith))) (λ t. rw t (λ e. (ltb-false lent need t, refl)))
 
 -- a round that is answered with a result: its file is accepted, and the result stands at the start of the lent bytes
 pub record Filled (file lent : List ℕ) : Type 0 where
   pub accepts : IsAccepted file
-  pub sound : Sound (roundOf file)
-  pub room : needed (roundOf file) ≤ length lent
-  pub answer : (clearOf file lent).answer ≡ Cleared (needed (roundOf file))
-  pub bytes : (clearOf file lent).exit ≡ onto (resultBytes (roundOf file)) lent
-  pub result : At (clearOf file lent).exit 0 (resultBytes (roundOf file))
+  pub sound : Sound (round_of file)
+  pub room : needed (round_of file) ≤ length lent
+  pub answer : (clear_of file lent).answer ≡ Cleared (needed (round_of file))
+  pub bytes : (clear_of file lent).exit ≡ onto (result_bytes (round_of file)) lent
+  pub result : At (clear_of file lent).exit 0 (result_bytes (round_of file))
 
-pub filled : (file lent : List ℕ) → refusedAs (clearOf file lent).answer ≡ 0 → Filled file lent
-unfolding clearOf answer_of after onto
+pub filled : (file lent : List ℕ) → refused_as (clear_of file lent).answer ≡ 0 → Filled file lent
+unfolding clear_of answer_of after onto
 filled file lent e =
-    let R = roundOf file in
-    let ok : IsAccepted file = not-refused (reading file) (needed R) (length lent) e in
-    let is = accepted-is file ok in
-    let room = has_room (sectionsOf R) (needed R) (length lent) (ap (λ (q : Reading). refusedAs (answerTo q (needed R) (length lent))) (sym is) ∙ e) in
-    let answer = ap (λ (q : Reading). answerTo q (needed R) (length lent)) is ∙ room.1 in
+    let R = round_of file in
+    let ok : IsAccepted file = not_refused (reading file) (needed R) (length lent) e in
+    let is = accepted_is file ok in
+    let room = has_room (sections_of R) (needed R) (length lent) (ap (λ (q : Reading). refused_as (answer_to q (needed R) (length lent))) (sym is) ∙ e) in
+    let answer = ap (λ (q : Reading). answer_to q (needed R) (length lent)) is ∙ room.1 in
     let bytes = ap (λ (a : Answer). after a R lent) answer in
     record {
       accepts = ok;
@@ -77,45 +77,45 @@ filled file lent e =
       room = room.0;
       answer = answer;
       bytes = bytes;
-      result = rw bytes (at-start (resultBytes R) (drop (length (resultBytes R)) lent));
+      result = rw bytes (at_start (result_bytes R) (drop (length (result_bytes R)) lent));
     }
 
 -- ---- the lent bytes
 
-drop-join : (a b : List ℕ) → drop (length a) (a ++ b) ≡ b
-drop-join [] b = refl
-drop-join (x ∷ a) b = drop-join a b
+drop_join : (a b : List ℕ) → drop (length a) (a ++ b) ≡ b
+drop_join [] b = refl
+drop_join (x ∷ a) b = drop_join a b
 
 -- "bytes after it stay"
-pub rest-stays : (file lent : List ℕ) → refusedAs (clearOf file lent).answer ≡ 0
-    → drop (needed (roundOf file)) (clearOf file lent).exit ≡ drop (needed (roundOf file)) lent
+pub rest_stays : (file lent : List ℕ) → refused_as (clear_of file lent).answer ≡ 0
+    → drop (needed (round_of file)) (clear_of file lent).exit ≡ drop (needed (round_of file)) lent
 unfolding onto
-rest-stays file lent e =
-    let R = roundOf file in
-    ap (λ (n : ℕ). drop n (clearOf file lent).exit) (sym (needed-is R))
-    ∙ ap (drop (length (resultBytes R))) (filled file lent e).bytes
-    ∙ drop-join (resultBytes R) (drop (length (resultBytes R)) lent)
-    ∙ ap (λ (n : ℕ). drop n lent) (needed-is R)
+rest_stays file lent e =
+    let R = round_of file in
+    ap (λ (n : ℕ). drop n (clear_of file lent).exit) (sym (needed_is R))
+    ∙ ap (drop (length (result_bytes R))) (filled file lent e).bytes
+    ∙ drop_join (result_bytes R) (drop (length (result_bytes R)) lent)
+    ∙ ap (λ (n : ℕ). drop n lent) (needed_is R)
 
-kept : (a : Answer) (R : Round) (lent : List ℕ) → (refusedAs a ≡ 0 → ⊥) → after a R lent ≡ lent
-unfolding after refusedAs
+kept : (a : Answer) (R : Round) (lent : List ℕ) → (refused_as a ≡ 0 → ⊥) → after a R lent ≡ lent
+unfolding after refused_as
 kept (Cleared n) R lent h = absurd (h refl)
 kept (Refused m at) R lent h = refl
 
 -- "A refusal writes nothing"
-pub refusal-keeps : (file lent : List ℕ) → (refusedAs (clearOf file lent).answer ≡ 0 → ⊥) → (clearOf file lent).exit ≡ lent
-unfolding clearOf
-refusal-keeps file lent h = kept (answer_of file (length lent)) (roundOf file) lent h
+pub refusal_keeps : (file lent : List ℕ) → (refused_as (clear_of file lent).answer ≡ 0 → ⊥) → (clear_of file lent).exit ≡ lent
+unfolding clear_of
+refusal_keeps file lent h = kept (answer_of file (length lent)) (round_of file) lent h
 
 -- a refused file's answer, whatever its round
-refused-so : (file lent : List ℕ) {m x : ℕ} → reading file ≡ r.Refused m x → clearOf file lent ≡ record { answer = Refused m x; exit = lent }
-unfolding clearOf answer_of answerTo after
-refused-so file lent e = rw e
+refused_so : (file lent : List ℕ) {m x : ℕ} → reading file ≡ r.Refused m x → clear_of file lent ≡ record { answer = Refused m x; exit = lent }
+unfolding clear_of answer_of answer_to after
+refused_so file lent e = rw e
 
 -- of a file longer than the largest round only the first bytes matter
-pub longer : (file lent : List ℕ) → largest < length file → clearOf file lent ≡ clearOf (take (largest + 1) file) lent
+pub longer : (file lent : List ℕ) → largest < length file → clear_of file lent ≡ clear_of (take (largest + 1) file) lent
 longer file lent h = go (reading file) refl
   where
-    go : (q : Reading) → reading file ≡ q → clearOf file lent ≡ clearOf (take (largest + 1) file) lent
-    go (r.Accepted g) e = absurd (never-accepted file h e)
-    go (r.Refused m x) e = refused-so file lent e ∙ sym (refused-so (take (largest + 1) file) lent (sym (first-bytes file h) ∙ e))
+    go : (q : Reading) → reading file ≡ q → clear_of file lent ≡ clear_of (take (largest + 1) file) lent
+    go (r.Accepted g) e = absurd (never_accepted file h e)
+    go (r.Refused m x) e = refused_so file lent e ∙ sym (refused_so (take (largest + 1) file) lent (sym (first_bytes file h) ∙ e))

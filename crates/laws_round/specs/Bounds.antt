@@ -5,89 +5,89 @@ use Rattle.std.proofs.Common.{◌∙◌, eq-eqb}
 use mathlib.Core.List.{List, [], ◌∷◌}
 use native.Mathlib.Omega.{arith}
 use Rattle.std.proofs.Math.Dec.{eqb}
-use Rattle.rules.specs.Names.{pencePerPound, highestBudget, highestPrice, noPrice, noBid, becauseSilent}
+use Rattle.rules.specs.Names.{pence_per_pound, highest_budget, highest_price, no_price, no_bid, because_silent}
 use Rattle.rules.specs.Lists.{memb}
-use Rattle.rules.specs.File.{Round, appAt}
-use Rattle.rules.specs.Pot.{Pot, winners, auction, adminTotal, adminFits, priceIn, totalIn, total, paid, automaticReason, winnersOf}
-use Rattle.rules.specs.Round.{techOf, mine, appMine, rowFor, potOf}
-use Rattle.rules.specs.Result.{potFor, told, toldIn, appTold}
+use Rattle.rules.specs.File.{Round, app_at}
+use Rattle.rules.specs.Pot.{Pot, winners, auction, admin_total, admin_fits, price_in, total_in, total, paid, automatic_reason, winners_of}
+use Rattle.rules.specs.Round.{tech_of, mine, app_mine, row_for, pot_of}
+use Rattle.rules.specs.Result.{pot_for, told, told_in, app_told}
 use Rattle.rules.specs.declared.Told.{Told}
-use Rattle.laws_pot.specs.Lists.{and-true, In, here, sift-in}
-use Rattle.laws_reading.specs.Reading.{Sound, admin-most, app-tech, app-year, bid-app, bid-year, bid-price}
-use Rattle.laws_pot.specs.Money.{within-true, fits-true}
-use Rattle.laws_pot.specs.Mono.{price-below}
-use Rattle.laws_pot.specs.Runs.{inv-end}
-use Rattle.laws_round.specs.Bids.{appPot, mine-in, app-mine, mine-is, bids-in, years-is, budget-is, price-is, admin-is, admin-price-is, lawful}
-use Rattle.laws_pot.specs.Reasons.{by_all, automatic-most}
-use Rattle.laws_round.specs.Carried.{won-in}
+use Rattle.laws_pot.specs.Lists.{and_true, In, here, sift_in}
+use Rattle.laws_reading.specs.Reading.{Sound, admin_most, app_tech, app_year, bid_app, bid_year, bid_price}
+use Rattle.laws_pot.specs.Money.{within_true, fits_true}
+use Rattle.laws_pot.specs.Mono.{price_below}
+use Rattle.laws_pot.specs.Runs.{inv_end}
+use Rattle.laws_round.specs.Bids.{app_pot, mine_in, app_mine_lem, mine_is, bids_in_lem, years_is, budget_is, price_is, admin_is, admin_price_is, lawful}
+use Rattle.laws_pot.specs.Reasons.{by_all, automatic_most}
+use Rattle.laws_round.specs.Carried.{won_in}
 
 module _ (R : Round) (S : Sound R) where
   -- an administrative price of an application in a delivery year
-  admin-of : (a y : ℕ) → a < R.n → y < R.d → (techOf R (appAt R.apps a)).admin y ≤ highestPrice
-  admin-of a y h l = admin-most R S _ y (app-tech R S a h) l
+  admin_of_lem : (a y : ℕ) → a < R.n → y < R.d → (tech_of R (app_at R.apps a)).admin y ≤ highest_price
+  admin_of_lem a y h l = admin_most R S _ y (app_tech R S a h) l
 
   module _ (p : ℕ) where
     abbrev P : Pot
-    P = potOf R p
+    P = pot_of R p
 
-    price-most : (k : ℕ) → mine R p k ≡ true → P.price k ≤ highestPrice
-    price-most k t =
-        let h = (mine-in R p k t).0 in
-        rw (price-is R p k t) (omega (arith, bid-price R S k h, admin-of _ _ (bid-app R S k h) (bid-year R S k h)))
+    price_most : (k : ℕ) → mine R p k ≡ true → P.price k ≤ highest_price
+    price_most k t =
+        let h = (mine_in R p k t).0 in
+        rw (price_is R p k t) (omega (arith, bid_price R S k h, admin_of_lem _ _ (bid_app R S k h) (bid_year R S k h)))
 
-    pot-admin-most : (k : ℕ) → mine R p k ≡ true → P.admin k ≤ highestPrice
-    unfolding rowFor
-    pot-admin-most k t = let M = mine-is R S p k t in rw (admin-is R p k t) (admin-of _ _ M.app M.year)
+    pot_admin_most : (k : ℕ) → mine R p k ≡ true → P.admin k ≤ highest_price
+    unfolding row_for
+    pot_admin_most k t = let M = mine_is R S p k t in rw (admin_is R p k t) (admin_of_lem _ _ M.app M.year)
 
-    pub priceIn-most : (d : ℕ) → priceIn P d ≤ noPrice
-    unfolding priceIn
-    priceIn-most d =
-        by_all P (λ (n : ℕ). n ≤ noPrice) _ _ _ (λ t. omega arith)
-        (λ t u. price-below P noPrice noPrice (winners (auction P)) d (omega arith) (λ w i. omega (arith, price-most w (bids-in R p w (won-in R p S w i)))))
+    pub price_in_most : (d : ℕ) → price_in P d ≤ no_price
+    unfolding price_in
+    price_in_most d =
+        by_all P (λ (n : ℕ). n ≤ no_price) _ _ _ (λ t. omega arith)
+        (λ t u. price_below P no_price no_price (winners (auction P)) d (omega arith) (λ w i. omega (arith, price_most w (bids_in_lem R p w (won_in R p S w i)))))
         (omega arith)
 
-    pub totalIn-most : (y : ℕ) → p < R.p → y < R.y → totalIn P y ≤ pencePerPound * highestBudget
-    unfolding totalIn adminFits
-    totalIn-most y l h =
-        let B = S.budget-most p y l h in
-        by_all P (λ (n : ℕ). n ≤ pencePerPound * highestBudget) _ _ _
-        (λ t. omega (arith, budget-is R p y h, within-true P (adminTotal P) P.years (and-true _ _ t).0 y (rw (years-is R p) h)))
+    pub total_in_most : (y : ℕ) → p < R.p → y < R.y → total_in P y ≤ pence_per_pound * highest_budget
+    unfolding total_in admin_fits
+    total_in_most y l h =
+        let B = S.budget_most p y l h in
+        by_all P (λ (n : ℕ). n ≤ pence_per_pound * highest_budget) _ _ _
+        (λ t. omega (arith, budget_is R p y h, within_true P (admin_total P) P.years (and_true _ _ t).0 y (rw (years_is R p) h)))
         (λ t u. omega
-        (arith, budget-is R p y h, (fits-true P (winners (auction P)) (inv-end P (lawful R p S)).fit).budget y (rw (years-is R p) h)))
+        (arith, budget_is R p y h, (fits_true P (winners (auction P)) (inv_end P (lawful R p S)).fit).budget y (rw (years_is R p) h)))
         (omega arith)
 
   -- what is told of an application
   pub record Small (x : Told) : Type 0 where
     pub won : x.won ≤ 1
-    pub bid : x.bid ≤ noBid
-    pub reason : x.reason ≤ becauseSilent
-    pub paid : x.paid ≤ highestPrice
+    pub bid : x.bid ≤ no_bid
+    pub reason : x.reason ≤ because_silent
+    pub paid : x.paid ≤ highest_price
 
-  told-list : (P : Pot) (n : ℕ) (l : List ℕ) → n ≤ becauseSilent → ((w : ℕ) → In w l → (w < R.b) × (P.admin w ≤ highestPrice)) → Small (told P n l)
+  told_list : (P : Pot) (n : ℕ) (l : List ℕ) → n ≤ because_silent → ((w : ℕ) → In w l → (w < R.b) × (P.admin w ≤ highest_price)) → Small (told P n l)
   unfolding told paid
-  told-list P n [] h c = record { won = omega arith; bid = omega arith; reason = h; paid = omega arith }
-  told-list P n (w ∷ l) h c =
+  told_list P n [] h c = record { won = omega arith; bid = omega arith; reason = h; paid = omega arith }
+  told_list P n (w ∷ l) h c =
       let z = c w (here refl) in
-      record { won = omega arith; bid = omega (arith, z.0, S.bids-few); reason = h; paid = omega (arith, z.1) }
+      record { won = omega arith; bid = omega (arith, z.0, S.bids_few); reason = h; paid = omega (arith, z.1) }
 
-  pub told-small : (a : ℕ) → a < R.n → Small (appTold R a)
-  unfolding appTold toldIn winnersOf
-  told-small a h =
+  pub told_small : (a : ℕ) → a < R.n → Small (app_told R a)
+  unfolding app_told told_in winners_of
+  told_small a h =
       by_all Q Small _ _ _
-      (λ t. record { won = omega arith; bid = omega arith; reason = most; paid = rw (admin-price-is R p a m) (admin-of a _ h (app-year R S a h)) })
-      (λ t u. told-list Q _ (winnersOf Q a) most (λ w i.
-      let k = bids-in R p w (sift-in w (λ w. eqb (Q.app w) a && memb w (winners (auction Q))) Q.bids i).0 in
-      ((mine-in R p w k).0, pot-admin-most p w k)))
+      (λ t. record { won = omega arith; bid = omega arith; reason = most; paid = rw (admin_price_is R p a m) (admin_of_lem a _ h (app_year R S a h)) })
+      (λ t u. told_list Q _ (winners_of Q a) most (λ w i.
+      let k = bids_in_lem R p w (sift_in w (λ w. eqb (Q.app w) a && memb w (winners (auction Q))) Q.bids i).0 in
+      ((mine_in R p w k).0, pot_admin_most p w k)))
       (record { won = omega arith; bid = omega arith; reason = most; paid = omega arith })
     where
       p : ℕ
-      p = appPot R a
+      p = app_pot R a
 
       Q : Pot
-      Q = potFor R a
+      Q = pot_for R a
 
-      most : automaticReason Q a ≤ becauseSilent
-      most = automatic-most Q a
+      most : automatic_reason Q a ≤ because_silent
+      most = automatic_most Q a
 
-      m : appMine R p a ≡ true
-      m = app-mine R p a h ∙ eq-eqb p p refl
+      m : app_mine R p a ≡ true
+      m = app_mine_lem R p a h ∙ eq-eqb p p refl

@@ -4,17 +4,17 @@ use mathlib.Core.Path.{◌≡◌, refl, ap, ◌∙◌}
 use mathlib.Core.List.{List}
 use native.Mathlib.Omega.{arith}
 use borrow.Author.Tests.{lt-ltb, le-ltb}
-use Rattle.rules.specs.Names.{capWidth, capsAdded, drawnWidth, drawnAdded}
+use Rattle.rules.specs.Names.{cap_width, caps_added, drawn_width, drawn_added}
 use Rattle.rules.specs.Bytes.{le}
-use Rattle.rules.specs.File.{potsTold, gainedTold}
+use Rattle.rules.specs.File.{pots_told, gained_told}
 
 -- a number read at a place that was worked out
 pub read_at : (w : ℕ) (s : List ℕ) (c : ℕ) {r p q : ℕ} → p ≡ q → r ≡ le w s (p + c) → r ≡ le w s (q + c)
 read_at w s c e h = h ∙ ap (λ (p : ℕ). le w s (p + c)) e
 
 -- a number read in a part that was handed on
-pub read-in : (f : List ℕ → ℕ) {r : ℕ} {l m : List ℕ} → l ≡ m → r ≡ f l → r ≡ f m
-read-in f e h = h ∙ ap f e
+pub read_in : (f : List ℕ → ℕ) {r : ℕ} {l m : List ℕ} → l ≡ m → r ≡ f l → r ≡ f m
+read_in f e h = h ∙ ap f e
 
 -- the bytes of i records whose width was worked out
 pub times : (i : ℕ) {w v : ℕ} → w ≡ v → i * w ≡ i * v
@@ -22,26 +22,26 @@ times i e = ap (λ (w : ℕ). i * w) e
 
 -- a count of pots without caps, one with caps alone, and one with drawn numbers as well
 module _ (n : ℕ) where
-  pub pots-plain : n < capsAdded → n ≡ potsTold n
-  unfolding potsTold
-  pots-plain h = rw (lt-ltb n capsAdded h) refl
+  pub pots_plain : n < caps_added → n ≡ pots_told n
+  unfolding pots_told
+  pots_plain h = rw (lt-ltb n caps_added h) refl
 
-  pub pots-capped : capsAdded ≤ n → n < capsAdded + drawnAdded → n - capsAdded ≡ potsTold n
-  unfolding potsTold
-  pots-capped h l = rw (le-ltb n capsAdded h, lt-ltb n (capsAdded + drawnAdded) l) refl
+  pub pots_capped : caps_added ≤ n → n < caps_added + drawn_added → n - caps_added ≡ pots_told n
+  unfolding pots_told
+  pots_capped h l = rw (le-ltb n caps_added h, lt-ltb n (caps_added + drawn_added) l) refl
 
-  pub pots-drawn : capsAdded + drawnAdded ≤ n → n - (capsAdded + drawnAdded) ≡ potsTold n
-  unfolding potsTold
-  pots-drawn h = rw (le-ltb n capsAdded (omega arith), le-ltb n (capsAdded + drawnAdded) h) refl
+  pub pots_drawn_lem : caps_added + drawn_added ≤ n → n - (caps_added + drawn_added) ≡ pots_told n
+  unfolding pots_told
+  pots_drawn_lem h = rw (le-ltb n caps_added (omega arith), le-ltb n (caps_added + drawn_added) h) refl
 
-  pub gained-plain : n < capsAdded → 0 ≡ gainedTold n
-  unfolding gainedTold
-  gained-plain h = rw (lt-ltb n capsAdded h) refl
+  pub gained_plain : n < caps_added → 0 ≡ gained_told n
+  unfolding gained_told
+  gained_plain h = rw (lt-ltb n caps_added h) refl
 
-  pub gained-cap : capsAdded ≤ n → n < capsAdded + drawnAdded → capWidth ≡ gainedTold n
-  unfolding gainedTold
-  gained-cap h l = rw (le-ltb n capsAdded h, lt-ltb n (capsAdded + drawnAdded) l) refl
+  pub gained_cap : caps_added ≤ n → n < caps_added + drawn_added → cap_width ≡ gained_told n
+  unfolding gained_told
+  gained_cap h l = rw (le-ltb n caps_added h, lt-ltb n (caps_added + drawn_added) l) refl
 
-  pub gained-drawn : capsAdded + drawnAdded ≤ n → capWidth + drawnWidth ≡ gainedTold n
-  unfolding gainedTold
-  gained-drawn h = rw (le-ltb n capsAdded (omega arith), le-ltb n (capsAdded + drawnAdded) h) refl
+  pub gained_drawn : caps_added + drawn_added ≤ n → cap_width + drawn_width ≡ gained_told n
+  unfolding gained_told
+  gained_drawn h = rw (le-ltb n caps_added (omega arith), le-ltb n (caps_added + drawn_added) h) refl

@@ -1,6 +1,6 @@
 -- Where the sections of a file stand, and what a record that was read shows. Assumes nothing.
 use Rattle.std.specs.Prelude.{ℕ, ◌+◌, ◌*◌, ◌≤◌, List, length}
-use Rattle.rules.specs.Names.{countWidth}
+use Rattle.rules.specs.Names.{count_width}
 use Rattle.rules.specs.Bytes.{part}
 use Rattle.rules.specs.File.{App, Bid}
 use Rattle.rules.specs.declared.Sections.{Sections}
@@ -16,15 +16,15 @@ abbrev pub Room : (recs : List ℕ) (width i : ℕ) → Type 0
 Room recs width i = i * width + width ≤ length recs
 
 -- the application and the bid that were read
-abbrev pub applicationShown : a.Application → App
-applicationShown x = record { tech = x.technology; year = x.year; days = x.days; draw = x.draw; capacity = x.capacity }
+abbrev pub application_shown : a.Application → App
+application_shown x = record { tech = x.technology; year = x.year; days = x.days; draw = x.draw; capacity = x.capacity }
 
-abbrev pub bidShown : b.Bid → Bid
-bidShown x = record { app = x.application; year = x.year; days = x.days; capacity = x.capacity; price = x.price }
+abbrev pub bid_shown : b.Bid → Bid
+bid_shown x = record { app = x.application; year = x.year; days = x.days; capacity = x.capacity; price = x.price }
 
 -- the sections with these counts and places
-abbrev pub laidOut : (years deliveries gained pots technologies applications bids pots-at technologies-at applications-at bids-at : ℕ) → Sections
-laidOut years deliveries gained pots technologies applications bids pots-at technologies-at applications-at bids-at = record {
+abbrev pub laid_out : (years deliveries gained pots technologies applications bids pots_at_lem technologies-at applications-at bids_at_lem : ℕ) → Sections
+laid_out years deliveries gained pots technologies applications bids pots_at_lem technologies-at applications-at bids_at_lem = record {
   years = years;
   deliveries = deliveries;
   gained = gained;
@@ -32,25 +32,25 @@ laidOut years deliveries gained pots technologies applications bids pots-at tech
   technologies = technologies;
   applications = applications;
   bids = bids;
-  pots_at = pots-at;
+  pots_at = pots_at_lem;
   technologies_at = technologies-at;
   applications_at = applications-at;
-  bids_at = bids-at;
+  bids_at = bids_at_lem;
 }
 
 -- "Five sections stand in this order, each after its 2-byte count": the part of a file that each section's records occupy
 module _ (s : List ℕ) (sections : Sections) where
-  abbrev pub yearsIn : List ℕ
-  yearsIn = part s countWidth sections.pots_at
+  abbrev pub years_in : List ℕ
+  years_in = part s count_width sections.pots_at
 
-  abbrev pub potsIn : List ℕ
-  potsIn = part s (sections.pots_at + countWidth) sections.technologies_at
+  abbrev pub pots_in : List ℕ
+  pots_in = part s (sections.pots_at + count_width) sections.technologies_at
 
-  abbrev pub technologiesIn : List ℕ
-  technologiesIn = part s (sections.technologies_at + countWidth) sections.applications_at
+  abbrev pub technologies_in : List ℕ
+  technologies_in = part s (sections.technologies_at + count_width) sections.applications_at
 
-  abbrev pub applicationsIn : List ℕ
-  applicationsIn = part s (sections.applications_at + countWidth) sections.bids_at
+  abbrev pub applications_in : List ℕ
+  applications_in = part s (sections.applications_at + count_width) sections.bids_at
 
-  abbrev pub bidsIn : List ℕ
-  bidsIn = part s (sections.bids_at + countWidth) (length s)
+  abbrev pub bids_in : List ℕ
+  bids_in = part s (sections.bids_at + count_width) (length s)

@@ -1,10 +1,10 @@
 // An application's record: "technology 2, year 2, first-year days 2, draw 2, capacity 4, declared cost 8". Nothing reads the declared cost but
 // the tables for people.
 ghost use Rattle.std.specs.Prelude.{◌≡◌, ◌+◌, ◌*◌, ◌<◌};
-ghost use Rattle.rules.specs.Names.{appWidth};
+ghost use Rattle.rules.specs.Names.{app_width};
 ghost use Rattle.rules.specs.Bytes.{le};
-ghost use Rattle.rules.specs.File.{appAt};
-ghost use Rattle.layout.specs.Layout.{Room, applicationShown};
+ghost use Rattle.rules.specs.File.{app_at};
+ghost use Rattle.layout.specs.Layout.{Room, application_shown};
 
 #[derive(Drop)]
 pub struct Application {
@@ -28,8 +28,8 @@ const DECLARED_COST: usize = 12;
 
 // Application a.
 pub fn read(recs: &[u8], a: usize) -> Application
-    requires { Room recs.now appWidth a }
-    ensures { applicationShown result ≡ appAt recs.now a }
+    requires { Room recs.now app_width a }
+    ensures { application_shown result ≡ app_at recs.now a }
 {
     let at = a * names::APP_WIDTH;
     Application {
@@ -43,16 +43,16 @@ pub fn read(recs: &[u8], a: usize) -> Application
 
 // The draw of application a.
 pub fn draw(recs: &[u8], a: usize) -> u64
-    requires { Room recs.now appWidth a }
-    ensures { (result ≡ (appAt recs.now a).draw) × (result < 65536) }
+    requires { Room recs.now app_width a }
+    ensures { (result ≡ (app_at recs.now a).draw) × (result < 65536) }
 {
     fields::le16(recs, a * names::APP_WIDTH + DRAW)
 }
 
 // The declared cost of application a.
 pub fn declared_cost(recs: &[u8], a: usize) -> u64
-    requires { Room recs.now appWidth a }
-    ensures { result ≡ le 8 recs.now (a * appWidth + 12) }
+    requires { Room recs.now app_width a }
+    ensures { result ≡ le 8 recs.now (a * app_width + 12) }
 {
     fields::le64(recs, a * names::APP_WIDTH + DECLARED_COST)
 }

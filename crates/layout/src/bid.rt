@@ -1,8 +1,8 @@
 // A bid's record: "application 2, year 2, first-year days 2, capacity 4, price 4".
 ghost use Rattle.std.specs.Prelude.{◌≡◌, ◌<◌};
-ghost use Rattle.rules.specs.Names.{bidWidth};
-ghost use Rattle.rules.specs.File.{bidAt};
-ghost use Rattle.layout.specs.Layout.{Room, bidShown};
+ghost use Rattle.rules.specs.Names.{bid_width};
+ghost use Rattle.rules.specs.File.{bid_at};
+ghost use Rattle.layout.specs.Layout.{Room, bid_shown};
 
 #[derive(Drop)]
 pub struct Bid {
@@ -24,8 +24,8 @@ const PRICE: usize = 10;
 
 // Bid k.
 pub fn read(recs: &[u8], k: usize) -> Bid
-    requires { Room recs.now bidWidth k }
-    ensures { bidShown result ≡ bidAt recs.now k }
+    requires { Room recs.now bid_width k }
+    ensures { bid_shown result ≡ bid_at recs.now k }
 {
     let at = k * names::BID_WIDTH;
     Bid {
@@ -39,24 +39,24 @@ pub fn read(recs: &[u8], k: usize) -> Bid
 
 // The application of bid k.
 pub fn application(recs: &[u8], k: usize) -> usize
-    requires { Room recs.now bidWidth k }
-    ensures { (result ≡ (bidAt recs.now k).app) × (result < 65536) }
+    requires { Room recs.now bid_width k }
+    ensures { (result ≡ (bid_at recs.now k).app) × (result < 65536) }
 {
     fields::le16(recs, k * names::BID_WIDTH) as usize
 }
 
 // The year of bid k.
 pub fn year(recs: &[u8], k: usize) -> usize
-    requires { Room recs.now bidWidth k }
-    ensures { (result ≡ (bidAt recs.now k).year) × (result < 65536) }
+    requires { Room recs.now bid_width k }
+    ensures { (result ≡ (bid_at recs.now k).year) × (result < 65536) }
 {
     fields::le16(recs, k * names::BID_WIDTH + YEAR) as usize
 }
 
 // The price of bid k.
 pub fn price(recs: &[u8], k: usize) -> u64
-    requires { Room recs.now bidWidth k }
-    ensures { (result ≡ (bidAt recs.now k).price) × (result < 4294967296) }
+    requires { Room recs.now bid_width k }
+    ensures { (result ≡ (bid_at recs.now k).price) × (result < 4294967296) }
 {
     fields::le32(recs, k * names::BID_WIDTH + PRICE)
 }

@@ -1,21 +1,21 @@
 // The part of the file that a section's records occupy: they follow its count, up to the next section's; the bids' are the rest of the file.
 ghost use Rattle.std.specs.Prelude.{◌≡◌, ◌+◌, ◌≤◌, length};
-ghost use Rattle.rules.specs.Names.{countWidth};
-ghost use Rattle.layout.specs.Layout.{yearsIn, potsIn, technologiesIn, applicationsIn, bidsIn};
+ghost use Rattle.rules.specs.Names.{count_width};
+ghost use Rattle.layout.specs.Layout.{years_in, pots_in, technologies_in, applications_in, bids_in};
 
 use rules::Sections;
 
 pub fn years(file: &[u8], sections: Sections) -> &[u8]
-    requires { (countWidth ≤ sections.pots_at) × (sections.pots_at ≤ length file.now) }
-    ensures { result.now ≡ yearsIn file.now sections }
+    requires { (count_width ≤ sections.pots_at) × (sections.pots_at ≤ length file.now) }
+    ensures { result.now ≡ years_in file.now sections }
 {
     let end = sections.pots_at;
     &file[names::COUNT_WIDTH..end]
 }
 
 pub fn pots(file: &[u8], sections: Sections) -> &[u8]
-    requires { (sections.pots_at + countWidth ≤ sections.technologies_at) × (sections.technologies_at ≤ length file.now) }
-    ensures { result.now ≡ potsIn file.now sections }
+    requires { (sections.pots_at + count_width ≤ sections.technologies_at) × (sections.technologies_at ≤ length file.now) }
+    ensures { result.now ≡ pots_in file.now sections }
 {
     let start = sections.pots_at + names::COUNT_WIDTH;
     let end = sections.technologies_at;
@@ -23,8 +23,8 @@ pub fn pots(file: &[u8], sections: Sections) -> &[u8]
 }
 
 pub fn technologies(file: &[u8], sections: Sections) -> &[u8]
-    requires { (sections.technologies_at + countWidth ≤ sections.applications_at) × (sections.applications_at ≤ length file.now) }
-    ensures { result.now ≡ technologiesIn file.now sections }
+    requires { (sections.technologies_at + count_width ≤ sections.applications_at) × (sections.applications_at ≤ length file.now) }
+    ensures { result.now ≡ technologies_in file.now sections }
 {
     let start = sections.technologies_at + names::COUNT_WIDTH;
     let end = sections.applications_at;
@@ -32,8 +32,8 @@ pub fn technologies(file: &[u8], sections: Sections) -> &[u8]
 }
 
 pub fn applications(file: &[u8], sections: Sections) -> &[u8]
-    requires { (sections.applications_at + countWidth ≤ sections.bids_at) × (sections.bids_at ≤ length file.now) }
-    ensures { result.now ≡ applicationsIn file.now sections }
+    requires { (sections.applications_at + count_width ≤ sections.bids_at) × (sections.bids_at ≤ length file.now) }
+    ensures { result.now ≡ applications_in file.now sections }
 {
     let start = sections.applications_at + names::COUNT_WIDTH;
     let end = sections.bids_at;
@@ -41,8 +41,8 @@ pub fn applications(file: &[u8], sections: Sections) -> &[u8]
 }
 
 pub fn bids(file: &[u8], sections: Sections) -> &[u8]
-    requires { sections.bids_at + countWidth ≤ length file.now }
-    ensures { result.now ≡ bidsIn file.now sections }
+    requires { sections.bids_at + count_width ≤ length file.now }
+    ensures { result.now ≡ bids_in file.now sections }
 {
     let start = sections.bids_at + names::COUNT_WIDTH;
     &file[start..]

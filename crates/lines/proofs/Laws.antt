@@ -6,31 +6,31 @@ use native.Mathlib.Omega.{arith}
 use lib.ListN.{length, take, drop, length-append}
 use borrow.Rule.Slice.PartMut.{put_mid}
 use Rattle.rules.specs.Bytes.{each}
-use Rattle.store.proofs.Laws.{filled_none, filled-rest, each_more}
+use Rattle.store.proofs.Laws.{filled_none, filled_rest, each_more}
 use Rattle.lines.specs.Printed.{Printed}
 
 -- one piece more, in the part from where the text has come to
-pub printed-then : {e f s xs ys : List ℕ} {m k a b : ℕ} → Printed e m s xs a → Printed f k (take (length xs - a) (drop a xs)) ys b
+pub printed_then : {e f s xs ys : List ℕ} {m k a b : ℕ} → Printed e m s xs a → Printed f k (take (length xs - a) (drop a xs)) ys b
     → Printed (e ++ f) (m + k) s (put_mid a (length xs - a) xs ys) (a + b)
-printed-then {a = a} p q =
+printed_then {a = a} p q =
     record {
       long = rw length-append (omega (arith, p.long, q.long));
       within = omega (arith, p.within, q.within);
-      filled = filled-rest a (sym p.long) p.filled q.filled;
+      filled = filled_rest a (sym p.long) p.filled q.filled;
     }
 
 -- a greater bound
-pub printed-within : {e s t : List ℕ} {m r : ℕ} (k : ℕ) → m ≤ k → Printed e m s t r → Printed e k s t r
-printed-within k h p = record { long = p.long; within = omega (arith, p.within); filled = p.filled }
+pub printed_within : {e s t : List ℕ} {m r : ℕ} (k : ℕ) → m ≤ k → Printed e m s t r → Printed e k s t r
+printed_within k h p = record { long = p.long; within = omega (arith, p.within); filled = p.filled }
 
 -- nothing yet
-pub printed-none : (s : List ℕ) → Printed [] 0 s s 0
-printed-none s = record { long = refl; within = zero-le; filled = filled_none s }
+pub printed_none : (s : List ℕ) → Printed [] 0 s s 0
+printed_none s = record { long = refl; within = zero-le; filled = filled_none s }
 
 -- one record more, each no longer than w
-pub each-printed : {s s₀ ys : List ℕ} {a b : ℕ} (f : ℕ → List ℕ) (w i : ℕ) → Printed (each f i) (w * i) s₀ s a
+pub each_printed : {s s₀ ys : List ℕ} {a b : ℕ} (f : ℕ → List ℕ) (w i : ℕ) → Printed (each f i) (w * i) s₀ s a
     → Printed (f i) w (take (length s - a) (drop a s)) ys b
     → Printed (each f (i + 1)) (w * (i + 1)) s₀ (put_mid a (length s - a) s ys) (a + b)
-each-printed f w i p q =
+each_printed f w i p q =
     let e : w * i + w ≡ w * (i + 1) = omega arith in
-    rw (each_more, ← e) (printed-then p q)
+    rw (each_more, ← e) (printed_then p q)

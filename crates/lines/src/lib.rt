@@ -1,6 +1,6 @@
 // The lines of the listing, each put over the start of a lent part, with its length for an answer.
 ghost use Rattle.std.specs.Prelude.{◌++◌, ◌+◌, ◌≤◌, length};
-ghost use Rattle.rules.specs.Listing.{ascii, decimal, outcomeWord, priceWord, bidWord, potLine, yearLine, wonLine, lostLine, appLine, bidLine, refusalLine};
+ghost use Rattle.rules.specs.Listing.{ascii, decimal, outcome_word, price_word, bid_word, pot_line, year_line, won_line, lost_line, app_line, bid_line, refusal_line};
 ghost use Rattle.lines.specs.Printed.{Printed};
 
 // A word.
@@ -35,7 +35,7 @@ fn field(s: &mut [u8], w: &[u8], n: u64) -> usize
 // The word of an outcome, after a blank.
 fn outcome(s: &mut [u8], o: u64) -> usize
     requires { 15 ≤ length s.old }
-    ensures { Printed (ascii " " ++ outcomeWord o) 15 s.old s.new result }
+    ensures { Printed (ascii " " ++ outcome_word o) 15 s.old s.new result }
 {
     if o == names::ADMINISTRATIVE {
         return word(s, b" administrative");
@@ -49,7 +49,7 @@ fn outcome(s: &mut [u8], o: u64) -> usize
 // A clearing price, or that there is none.
 fn price(s: &mut [u8], p: u64) -> usize
     requires { 27 ≤ length s.old }
-    ensures { Printed (ascii " price " ++ priceWord p) 27 s.old s.new result }
+    ensures { Printed (ascii " price " ++ price_word p) 27 s.old s.new result }
 {
     if p == names::NO_PRICE {
         return word(s, b" price -");
@@ -60,7 +60,7 @@ fn price(s: &mut [u8], p: u64) -> usize
 // The bid that won, or that there is none.
 fn bid(s: &mut [u8], b: u64) -> usize
     requires { 25 ≤ length s.old }
-    ensures { Printed (ascii " bid " ++ bidWord b) 25 s.old s.new result }
+    ensures { Printed (ascii " bid " ++ bid_word b) 25 s.old s.new result }
 {
     if b == names::NO_BID {
         return word(s, b" bid -");
@@ -71,7 +71,7 @@ fn bid(s: &mut [u8], b: u64) -> usize
 // `pot 0 auction`
 pub fn pot_line(s: &mut [u8], p: u64, o: u64) -> usize
     requires { 40 ≤ length s.old }
-    ensures { Printed (potLine p o) 40 s.old s.new result }
+    ensures { Printed (pot_line p o) 40 s.old s.new result }
 {
     let a = field(s, b"pot ", p);
     let b = a + outcome(&mut s[a..], o);
@@ -81,7 +81,7 @@ pub fn pot_line(s: &mut [u8], p: u64, o: u64) -> usize
 // `year 0 price 4000 total 35040`
 pub fn year_line(s: &mut [u8], y: u64, p: u64, t: u64) -> usize
     requires { 80 ≤ length s.old }
-    ensures { Printed (yearLine y p t) 80 s.old s.new result }
+    ensures { Printed (year_line y p t) 80 s.old s.new result }
 {
     let a = field(s, b"year ", y);
     let b = a + price(&mut s[a..], p);
@@ -92,7 +92,7 @@ pub fn year_line(s: &mut [u8], y: u64, p: u64, t: u64) -> usize
 // `application 0 won 4000 bid 0`
 fn won_line(s: &mut [u8], a: u64, paid: u64, b: u64) -> usize
     requires { 83 ≤ length s.old }
-    ensures { Printed (wonLine a paid b) 83 s.old s.new result }
+    ensures { Printed (won_line a paid b) 83 s.old s.new result }
 {
     let e = field(s, b"application ", a);
     let f = e + field(&mut s[e..], b" won ", paid);
@@ -103,7 +103,7 @@ fn won_line(s: &mut [u8], a: u64, paid: u64, b: u64) -> usize
 // `application 1 lost`
 fn lost_line(s: &mut [u8], a: u64) -> usize
     requires { 38 ≤ length s.old }
-    ensures { Printed (lostLine a) 38 s.old s.new result }
+    ensures { Printed (lost_line a) 38 s.old s.new result }
 {
     let e = field(s, b"application ", a);
     e + word(&mut s[e..], b" lost\n")
@@ -112,7 +112,7 @@ fn lost_line(s: &mut [u8], a: u64) -> usize
 // An application's line: 0 stands for lost.
 pub fn application_line(s: &mut [u8], a: u64, won: u64, paid: u64, b: u64) -> usize
     requires { 83 ≤ length s.old }
-    ensures { Printed (appLine a won paid b) 83 s.old s.new result }
+    ensures { Printed (app_line a won paid b) 83 s.old s.new result }
 {
     if won == 0 {
         return lost_line(s, a);
@@ -123,7 +123,7 @@ pub fn application_line(s: &mut [u8], a: u64, won: u64, paid: u64, b: u64) -> us
 // `bid 0 reason 1`
 pub fn bid_line(s: &mut [u8], k: u64, reason: u64) -> usize
     requires { 53 ≤ length s.old }
-    ensures { Printed (bidLine k reason) 53 s.old s.new result }
+    ensures { Printed (bid_line k reason) 53 s.old s.new result }
 {
     let a = field(s, b"bid ", k);
     let b = a + field(&mut s[a..], b" reason ", reason);
@@ -133,7 +133,7 @@ pub fn bid_line(s: &mut [u8], k: u64, reason: u64) -> usize
 // `refused 7 at 120`
 pub fn refusal_line(s: &mut [u8], number: u64, at: u64) -> usize
     requires { 53 ≤ length s.old }
-    ensures { Printed (refusalLine number at) 53 s.old s.new result }
+    ensures { Printed (refusal_line number at) 53 s.old s.new result }
 {
     let a = field(s, b"refused ", number);
     let b = a + field(&mut s[a..], b" at ", at);

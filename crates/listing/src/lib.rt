@@ -1,13 +1,13 @@
 // The listing of a round, and of a refusal, over the start of a lent buffer.
 ghost use Rattle.std.specs.Prelude.{◌≡◌, ◌+◌, ◌*◌, ◌≤◌, ◌<◌, length};
-ghost use Rattle.rules.specs.Names.{mostYears};
+ghost use Rattle.rules.specs.Names.{most_years};
 ghost use Rattle.rules.specs.Bytes.{each, onto};
 ghost use Rattle.rules.specs.File.{Round};
-ghost use Rattle.rules.specs.Listing.{roundLines, refusalLine};
+ghost use Rattle.rules.specs.Listing.{round_lines, refusal_line};
 ghost use Rattle.result.specs.Tells.{InRange, Counted, Tells};
 ghost use Rattle.lines.specs.Printed.{Printed};
-ghost use Rattle.listing.specs.ToldLines.{longestYear, longestApp, longestBid, longestRefusal, longestPot, longest};
-ghost use Rattle.listing.specs.ToldLines.{priceTold, yearLineTold, potLinesTold, potListed, appLineTold, bidLineTold, lines_told};
+ghost use Rattle.listing.specs.ToldLines.{longest_year, longest_app, longest_bid, longest_refusal, longest_pot, longest};
+ghost use Rattle.listing.specs.ToldLines.{price_told, year_line_told, pot_lines_told, pot_listed, app_line_told, bid_line_told, lines_told};
 
 use names::{MOST_APPS, MOST_BIDS, MOST_POTS, NO_PRICE, YEARS};
 use result::{PotTold, Tellings};
@@ -39,7 +39,7 @@ pub fn blank() -> [u8; LONGEST]
 // The clearing price of year y in a pot: a valuation-only year has none.
 fn price_in(told: PotTold, sections: Sections, y: usize) -> u64
     requires { InRange sections }
-    ensures { result ≡ priceTold sections told y }
+    ensures { result ≡ price_told sections told y }
 {
     if y < sections.deliveries {
         return told.prices[y];
@@ -50,9 +50,9 @@ fn price_in(told: PotTold, sections: Sections, y: usize) -> u64
 // The line of year y in a pot.
 fn year_line(s: &mut [u8], told: PotTold, sections: Sections, y: usize) -> usize
     requires ready { InRange sections }
-    requires known { y < mostYears }
-    requires room { longestYear ≤ length s.old }
-    ensures { Printed (yearLineTold sections told y) longestYear s.old s.new result }
+    requires known { y < most_years }
+    requires room { longest_year ≤ length s.old }
+    ensures { Printed (year_line_told sections told y) longest_year s.old s.new result }
 {
     let price = price_in(told, sections, y);
     let total = told.totals[y];
@@ -62,8 +62,8 @@ fn year_line(s: &mut [u8], told: PotTold, sections: Sections, y: usize) -> usize
 // The lines of the years in a pot.
 fn year_lines(s: &mut [u8], told: PotTold, sections: Sections) -> usize
     requires ready { InRange sections }
-    requires room { longestYear * sections.years ≤ length s.old }
-    ensures { Printed (each (yearLineTold sections told) sections.years) (longestYear * sections.years) s.old s.new result }
+    requires room { longest_year * sections.years ≤ length s.old }
+    ensures { Printed (each (year_line_told sections told) sections.years) (longest_year * sections.years) s.old s.new result }
 {
     let n = sections.years;
     let mut y = 0;
@@ -78,8 +78,8 @@ fn year_lines(s: &mut [u8], told: PotTold, sections: Sections) -> usize
 // The line of pot p, then those of its years.
 fn pot_lines(s: &mut [u8], told: PotTold, sections: Sections, p: usize) -> usize
     requires ready { InRange sections }
-    requires room { longestPot ≤ length s.old }
-    ensures { Printed (potLinesTold sections told p) longestPot s.old s.new result }
+    requires room { longest_pot ≤ length s.old }
+    ensures { Printed (pot_lines_told sections told p) longest_pot s.old s.new result }
 {
     let at = lines::pot_line(s, p as u64, told.outcome);
     at + year_lines(&mut s[at..], told, sections)
@@ -88,8 +88,8 @@ fn pot_lines(s: &mut [u8], told: PotTold, sections: Sections, p: usize) -> usize
 // The lines of the pots, of the applications, and of the bids.
 fn pots(s: &mut [u8], t: Tellings, sections: Sections) -> usize
     requires ready { InRange sections }
-    requires room { longestPot * sections.pots ≤ length s.old }
-    ensures { Printed (each (potListed t sections) sections.pots) (longestPot * sections.pots) s.old s.new result }
+    requires room { longest_pot * sections.pots ≤ length s.old }
+    ensures { Printed (each (pot_listed t sections) sections.pots) (longest_pot * sections.pots) s.old s.new result }
 {
     let pots = t.pots;
     let n = sections.pots;
@@ -104,8 +104,8 @@ fn pots(s: &mut [u8], t: Tellings, sections: Sections) -> usize
 
 fn applications(s: &mut [u8], t: Tellings, sections: Sections) -> usize
     requires ready { InRange sections }
-    requires room { longestApp * sections.applications ≤ length s.old }
-    ensures { Printed (each (appLineTold t) sections.applications) (longestApp * sections.applications) s.old s.new result }
+    requires room { longest_app * sections.applications ≤ length s.old }
+    ensures { Printed (each (app_line_told t) sections.applications) (longest_app * sections.applications) s.old s.new result }
 {
     let apps = t.apps;
     let n = sections.applications;
@@ -126,8 +126,8 @@ fn applications(s: &mut [u8], t: Tellings, sections: Sections) -> usize
 
 fn bids(s: &mut [u8], t: Tellings, sections: Sections) -> usize
     requires ready { InRange sections }
-    requires room { longestBid * sections.bids ≤ length s.old }
-    ensures { Printed (each (bidLineTold t) sections.bids) (longestBid * sections.bids) s.old s.new result }
+    requires room { longest_bid * sections.bids ≤ length s.old }
+    ensures { Printed (each (bid_line_told t) sections.bids) (longest_bid * sections.bids) s.old s.new result }
 {
     let reasons = t.reasons;
     let n = sections.bids;
@@ -146,7 +146,7 @@ pub fn write(t: Tellings, sections: Sections, text: &mut [u8]) -> usize
     requires room { longest ≤ length text.old }
     ensures told { Printed (lines_told t sections) longest text.old text.new result }
     ensures meant { (R : Round) → Counted R sections → Tells R t
-        → (result ≡ length (roundLines R)) × (text.new ≡ onto (roundLines R) text.old) }
+        → (result ≡ length (round_lines R)) × (text.new ≡ onto (round_lines R) text.old) }
 {
     let first = pots(text, t, sections);
     let second = first + applications(&mut text[first..], t, sections);
@@ -155,8 +155,8 @@ pub fn write(t: Tellings, sections: Sections, text: &mut [u8]) -> usize
 
 // The listing of a refusal; its length.
 pub fn refused(number: u64, at: usize, text: &mut [u8]) -> usize
-    requires { longestRefusal ≤ length text.old }
-    ensures { Printed (refusalLine number at) longestRefusal text.old text.new result }
+    requires { longest_refusal ≤ length text.old }
+    ensures { Printed (refusal_line number at) longest_refusal text.old text.new result }
 {
     lines::refusal_line(text, number, at as u64)
 }

@@ -6,114 +6,114 @@ use mathlib.Core.List.{List, [], ◌∷◌, ◌++◌, map}
 use native.Mathlib.Omega.{arith}
 use lib.ListN.{get_or, length-set}
 use lib.Dec.{eqb}
-use Rattle.rules.specs.Names.{mostBids}
+use Rattle.rules.specs.Names.{most_bids}
 use Rattle.rules.specs.Lists.{pick, memb}
-use Rattle.rules.specs.Pot.{Pot, priceFrom}
+use Rattle.rules.specs.Pot.{Pot, price_from}
 use Rattle.laws_pot.specs.Lists.{case, In, here, there}
-use Rattle.arrays.proofs.Arrays.{put_is, pick-or}
-use Rattle.sheet.specs.Sheet.{rowApp, rowYear}
+use Rattle.arrays.proofs.Arrays.{put_is, pick_or}
+use Rattle.sheet.specs.Sheet.{row_app, row_year}
 use Rattle.pot.specs.declared.PotState.{PotState}
-use Rattle.pot.specs.Marks.{winOf, turn_of, winAll, turnAll}
+use Rattle.pot.specs.Marks.{win_of, turn_of, win_all, turn_all}
 use Rattle.pot.specs.Rep.{Sizes}
 
 -- the clearing price after more winners, from what it was before them
-pub price-join : (P : Pot) (y : ℕ) (a b : List ℕ) (d : ℕ) → priceFrom P y (a ++ b) d ≡ priceFrom P (priceFrom P y b d) a d
-unfolding priceFrom
-price-join P y [] b d = refl
-price-join P y (w ∷ a) b d = rw (price-join P y a b d)
+pub price_join : (P : Pot) (y : ℕ) (a b : List ℕ) (d : ℕ) → price_from P y (a ++ b) d ≡ price_from P (price_from P y b d) a d
+unfolding price_from
+price_join P y [] b d = refl
+price_join P y (w ∷ a) b d = rw (price_join P y a b d)
 
 module _ (sheet : List ℕ) (p : ℕ) (s : PotState) (S : Sizes s) where
-  pub win-sizes : (l : List ℕ) → Sizes (winAll sheet p s l)
-  unfolding winAll winOf
-  win-sizes [] = S
-  win-sizes (i ∷ l) =
-      let t = win-sizes l in
+  pub win_sizes : (l : List ℕ) → Sizes (win_all sheet p s l)
+  unfolding win_all win_of
+  win_sizes [] = S
+  win_sizes (i ∷ l) =
+      let t = win_sizes l in
       record {
-        marks = length-set (winAll sheet p s l).marks i 1 ∙ t.marks;
-        won = length-set (winAll sheet p s l).won (rowApp sheet i) true ∙ t.won;
+        marks = length-set (win_all sheet p s l).marks i 1 ∙ t.marks;
+        won = length-set (win_all sheet p s l).won (row_app sheet i) true ∙ t.won;
         opened = t.opened;
-        prices = length-set (winAll sheet p s l).prices (rowYear sheet i) p ∙ t.prices;
+        prices = length-set (win_all sheet p s l).prices (row_year sheet i) p ∙ t.prices;
       }
 
-  pub win-marks : (l : List ℕ) (b : ℕ) → ((i : ℕ) → In i l → i < mostBids) → get_or (winAll sheet p s l).marks b 0 ≡ pick (memb b l) 1 (get_or s.marks b 0)
-  unfolding winAll winOf
-  win-marks [] b h = refl
-  win-marks (i ∷ l) b h =
-      put_is (winAll sheet p s l).marks i b 1 0 (omega (arith, (win-sizes l).marks, h i (here refl)))
-      ∙ ap (pick (eqb b i) 1) (win-marks l b (λ k j. h k (there j))) ∙ pick-or (eqb b i) (memb b l) 1 (get_or s.marks b 0)
+  pub win_marks : (l : List ℕ) (b : ℕ) → ((i : ℕ) → In i l → i < most_bids) → get_or (win_all sheet p s l).marks b 0 ≡ pick (memb b l) 1 (get_or s.marks b 0)
+  unfolding win_all win_of
+  win_marks [] b h = refl
+  win_marks (i ∷ l) b h =
+      put_is (win_all sheet p s l).marks i b 1 0 (omega (arith, (win_sizes l).marks, h i (here refl)))
+      ∙ ap (pick (eqb b i) 1) (win_marks l b (λ k j. h k (there j))) ∙ pick_or (eqb b i) (memb b l) 1 (get_or s.marks b 0)
 
-  pub win-won : (l : List ℕ) (k : ℕ) → ((i : ℕ) → In i l → rowApp sheet i < 64)
-      → get_or (winAll sheet p s l).won k false ≡ (memb k (map (rowApp sheet) l) || get_or s.won k false)
-  unfolding winAll winOf
-  win-won [] k h = refl
-  win-won (i ∷ l) k h =
-      put_is (winAll sheet p s l).won (rowApp sheet i) k true false (omega (arith, (win-sizes l).won, h i (here refl)))
-      ∙ case (eqb k (rowApp sheet i)) (λ t. rw t) (λ f. rw f (win-won l k (λ k j. h k (there j))))
+  pub win_won : (l : List ℕ) (k : ℕ) → ((i : ℕ) → In i l → row_app sheet i < 64)
+      → get_or (win_all sheet p s l).won k false ≡ (memb k (map (row_app sheet) l) || get_or s.won k false)
+  unfolding win_all win_of
+  win_won [] k h = refl
+  win_won (i ∷ l) k h =
+      put_is (win_all sheet p s l).won (row_app sheet i) k true false (omega (arith, (win_sizes l).won, h i (here refl)))
+      ∙ case (eqb k (row_app sheet i)) (λ t. rw t) (λ f. rw f (win_won l k (λ k j. h k (there j))))
 
-  pub win-opened : (l : List ℕ) → (winAll sheet p s l).opened ≡ s.opened
-  unfolding winAll winOf
-  win-opened [] = refl
-  win-opened (i ∷ l) = win-opened l
+  pub win_opened : (l : List ℕ) → (win_all sheet p s l).opened ≡ s.opened
+  unfolding win_all win_of
+  win_opened [] = refl
+  win_opened (i ∷ l) = win_opened l
 
-  pub win-hang : (l : List ℕ) → (winAll sheet p s l).hang ≡ s.hang
-  unfolding winAll winOf
-  win-hang [] = refl
-  win-hang (i ∷ l) = win-hang l
+  pub win_hang : (l : List ℕ) → (win_all sheet p s l).hang ≡ s.hang
+  unfolding win_all win_of
+  win_hang [] = refl
+  win_hang (i ∷ l) = win_hang l
 
-  pub win-wide : (l : List ℕ) → (winAll sheet p s l).wide ≡ s.wide
-  unfolding winAll winOf
-  win-wide [] = refl
-  win-wide (i ∷ l) = win-wide l
+  pub win_wide : (l : List ℕ) → (win_all sheet p s l).wide ≡ s.wide
+  unfolding win_all win_of
+  win_wide [] = refl
+  win_wide (i ∷ l) = win_wide l
 
-  pub win-drawn : (l : List ℕ) → (winAll sheet p s l).drawn ≡ s.drawn
-  unfolding winAll winOf
-  win-drawn [] = refl
-  win-drawn (i ∷ l) = win-drawn l
+  pub win_drawn : (l : List ℕ) → (win_all sheet p s l).drawn ≡ s.drawn
+  unfolding win_all win_of
+  win_drawn [] = refl
+  win_drawn (i ∷ l) = win_drawn l
 
 module _ (sheet : List ℕ) (v : ℕ) (s : PotState) (S : Sizes s) where
-  pub turn-sizes : (l : List ℕ) → Sizes (turnAll sheet v s l)
-  unfolding turnAll turn_of
-  turn-sizes [] = S
-  turn-sizes (i ∷ l) =
-      let t = turn-sizes l in
+  pub turn_sizes : (l : List ℕ) → Sizes (turn_all sheet v s l)
+  unfolding turn_all turn_of
+  turn_sizes [] = S
+  turn_sizes (i ∷ l) =
+      let t = turn_sizes l in
       record {
-        marks = length-set (turnAll sheet v s l).marks i v ∙ t.marks;
+        marks = length-set (turn_all sheet v s l).marks i v ∙ t.marks;
         won = t.won;
-        opened = length-set (turnAll sheet v s l).opened (rowYear sheet i) false ∙ t.opened;
+        opened = length-set (turn_all sheet v s l).opened (row_year sheet i) false ∙ t.opened;
         prices = t.prices;
       }
 
-  pub turn-marks : (l : List ℕ) (b : ℕ) → ((i : ℕ) → In i l → i < mostBids) → get_or (turnAll sheet v s l).marks b 0 ≡ pick (memb b l) v (get_or s.marks b 0)
-  unfolding turnAll turn_of
-  turn-marks [] b h = refl
-  turn-marks (i ∷ l) b h =
-      put_is (turnAll sheet v s l).marks i b v 0 (omega (arith, (turn-sizes l).marks, h i (here refl)))
-      ∙ ap (pick (eqb b i) v) (turn-marks l b (λ k j. h k (there j))) ∙ pick-or (eqb b i) (memb b l) v (get_or s.marks b 0)
+  pub turn_marks : (l : List ℕ) (b : ℕ) → ((i : ℕ) → In i l → i < most_bids) → get_or (turn_all sheet v s l).marks b 0 ≡ pick (memb b l) v (get_or s.marks b 0)
+  unfolding turn_all turn_of
+  turn_marks [] b h = refl
+  turn_marks (i ∷ l) b h =
+      put_is (turn_all sheet v s l).marks i b v 0 (omega (arith, (turn_sizes l).marks, h i (here refl)))
+      ∙ ap (pick (eqb b i) v) (turn_marks l b (λ k j. h k (there j))) ∙ pick_or (eqb b i) (memb b l) v (get_or s.marks b 0)
 
-  pub turn-opened : (l : List ℕ) (d : ℕ) → ((i : ℕ) → In i l → rowYear sheet i < 4)
-      → get_or (turnAll sheet v s l).opened d false ≡ (not (memb d (map (rowYear sheet) l)) && get_or s.opened d false)
-  unfolding turnAll turn_of
-  turn-opened [] d h = refl
-  turn-opened (i ∷ l) d h =
-      put_is (turnAll sheet v s l).opened (rowYear sheet i) d false false (omega (arith, (turn-sizes l).opened, h i (here refl)))
-      ∙ case (eqb d (rowYear sheet i)) (λ t. rw t) (λ f. rw f (turn-opened l d (λ k j. h k (there j))))
+  pub turn_opened : (l : List ℕ) (d : ℕ) → ((i : ℕ) → In i l → row_year sheet i < 4)
+      → get_or (turn_all sheet v s l).opened d false ≡ (not (memb d (map (row_year sheet) l)) && get_or s.opened d false)
+  unfolding turn_all turn_of
+  turn_opened [] d h = refl
+  turn_opened (i ∷ l) d h =
+      put_is (turn_all sheet v s l).opened (row_year sheet i) d false false (omega (arith, (turn_sizes l).opened, h i (here refl)))
+      ∙ case (eqb d (row_year sheet i)) (λ t. rw t) (λ f. rw f (turn_opened l d (λ k j. h k (there j))))
 
-  pub turn-won : (l : List ℕ) → (turnAll sheet v s l).won ≡ s.won
-  unfolding turnAll turn_of
-  turn-won [] = refl
-  turn-won (i ∷ l) = turn-won l
+  pub turn_won : (l : List ℕ) → (turn_all sheet v s l).won ≡ s.won
+  unfolding turn_all turn_of
+  turn_won [] = refl
+  turn_won (i ∷ l) = turn_won l
 
-  pub turn-prices : (l : List ℕ) → (turnAll sheet v s l).prices ≡ s.prices
-  unfolding turnAll turn_of
-  turn-prices [] = refl
-  turn-prices (i ∷ l) = turn-prices l
+  pub turn_prices : (l : List ℕ) → (turn_all sheet v s l).prices ≡ s.prices
+  unfolding turn_all turn_of
+  turn_prices [] = refl
+  turn_prices (i ∷ l) = turn_prices l
 
-  pub turn-hang : (l : List ℕ) → (turnAll sheet v s l).hang ≡ s.hang
-  unfolding turnAll turn_of
-  turn-hang [] = refl
-  turn-hang (i ∷ l) = turn-hang l
+  pub turn_hang : (l : List ℕ) → (turn_all sheet v s l).hang ≡ s.hang
+  unfolding turn_all turn_of
+  turn_hang [] = refl
+  turn_hang (i ∷ l) = turn_hang l
 
-  pub turn-wide : (l : List ℕ) → (turnAll sheet v s l).wide ≡ s.wide
-  unfolding turnAll turn_of
-  turn-wide [] = refl
-  turn-wide (i ∷ l) = turn-wide l
+  pub turn_wide : (l : List ℕ) → (turn_all sheet v s l).wide ≡ s.wide
+  unfolding turn_all turn_of
+  turn_wide [] = refl
+  turn_wide (i ∷ l) = turn_wide l

@@ -9,35 +9,35 @@ use native.Mathlib.Numerals.{add-one}
 use lib.ListN.{length, get_or}
 use lib.Dec.{eqb, ltb}
 use borrow.Author.Tests.{eqb-true, eq-eqb, ne_eqb, lt-ltb, le-ltb, ltb-true, ltb-false}
-use Rattle.rules.specs.Names.{noReason, becauseWon}
+use Rattle.rules.specs.Names.{no_reason, because_won}
 use Rattle.rules.specs.Lists.{sift, below}
-use Rattle.laws_pot.specs.Lists.{case, and-true, In, here, there, sift-in, sift-same, sift-both, sift-le, below_in}
+use Rattle.laws_pot.specs.Lists.{case, and_true, In, here, there, sift_in, sift_same, sift_both, sift_le, below_in}
 use Rattle.arrays.specs.Sets.{members, head_or}
-use Rattle.arrays.proofs.Arrays.{members-built}
+use Rattle.arrays.proofs.Arrays.{members_built}
 use Rattle.sheet.specs.declared.Size.{Size}
-use Rattle.sheet.specs.Sheet.{Ready, entrantAt, entrants, rowApp, rowYear, rowPrice, inAuction}
-use Rattle.sheet.proofs.Entrants.{entrants-length}
+use Rattle.sheet.specs.Sheet.{Ready, entrant_at, entrants, row_app, row_year, row_price, in_auction}
+use Rattle.sheet.proofs.Entrants.{entrants_length}
 use Rattle.pot.specs.declared.PotState.{PotState}
 use Rattle.pot.specs.declared.Look.{Look}
-use Rattle.pot.specs.Marks.{leastOr, live_of, lowestOf, at_of, taken_of, Others, joinedOf, look_of, Looked}
+use Rattle.pot.specs.Marks.{least_or, live_of, lowest_of, at_of, taken_of, Others, joined_of, look_of, Looked}
 
 -- ---- one bid more
 module _ (l : Look) (q i : ℕ) where
-  pub joined-higher : l.price < q → l ≡ joinedOf l q i
-  unfolding joinedOf
-  joined-higher h = rw (lt-ltb l.price q h)
+  pub joined_higher : l.price < q → l ≡ joined_of l q i
+  unfolding joined_of
+  joined_higher h = rw (lt-ltb l.price q h)
 
-  pub joined-lower : q ≤ l.price → q < l.price → ◌≡◌ {A = Look} (record { price = q; count = 1; last = i }) (joinedOf l q i)
-  unfolding joinedOf
-  joined-lower g h = rw (le-ltb l.price q g, lt-ltb q l.price h)
+  pub joined_lower : q ≤ l.price → q < l.price → ◌≡◌ {A = Look} (record { price = q; count = 1; last = i }) (joined_of l q i)
+  unfolding joined_of
+  joined_lower g h = rw (le-ltb l.price q g, lt-ltb q l.price h)
 
-  pub joined-equal : q ≤ l.price → l.price ≤ q → ◌≡◌ {A = Look} (record { price = q; count = l.count + 1; last = i }) (joinedOf l q i)
-  unfolding joinedOf
-  joined-equal g h = rw (le-ltb l.price q g, le-ltb q l.price h)
+  pub joined_equal : q ≤ l.price → l.price ≤ q → ◌≡◌ {A = Look} (record { price = q; count = l.count + 1; last = i }) (joined_of l q i)
+  unfolding joined_of
+  joined_equal g h = rw (le-ltb l.price q g, le-ltb q l.price h)
 
-  joined-count : (joinedOf l q i).count ≤ l.count + 1
-  unfolding joinedOf
-  joined-count =
+  joined_count : (joined_of l q i).count ≤ l.count + 1
+  unfolding joined_of
+  joined_count =
       case (ltb l.price q) (λ t. rw t (omega arith))
       (λ f. rw f (case (ltb q l.price) (λ t. rw t (omega arith)) (λ g. rw g (omega arith))))
 
@@ -45,116 +45,116 @@ module _ (l : Look) (q i : ℕ) where
 module _ (sheet : List ℕ) where
   -- those of the lowest price
   abbrev cheapest : List ℕ → List ℕ
-  cheapest l = sift (λ i. eqb (rowPrice sheet i) (leastOr sheet l)) l
+  cheapest l = sift (λ i. eqb (row_price sheet i) (least_or sheet l)) l
 
-  least-le : (k : ℕ) (l : List ℕ) → In k l → leastOr sheet l ≤ rowPrice sheet k
-  unfolding leastOr
-  least-le k (x ∷ l) (here e) = rw e (omega arith)
-  least-le k (x ∷ l) (there i) = let f = least-le k l i in omega arith
+  least_le : (k : ℕ) (l : List ℕ) → In k l → least_or sheet l ≤ row_price sheet k
+  unfolding least_or
+  least_le k (x ∷ l) (here e) = rw e (omega arith)
+  least_le k (x ∷ l) (there i) = let f = least_le k l i in omega arith
 
-  none-at : (q : ℕ) (l : List ℕ) → ((k : ℕ) → In k l → q < rowPrice sheet k) → sift (λ i. eqb (rowPrice sheet i) q) l ≡ []
-  none-at q [] h = refl
-  none-at q (x ∷ l) h = let f = h x (here refl) in rw (ne_eqb (rowPrice sheet x) q (λ e. let no : ⊥ = omega arith in no)) (none-at q l (λ k i. h k (there i)))
+  none_at : (q : ℕ) (l : List ℕ) → ((k : ℕ) → In k l → q < row_price sheet k) → sift (λ i. eqb (row_price sheet i) q) l ≡ []
+  none_at q [] h = refl
+  none_at q (x ∷ l) h = let f = h x (here refl) in rw (ne_eqb (row_price sheet x) q (λ e. let no : ⊥ = omega arith in no)) (none_at q l (λ k i. h k (there i)))
 
-  pub look-parts : (l : List ℕ) → ((look_of sheet l).price ≡ leastOr sheet l) × ((look_of sheet l).count ≡ length (cheapest l)) ×
+  pub look_parts : (l : List ℕ) → ((look_of sheet l).price ≡ least_or sheet l) × ((look_of sheet l).count ≡ length (cheapest l)) ×
       ((look_of sheet l).last ≡ head_or 0 (cheapest l))
-  unfolding look_of leastOr
-  look-parts [] = (refl, refl, refl)
-  look-parts (x ∷ l) = let r = look-parts l in joins (look_of sheet l) r.0 r.1 r.2
+  unfolding look_of least_or
+  look_parts [] = (refl, refl, refl)
+  look_parts (x ∷ l) = let r = look_parts l in joins (look_of sheet l) r.0 r.1 r.2
     where
       q : ℕ
-      q = rowPrice sheet x
+      q = row_price sheet x
 
-      joins : (L : Look) → L.price ≡ leastOr sheet l → L.count ≡ length (cheapest l) → L.last ≡ head_or 0 (cheapest l)
-          → ((joinedOf L (rowPrice sheet x) x).price ≡ min (rowPrice sheet x) (leastOr sheet l))
-          × ((joinedOf L (rowPrice sheet x) x).count ≡ length (sift (λ i. eqb (rowPrice sheet i) (min (rowPrice sheet x) (leastOr sheet l))) (x ∷ l)))
-          × ((joinedOf L (rowPrice sheet x) x).last ≡ head_or 0 (sift (λ i. eqb (rowPrice sheet i) (min (rowPrice sheet x) (leastOr sheet l))) (x ∷ l)))
-      joins L ep ec el = unfold joinedOf in
-          case (ltb L.price (rowPrice sheet x))
+      joins : (L : Look) → L.price ≡ least_or sheet l → L.count ≡ length (cheapest l) → L.last ≡ head_or 0 (cheapest l)
+          → ((joined_of L (row_price sheet x) x).price ≡ min (row_price sheet x) (least_or sheet l))
+          × ((joined_of L (row_price sheet x) x).count ≡ length (sift (λ i. eqb (row_price sheet i) (min (row_price sheet x) (least_or sheet l))) (x ∷ l)))
+          × ((joined_of L (row_price sheet x) x).last ≡ head_or 0 (sift (λ i. eqb (row_price sheet i) (min (row_price sheet x) (least_or sheet l))) (x ∷ l)))
+      joins L ep ec el = unfold joined_of in
+          case (ltb L.price (row_price sheet x))
           (λ t.
-          let h = ltb-true L.price (rowPrice sheet x) t in
-          let e : min (rowPrice sheet x) (leastOr sheet l) ≡ leastOr sheet l = omega arith in
-          rw (t, e, ne_eqb (rowPrice sheet x) (leastOr sheet l) (λ e. let no : ⊥ = omega arith in no)) (ep, ec, el))
+          let h = ltb-true L.price (row_price sheet x) t in
+          let e : min (row_price sheet x) (least_or sheet l) ≡ least_or sheet l = omega arith in
+          rw (t, e, ne_eqb (row_price sheet x) (least_or sheet l) (λ e. let no : ⊥ = omega arith in no)) (ep, ec, el))
           (λ f.
-          let h = ltb-false L.price (rowPrice sheet x) f in
-          let e : min (rowPrice sheet x) (leastOr sheet l) ≡ rowPrice sheet x = omega arith in
-          rw (f, e, eq-eqb (rowPrice sheet x) (rowPrice sheet x) refl)
-          (case (ltb (rowPrice sheet x) L.price)
+          let h = ltb-false L.price (row_price sheet x) f in
+          let e : min (row_price sheet x) (least_or sheet l) ≡ row_price sheet x = omega arith in
+          rw (f, e, eq-eqb (row_price sheet x) (row_price sheet x) refl)
+          (case (ltb (row_price sheet x) L.price)
           (λ t.
-          let g = ltb-true (rowPrice sheet x) L.price t in
-          rw (t, none-at (rowPrice sheet x) l (λ k i. let f = least-le k l i in omega arith)) (refl, refl, refl))
+          let g = ltb-true (row_price sheet x) L.price t in
+          rw (t, none_at (row_price sheet x) l (λ k i. let f = least_le k l i in omega arith)) (refl, refl, refl))
           (λ u.
-          let g = ltb-false (rowPrice sheet x) L.price u in
-          let d : rowPrice sheet x ≡ leastOr sheet l = omega arith in
+          let g = ltb-false (row_price sheet x) L.price u in
+          let d : row_price sheet x ≡ least_or sheet l = omega arith in
           rw (u, d, ec) (refl, add-one _, refl))))
 
-  look-few : (l : List ℕ) → (look_of sheet l).count ≤ length l
+  look_few : (l : List ℕ) → (look_of sheet l).count ≤ length l
   unfolding look_of
-  look-few [] = omega arith
-  look-few (x ∷ l) = let f = look-few l in let w = joined-count (look_of sheet l) (rowPrice sheet x) x in omega arith
+  look_few [] = omega arith
+  look_few (x ∷ l) = let f = look_few l in let w = joined_count (look_of sheet l) (row_price sheet x) x in omega arith
 
 -- ---- the pass
 module _ (sheet : List ℕ) (s : PotState) (j : ℕ) {l : Look} (e : l ≡ look_of sheet (sift (live_of sheet s) (entrants sheet j))) where
-  module _ {i : ℕ} (ei : i ≡ entrantAt sheet j) {b : Bool} (eb : b ≡ live_of sheet s i) where
-    pub pass-hit : {q : ℕ} {r : Look} → b ≡ true → q ≡ rowPrice sheet i → r ≡ joinedOf l q i → r ≡ look_of sheet (sift (live_of sheet s) (entrants sheet (j + 1)))
+  module _ {i : ℕ} (ei : i ≡ entrant_at sheet j) {b : Bool} (eb : b ≡ live_of sheet s i) where
+    pub pass_hit : {q : ℕ} {r : Look} → b ≡ true → q ≡ row_price sheet i → r ≡ joined_of l q i → r ≡ look_of sheet (sift (live_of sheet s) (entrants sheet (j + 1)))
     unfolding look_of entrants
-    pass-hit h eq er = rw (add-one j, ← ei, sym eb ∙ h, er, eq, e)
+    pass_hit h eq er = rw (add-one j, ← ei, sym eb ∙ h, er, eq, e)
 
-    pub pass-miss : b ≡ false → l ≡ look_of sheet (sift (live_of sheet s) (entrants sheet (j + 1)))
+    pub pass_miss : b ≡ false → l ≡ look_of sheet (sift (live_of sheet s) (entrants sheet (j + 1)))
     unfolding entrants
-    pass-miss h = rw (add-one j, ← ei, sym eb ∙ h, e)
+    pass_miss h = rw (add-one j, ← ei, sym eb ∙ h, e)
 
-  pub pass-few : l.count ≤ j
-  pass-few =
-      rw e (omega (arith, look-few sheet (sift (live_of sheet s) (entrants sheet j)), sift-le (live_of sheet s) (entrants sheet j), entrants-length sheet j))
+  pub pass_few : l.count ≤ j
+  pass_few =
+      rw e (omega (arith, look_few sheet (sift (live_of sheet s) (entrants sheet j)), sift_le (live_of sheet s) (entrants sheet j), entrants_length sheet j))
 
 module _ (sheet : List ℕ) (of : Size) (s : PotState) (ck : Ready sheet of) where
   -- the live bids are all of the pot
-  live-listed : Others sheet of s → sift (live_of sheet s) (sift (inAuction sheet) (below of.bids)) ≡ sift (live_of sheet s) (below of.bids)
-  live-listed o =
-      sift-both (live_of sheet s) (inAuction sheet) (below of.bids)
-      ∙ sift-same (λ i. inAuction sheet i && live_of sheet s i) (live_of sheet s) (below of.bids) (λ k i. same k (below_in k of.bids i))
+  live_listed : Others sheet of s → sift (live_of sheet s) (sift (in_auction sheet) (below of.bids)) ≡ sift (live_of sheet s) (below of.bids)
+  live_listed o =
+      sift_both (live_of sheet s) (in_auction sheet) (below of.bids)
+      ∙ sift_same (λ i. in_auction sheet i && live_of sheet s i) (live_of sheet s) (below of.bids) (λ k i. same k (below_in k of.bids i))
     where
-      same : (k : ℕ) → k < of.bids → (inAuction sheet k && live_of sheet s k) ≡ live_of sheet s k
-      same k h = unfold live_of in case (inAuction sheet k) (λ t. rw t) (λ f. rw (f, o k h f))
+      same : (k : ℕ) → k < of.bids → (in_auction sheet k && live_of sheet s k) ≡ live_of sheet s k
+      same k h = unfold live_of in case (in_auction sheet k) (λ t. rw t) (λ f. rw (f, o k h f))
 
   -- those taken, as a list
-  pub taken-list : members (taken_of sheet of s) of.bids ≡ cheapest sheet (sift (live_of sheet s) (below of.bids))
-  unfolding taken_of at_of lowestOf
-  taken-list = members-built (λ i. live_of sheet s i && eqb (rowPrice sheet i) (leastOr sheet (sift (live_of sheet s) (below of.bids)))) of.bids ck.few
-      ∙ sym (sift-both (λ i. eqb (rowPrice sheet i) (leastOr sheet (sift (live_of sheet s) (below of.bids)))) (live_of sheet s) (below of.bids))
+  pub taken_list : members (taken_of sheet of s) of.bids ≡ cheapest sheet (sift (live_of sheet s) (below of.bids))
+  unfolding taken_of at_of lowest_of
+  taken_list = members_built (λ i. live_of sheet s i && eqb (row_price sheet i) (least_or sheet (sift (live_of sheet s) (below of.bids)))) of.bids ck.few
+      ∙ sym (sift_both (λ i. eqb (row_price sheet i) (least_or sheet (sift (live_of sheet s) (below of.bids)))) (live_of sheet s) (below of.bids))
 
-  look-all : Looked sheet of s (look_of sheet (sift (live_of sheet s) (below of.bids)))
-  unfolding lowestOf
-  look-all =
-      let f = look-parts sheet (sift (live_of sheet s) (below of.bids)) in
-      record { price = f.0; count = f.1 ∙ ap length (sym taken-list); last = f.2 ∙ ap (head_or 0) (sym taken-list) }
+  look_all : Looked sheet of s (look_of sheet (sift (live_of sheet s) (below of.bids)))
+  unfolding lowest_of
+  look_all =
+      let f = look_parts sheet (sift (live_of sheet s) (below of.bids)) in
+      record { price = f.0; count = f.1 ∙ ap length (sym taken_list); last = f.2 ∙ ap (head_or 0) (sym taken_list) }
 
-  pub pass-looked : {j : ℕ} {l : Look} → Others sheet of s → l ≡ look_of sheet (sift (live_of sheet s) (entrants sheet j)) → j ≤ of.entered → of.entered ≤ j
+  pub pass_looked : {j : ℕ} {l : Look} → Others sheet of s → l ≡ look_of sheet (sift (live_of sheet s) (entrants sheet j)) → j ≤ of.entered → of.entered ≤ j
       → Looked sheet of s l
-  pass-looked o e h g = rw (e, le_antisymm h g, ck.listed, live-listed o) look-all
+  pass_looked o e h g = rw (e, le_antisymm h g, ck.listed, live_listed o) look_all
 
 -- a sole bid is one of the sheet's, and is live
 head_in : (a : List ℕ) → length a ≡ 1 → In (head_or 0 a) a
 head_in [] e = absurd (let no : ⊥ = omega arith in no)
 head_in (x ∷ a) e = here refl
 
-sole-in : {sheet : List ℕ} {of : Size} {s : PotState} {l : Look} → Looked sheet of s l → l.count ≡ 1 → In l.last (members (taken_of sheet of s) of.bids)
-sole-in {sheet} {of} {s} K h = rw K.last (head_in (members (taken_of sheet of s) of.bids) (sym K.count ∙ h))
+sole_in : {sheet : List ℕ} {of : Size} {s : PotState} {l : Look} → Looked sheet of s l → l.count ≡ 1 → In l.last (members (taken_of sheet of s) of.bids)
+sole_in {sheet} {of} {s} K h = rw K.last (head_in (members (taken_of sheet of s) of.bids) (sym K.count ∙ h))
 
 module _ {sheet : List ℕ} {of : Size} {s : PotState} {l : Look} (ck : Ready sheet of) (K : Looked sheet of s l) (h : l.count ≡ 1) where
   held : In l.last (below of.bids) × (live_of sheet s l.last ≡ true)
-  held = sift-in l.last (live_of sheet s) (below of.bids)
-      (sift-in l.last (λ i. eqb (rowPrice sheet i) (leastOr sheet (sift (live_of sheet s) (below of.bids)))) (sift (live_of sheet s) (below of.bids))
-      (rw (taken-list sheet of s ck) at (sole-in K h))).0
+  held = sift_in l.last (live_of sheet s) (below of.bids)
+      (sift_in l.last (λ i. eqb (row_price sheet i) (least_or sheet (sift (live_of sheet s) (below of.bids)))) (sift (live_of sheet s) (below of.bids))
+      (rw (taken_list sheet of s ck) at (sole_in K h))).0
 
-  pub sole-small : l.last < of.bids
-  sole-small = below_in l.last of.bids held.0
+  pub sole_small : l.last < of.bids
+  sole_small = below_in l.last of.bids held.0
 
-  pub sole-fresh : eqb (get_or s.marks l.last 0) becauseWon ≡ false
-  sole-fresh = rw (eqb-true (get_or s.marks l.last 0) noReason (and-true (eqb (get_or s.marks l.last 0) noReason) _ (opened held.1)).0) refl
+  pub sole_fresh : eqb (get_or s.marks l.last 0) because_won ≡ false
+  sole_fresh = rw (eqb-true (get_or s.marks l.last 0) no_reason (and_true (eqb (get_or s.marks l.last 0) no_reason) _ (opened held.1)).0) refl
     where
       opened : live_of sheet s l.last ≡ true
           → (eqb (get_or s.marks l.last 0)
-          noReason && (not (get_or s.won (rowApp sheet l.last) false) && get_or s.opened (rowYear sheet l.last) false)) ≡ true
+          no_reason && (not (get_or s.won (row_app sheet l.last) false) && get_or s.opened (row_year sheet l.last) false)) ≡ true
       opened e = unfold live_of in e

@@ -1,14 +1,14 @@
 // A year hangs, open though a bid was turned down there, while the sole next lowest live bid is of the same application and year: 2.
 ghost use Rattle.std.specs.Prelude.{◌≡◌, ◌<◌};
-ghost use Rattle.rules.specs.Names.{mostDeliveries};
-ghost use Rattle.pot.specs.Marks.{hungOf, shutOf, settled_of};
+ghost use Rattle.rules.specs.Names.{most_deliveries};
+ghost use Rattle.pot.specs.Marks.{hung_of, shut_of, settled_of};
 
 use super::{NO_YEAR, PotState};
 
 impl PotState {
     // Year d hangs.
     pub(crate) fn hung(mut self, d: usize) -> PotState
-        ensures { result ≡ hungOf d self }
+        ensures { result ≡ hung_of d self }
     {
         self.hang = d;
         self
@@ -16,8 +16,8 @@ impl PotState {
 
     // Year d closes.
     pub(crate) fn shut(mut self, d: usize) -> PotState
-        requires { d < mostDeliveries }
-        ensures { result ≡ shutOf d self }
+        requires { d < most_deliveries }
+        ensures { result ≡ shut_of d self }
     {
         self.opened[d] = false;
         self.hang = NO_YEAR;

@@ -1,7 +1,7 @@
 // The state of a pot by value, and its steps: what is live, what is taken, trials, and one look after the other to the end.
 // specs/Marks.antt says what the functions over the arrays compute, specs/Rep.antt what the arrays stand for.
 ghost use Rattle.rules.specs.Pot.{auction};
-ghost use Rattle.sheet.specs.Sheet.{potIn, Ready};
+ghost use Rattle.sheet.specs.Sheet.{pot_in, Ready};
 ghost use Rattle.pot.specs.Marks.{Summed};
 ghost use Rattle.pot.specs.Rep.{Stands};
 
@@ -49,7 +49,7 @@ pub struct Look {
 // The auction of a pot.
 pub fn auction(sheet: &Sheet, of: Size) -> PotState
     requires { Ready sheet.now of }
-    ensures { Stands (potIn sheet.now of) (auction (potIn sheet.now of)) result × Summed sheet.now of result }
+    ensures { Stands (pot_in sheet.now of) (auction (pot_in sheet.now of)) result × Summed sheet.now of result }
 {
     let s = start::started(sheet, of);
     s.run(sheet, of)

@@ -1,9 +1,9 @@
 // "Live bids are those not yet looked at, of an application that has not won, in an open year": a look at those of the lowest live price.
 ghost use Rattle.std.specs.Prelude.{◌≡◌, not, ◌&&◌, ◌<◌, eqb};
-ghost use Rattle.rules.specs.Names.{mostBids, noReason};
+ghost use Rattle.rules.specs.Names.{most_bids, no_reason};
 ghost use Rattle.arrays.specs.Sets.{built};
 ghost use Rattle.sheet.specs.Sheet.{Ready};
-ghost use Rattle.pot.specs.Marks.{Looking, Looked, joinedOf, at_of, followsOf};
+ghost use Rattle.pot.specs.Marks.{Looking, Looked, joined_of, at_of, follows_of};
 
 use super::{Look, PotState};
 use names::BIDS;
@@ -12,7 +12,7 @@ use totals::marks;
 
 // Is a bid live?
 fn live(mark: u16, won: bool, opened: bool) -> bool
-    ensures { result ≡ (eqb mark noReason && (not won && opened)) }
+    ensures { result ≡ (eqb mark no_reason && (not won && opened)) }
 {
     if mark != marks::FRESH {
         return false;
@@ -32,8 +32,8 @@ fn at(alive: bool, price: u64, lowest: u64) -> bool
 
 // A look that sees one more live bid, k at a price.
 fn joined(seen: Look, price: u64, k: usize) -> Look
-    requires { seen.count < mostBids }
-    ensures { result ≡ joinedOf seen price k }
+    requires { seen.count < most_bids }
+    ensures { result ≡ joined_of seen price k }
 {
     if seen.price < price {
         return seen;
@@ -102,7 +102,7 @@ impl PotState {
     // Is the sole next lowest live bid of bid k's application and year?
     pub(crate) fn follows(self, sheet: &Sheet, of: Size, k: usize) -> bool
         requires { Looking sheet.now of self × (k < of.bids) }
-        ensures { result ≡ followsOf sheet.now of k self }
+        ensures { result ≡ follows_of sheet.now of k self }
     {
         let seen = self.look(sheet, of);
         if seen.count != 1 {

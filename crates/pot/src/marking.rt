@@ -1,9 +1,9 @@
 // What becomes of bids: they win, or are turned down and their years close.
 ghost use Rattle.std.specs.Prelude.{◌≡◌, ◌<◌};
-ghost use Rattle.rules.specs.Names.{mostBids};
+ghost use Rattle.rules.specs.Names.{most_bids};
 ghost use Rattle.arrays.specs.Sets.{members};
 ghost use Rattle.sheet.specs.Sheet.{Ready};
-ghost use Rattle.pot.specs.Marks.{winOf, turn_of, winAll, turnAll, turnedOf, widened};
+ghost use Rattle.pot.specs.Marks.{win_of, turn_of, win_all, turn_all, turned_of, widened};
 
 use super::{NO_YEAR, PotState};
 use names::BIDS;
@@ -14,7 +14,7 @@ impl PotState {
     // Bid k wins at a price.
     pub(crate) fn win(mut self, sheet: &Sheet, of: Size, k: usize, price: u64) -> PotState
         requires { Ready sheet.now of × (k < of.bids) }
-        ensures { result ≡ winOf sheet.now price k self }
+        ensures { result ≡ win_of sheet.now price k self }
     {
         let a = sheet::app(sheet, k);
         let d = sheet::year(sheet, k);
@@ -38,7 +38,7 @@ impl PotState {
     // The bids of a set are added to the winners, at a clearing price of their years.
     pub(crate) fn win_all(self, sheet: &Sheet, of: Size, set: [bool; BIDS], price: u64) -> PotState
         requires { Ready sheet.now of }
-        ensures { result ≡ winAll sheet.now price self (members set of.bids) }
+        ensures { result ≡ win_all sheet.now price self (members set of.bids) }
     {
         let mut t = self;
         let bids = of.bids;
@@ -55,7 +55,7 @@ impl PotState {
     // The bids of a set are turned down for a reason, and their years close.
     pub(crate) fn turn_all(self, sheet: &Sheet, of: Size, set: [bool; BIDS], mark: u16) -> PotState
         requires { Ready sheet.now of }
-        ensures { result ≡ turnAll sheet.now mark self (members set of.bids) }
+        ensures { result ≡ turn_all sheet.now mark self (members set of.bids) }
     {
         let mut t = self;
         let bids = of.bids;
@@ -71,8 +71,8 @@ impl PotState {
 
     // Bid k is turned down alone; its year is left to `hung` and `shut`.
     pub(crate) fn turned(mut self, k: usize) -> PotState
-        requires { k < mostBids }
-        ensures { result ≡ turnedOf k self }
+        requires { k < most_bids }
+        ensures { result ≡ turned_of k self }
     {
         self.marks[k] = marks::ALONE;
         self.hang = NO_YEAR;

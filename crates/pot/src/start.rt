@@ -1,7 +1,7 @@
 // The state of a pot before the first look.
 ghost use Rattle.std.specs.Prelude.{◌≡◌};
 ghost use Rattle.sheet.specs.Sheet.{Ready};
-ghost use Rattle.pot.specs.Marks.{firstMark, startedOf};
+ghost use Rattle.pot.specs.Marks.{first_mark, started_of};
 
 use super::{NO_YEAR, PotState};
 use names::{APPS, BIDS, MOST_DELIVERIES};
@@ -10,7 +10,7 @@ use totals::marks;
 
 // The mark of a bid that no look has seen.
 fn first_mark(entered: bool) -> u16
-    ensures { result ≡ firstMark entered }
+    ensures { result ≡ first_mark entered }
 {
     if entered { marks::FRESH } else { marks::OTHER }
 }
@@ -18,7 +18,7 @@ fn first_mark(entered: bool) -> u16
 // No bid has been looked at: those that are not of this auction are marked so.
 pub fn started(sheet: &Sheet, of: Size) -> PotState
     requires { Ready sheet.now of }
-    ensures { result ≡ startedOf sheet.now of }
+    ensures { result ≡ started_of sheet.now of }
 {
     let mut marks = [marks::OTHER; BIDS];
     let bids = of.bids;

@@ -1,8 +1,8 @@
 // "One look, at a bid alone or at tied bids together, is one step"; and steps to the end.
 ghost use Rattle.std.specs.Prelude.{◌≡◌, [], ◌<◌};
 ghost use Rattle.rules.specs.Pot.{auction};
-ghost use Rattle.sheet.specs.Sheet.{potIn, Ready};
-ghost use Rattle.pot.specs.Marks.{Looking, Summed, aloneOf};
+ghost use Rattle.sheet.specs.Sheet.{pot_in, Ready};
+ghost use Rattle.pot.specs.Marks.{Looking, Summed, alone_of};
 ghost use Rattle.pot.specs.Rep.{Stands, Seen, Onward};
 
 use super::{Look, PotState};
@@ -12,7 +12,7 @@ impl PotState {
     // Bid k was taken alone and does not fit: 2.
     pub(crate) fn alone(self, sheet: &Sheet, of: Size, k: usize) -> PotState
         requires { Looking sheet.now of self × (k < of.bids) }
-        ensures { result ≡ aloneOf sheet.now of k self }
+        ensures { result ≡ alone_of sheet.now of k self }
     {
         let t = self.turned(k);
         let d = sheet::year(sheet, k);
@@ -65,8 +65,8 @@ impl PotState {
 
     // Looks while a bid is live, and to the first tie that is too wide.
     pub fn run(self, sheet: &Sheet, of: Size) -> PotState
-        requires { Ready sheet.now of × Summed sheet.now of self × Stands (potIn sheet.now of) [] self }
-        ensures { Stands (potIn sheet.now of) (auction (potIn sheet.now of)) result × Summed sheet.now of result }
+        requires { Ready sheet.now of × Summed sheet.now of self × Stands (pot_in sheet.now of) [] self }
+        ensures { Stands (pot_in sheet.now of) (auction (pot_in sheet.now of)) result × Summed sheet.now of result }
     {
         let mut s = self;
         let mut seen = s.look(sheet, of);

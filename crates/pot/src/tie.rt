@@ -1,7 +1,7 @@
 // Several were taken and do not fit together: 3.
 ghost use Rattle.std.specs.Prelude.{◌≡◌};
 ghost use Rattle.sheet.specs.Sheet.{Ready};
-ghost use Rattle.pot.specs.Marks.{Valued, numberedOf, sharedOf, tie_of};
+ghost use Rattle.pot.specs.Marks.{Valued, numbered_of, shared_of, tie_of};
 
 use super::{NO_YEAR, PotState};
 use names::BIDS;
@@ -12,7 +12,7 @@ use totals::marks;
 impl PotState {
     // The next tie is drawn by another number.
     pub(crate) fn numbered(mut self, drawn: u64) -> PotState
-        ensures { result ≡ numberedOf drawn self }
+        ensures { result ≡ numbered_of drawn self }
     {
         self.drawn = drawn;
         self
@@ -28,7 +28,7 @@ impl PotState {
         price: u64,
     ) -> PotState
         requires { Ready sheet.now of }
-        ensures { result ≡ sharedOf sheet.now of set choice price self }
+        ensures { result ≡ shared_of sheet.now of set choice price self }
     {
         let wins = choice.wins;
         let t = self.win_all(sheet, of, wins, price);

@@ -1,6 +1,6 @@
 // "A reader holds the file and its place in it." Thin functions take it apart and call covered ones on slice and number.
 ghost use Rattle.std.specs.Prelude.{◌≡◌, ◌+◌, ◌-◌, ◌≤◌, ◌<◌, ◌^◌, min, length};
-ghost use Rattle.rules.specs.Names.{countWidth};
+ghost use Rattle.rules.specs.Names.{count_width};
 ghost use Rattle.rules.specs.Bytes.{le, part};
 
 #[derive(Drop)]
@@ -55,8 +55,8 @@ pub fn past<'a>(r: Reader<'a>, n: usize) -> Reader<'a>
 
 // The count at the reader's place.
 pub fn count<'a>(r: Reader<'a>) -> u64
-    requires { r.at + countWidth ≤ length r.file.now }
-    ensures { (result ≡ le countWidth r.entry.file.now r.entry.at) × (result < 65536) }
+    requires { r.at + count_width ≤ length r.file.now }
+    ensures { (result ≡ le count_width r.entry.file.now r.entry.at) × (result < 65536) }
 {
     fields::le16(r.file, r.at)
 }
@@ -72,16 +72,16 @@ pub fn section<'a>(r: Reader<'a>, next: usize) -> &'a [u8]
 
 // The count that stands at `at`.
 pub fn count_at(file: &[u8], at: usize) -> u64
-    requires { at + countWidth ≤ length file.now }
-    ensures { (result ≡ le countWidth file.now at) × (result < 65536) }
+    requires { at + count_width ≤ length file.now }
+    ensures { (result ≡ le count_width file.now at) × (result < 65536) }
 {
     count(placed(file, at))
 }
 
 // "Five sections stand in this order, each after its 2-byte count": the records of the section whose count stands at `at`, up to `next`.
 pub fn records_after(file: &[u8], at: usize, next: usize) -> &[u8]
-    requires { at + countWidth < 2 ^ 64 }
-    ensures { (result.now ≡ part file.now (at + countWidth) next) × (length result.now ≤ length file.now - (at + countWidth)) }
+    requires { at + count_width < 2 ^ 64 }
+    ensures { (result.now ≡ part file.now (at + count_width) next) × (length result.now ≤ length file.now - (at + count_width)) }
 {
     section(past(placed(file, at), names::COUNT_WIDTH), next)
 }

@@ -1,10 +1,10 @@
 // The applications' records: refusals 1 and 6.
 ghost use Rattle.std.specs.Prelude.{◌≡◌, ◌+◌, ◌*◌, ◌≤◌, ◌<◌, ◌^◌, length};
-ghost use Rattle.rules.specs.Names.{yearWidth, appWidth};
-ghost use Rattle.rules.specs.Refusals.{recordFault, appFault};
-ghost use Rattle.layout.specs.Layout.{Room, applicationShown};
-ghost use Rattle.records.specs.Numbers.{numbersOf, drawOf};
-ghost use Rattle.records.specs.Records.{appsOf};
+ghost use Rattle.rules.specs.Names.{year_width, app_width};
+ghost use Rattle.rules.specs.Refusals.{record_fault, app_fault};
+ghost use Rattle.layout.specs.Layout.{Room, application_shown};
+ghost use Rattle.records.specs.Numbers.{numbers_of, draw_of};
+ghost use Rattle.records.specs.Records.{apps_of};
 
 use layout::application::Application;
 use layout::{application, year};
@@ -12,8 +12,8 @@ use rules::{Reading, Sections};
 
 // What is wrong with an application's numbers, its draw apart, in a file of so many delivery years and technologies: 0 if nothing is.
 fn numbers_fault(year_recs: &[u8], deliveries: usize, technologies: usize, x: Application) -> u64
-    requires { deliveries * yearWidth ≤ length year_recs.now }
-    ensures { result ≡ numbersOf year_recs.now deliveries technologies (applicationShown x) }
+    requires { deliveries * year_width ≤ length year_recs.now }
+    ensures { result ≡ numbers_of year_recs.now deliveries technologies (application_shown x) }
 {
     if technologies <= x.technology {
         return names::APP_BROKEN;
@@ -38,8 +38,8 @@ fn numbers_fault(year_recs: &[u8], deliveries: usize, technologies: usize, x: Ap
 
 // Is the draw of application a that of an earlier one? 0 if it is not.
 fn draw_fault(recs: &[u8], a: usize) -> u64
-    requires { Room recs.now appWidth a }
-    ensures { result ≡ drawOf recs.now a }
+    requires { Room recs.now app_width a }
+    ensures { result ≡ draw_of recs.now a }
 {
     let draw = application::draw(recs, a);
     let mut earlier: usize = 0;
@@ -54,8 +54,8 @@ fn draw_fault(recs: &[u8], a: usize) -> u64
 
 // What is wrong with application a, beside the years' records: 0 if nothing is.
 fn app_fault(year_recs: &[u8], deliveries: usize, technologies: usize, recs: &[u8], a: usize) -> u64
-    requires { (deliveries * yearWidth ≤ length year_recs.now) × (a * appWidth ≤ length recs.now) }
-    ensures { result ≡ recordFault recs.now appWidth (appFault year_recs.now deliveries technologies recs.now) a }
+    requires { (deliveries * year_width ≤ length year_recs.now) × (a * app_width ≤ length recs.now) }
+    ensures { result ≡ record_fault recs.now app_width (app_fault year_recs.now deliveries technologies recs.now) a }
 {
     if recs.len() - a * names::APP_WIDTH < names::APP_WIDTH {
         return names::ENDS_EARLY;
@@ -74,8 +74,8 @@ fn app_fault(year_recs: &[u8], deliveries: usize, technologies: usize, recs: &[u
 
 // The applications' records, in the part of the file that they occupy and that starts at `base`. If nothing is wrong, `done` is the answer.
 pub fn applications(year_recs: &[u8], recs: &[u8], base: usize, done: Sections) -> Reading
-    requires { (done.deliveries * yearWidth ≤ length year_recs.now) × (base + length recs.now < 2 ^ 63) }
-    ensures { result ≡ appsOf year_recs.now recs.now base done }
+    requires { (done.deliveries * year_width ≤ length year_recs.now) × (base + length recs.now < 2 ^ 63) }
+    ensures { result ≡ apps_of year_recs.now recs.now base done }
 {
     let deliveries = done.deliveries;
     let technologies = done.technologies;

@@ -1,17 +1,17 @@
 // The pots' records: refusals 1 and 4.
 ghost use Rattle.std.specs.Prelude.{◌≡◌, ◌+◌, ◌*◌, ◌≤◌, ◌<◌, ◌^◌, length};
-ghost use Rattle.rules.specs.Names.{mostYears, potWidth};
-ghost use Rattle.rules.specs.Refusals.{recordFault, potFault};
+ghost use Rattle.rules.specs.Names.{most_years, pot_width};
+ghost use Rattle.rules.specs.Refusals.{record_fault, pot_fault};
 ghost use Rattle.laws_reading.specs.Reading.{GainedTold};
-ghost use Rattle.records.specs.Numbers.{capFault};
-ghost use Rattle.records.specs.Records.{potsOf};
+ghost use Rattle.records.specs.Numbers.{cap_fault};
+ghost use Rattle.records.specs.Records.{pots_of};
 
 use layout::pot;
 use rules::{Reading, Sections};
 
 // What is wrong with a cap: 0 if nothing is.
 fn cap_fault(cap: u64) -> u64
-    ensures { result ≡ capFault cap }
+    ensures { result ≡ cap_fault cap }
 {
     if cap == names::NO_CAP {
         return 0;
@@ -24,8 +24,8 @@ fn cap_fault(cap: u64) -> u64
 
 // What is wrong with pot p, in a file of so many years and with so many bytes gained a pot: 0 if nothing is. Every drawn number is right.
 fn pot_fault(recs: &[u8], years: usize, gained: usize, p: usize) -> u64
-    requires { (years ≤ mostYears) × (GainedTold gained × (p * potWidth years gained ≤ length recs.now)) }
-    ensures { result ≡ recordFault recs.now (potWidth years gained) (potFault years gained recs.now) p }
+    requires { (years ≤ most_years) × (GainedTold gained × (p * pot_width years gained ≤ length recs.now)) }
+    ensures { result ≡ record_fault recs.now (pot_width years gained) (pot_fault years gained recs.now) p }
 {
     if recs.len() - pot::place(years, gained, p) < pot::width(years, gained) {
         return names::ENDS_EARLY;
@@ -45,8 +45,8 @@ fn pot_fault(recs: &[u8], years: usize, gained: usize, p: usize) -> u64
 
 // The pots' records, in the part of the file that they occupy and that starts at `base`. If nothing is wrong, `done` is the answer.
 pub fn pots(recs: &[u8], base: usize, done: Sections) -> Reading
-    requires { (done.years ≤ mostYears) × (GainedTold done.gained × (base + length recs.now < 2 ^ 63)) }
-    ensures { result ≡ potsOf recs.now base done }
+    requires { (done.years ≤ most_years) × (GainedTold done.gained × (base + length recs.now < 2 ^ 63)) }
+    ensures { result ≡ pots_of recs.now base done }
 {
     let years = done.years;
     let gained = done.gained;

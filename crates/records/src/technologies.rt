@@ -1,16 +1,16 @@
 // The technologies' records: refusals 1 and 5.
 ghost use Rattle.std.specs.Prelude.{◌≡◌, ◌+◌, ◌*◌, ◌≤◌, ◌<◌, ◌^◌, length};
-ghost use Rattle.rules.specs.Names.{mostYears, techWidth};
-ghost use Rattle.rules.specs.Refusals.{recordFault, techFault};
-ghost use Rattle.records.specs.Numbers.{pricesOf};
-ghost use Rattle.records.specs.Records.{techsOf};
+ghost use Rattle.rules.specs.Names.{most_years, tech_width};
+ghost use Rattle.rules.specs.Refusals.{record_fault, tech_fault};
+ghost use Rattle.records.specs.Numbers.{prices_of};
+ghost use Rattle.records.specs.Records.{techs_of};
 
 use layout::technology;
 use rules::{Reading, Sections};
 
 // What is wrong with a technology's numbers in year y, the delivery years being the first so many: 0 if nothing is.
 fn prices_fault(y: usize, deliveries: usize, admin: u64, reference: u64, load: u64) -> u64
-    ensures { result ≡ pricesOf y deliveries admin reference load }
+    ensures { result ≡ prices_of y deliveries admin reference load }
 {
     if names::WHOLE < load {
         return names::TECH_BROKEN;
@@ -38,8 +38,8 @@ fn prices_fault(y: usize, deliveries: usize, admin: u64, reference: u64, load: u
 
 // What is wrong with technology t, in a file of so many years, delivery years and pots: 0 if nothing is.
 fn tech_fault(recs: &[u8], years: usize, deliveries: usize, pots: usize, t: usize) -> u64
-    requires { (years ≤ mostYears) × (t * techWidth years ≤ length recs.now) }
-    ensures { result ≡ recordFault recs.now (techWidth years) (techFault years deliveries pots recs.now) t }
+    requires { (years ≤ most_years) × (t * tech_width years ≤ length recs.now) }
+    ensures { result ≡ record_fault recs.now (tech_width years) (tech_fault years deliveries pots recs.now) t }
 {
     if recs.len() - technology::place(years, t) < technology::width(years) {
         return names::ENDS_EARLY;
@@ -65,8 +65,8 @@ fn tech_fault(recs: &[u8], years: usize, deliveries: usize, pots: usize, t: usiz
 
 // The technologies' records, in the part of the file that they occupy and that starts at `base`. If nothing is wrong, `done` is the answer.
 pub fn technologies(recs: &[u8], base: usize, done: Sections) -> Reading
-    requires { (done.years ≤ mostYears) × (base + length recs.now < 2 ^ 63) }
-    ensures { result ≡ techsOf recs.now base done }
+    requires { (done.years ≤ most_years) × (base + length recs.now < 2 ^ 63) }
+    ensures { result ≡ techs_of recs.now base done }
 {
     let years = done.years;
     let deliveries = done.deliveries;

@@ -1,17 +1,17 @@
 // The years' records: refusals 1 and 3.
 ghost use Rattle.std.specs.Prelude.{◌≡◌, ◌+◌, ◌*◌, ◌≤◌, ◌<◌, ◌^◌, length};
-ghost use Rattle.rules.specs.Names.{yearWidth};
+ghost use Rattle.rules.specs.Names.{year_width};
 ghost use Rattle.rules.specs.File.{deliveries};
-ghost use Rattle.rules.specs.Refusals.{recordFault, yearFault};
-ghost use Rattle.records.specs.Records.{yearsOf};
+ghost use Rattle.rules.specs.Refusals.{record_fault, year_fault};
+ghost use Rattle.records.specs.Records.{years_of};
 
 use layout::year;
 use rules::{Reading, Sections};
 
 // What is wrong with year y, before which there are so many delivery years: 0 if nothing is.
 fn year_fault(recs: &[u8], y: usize, before: usize) -> u64
-    requires { (y * yearWidth ≤ length recs.now) × (before ≡ deliveries recs.now y) }
-    ensures { result ≡ recordFault recs.now yearWidth (yearFault recs.now) y }
+    requires { (y * year_width ≤ length recs.now) × (before ≡ deliveries recs.now y) }
+    ensures { result ≡ record_fault recs.now year_width (year_fault recs.now) y }
 {
     if recs.len() - y * names::YEAR_WIDTH < names::YEAR_WIDTH {
         return names::ENDS_EARLY;
@@ -48,7 +48,7 @@ fn year_fault(recs: &[u8], y: usize, before: usize) -> u64
 // The years' records, of which there are to be n, in the part of the file that they occupy and that starts at `base`.
 pub fn years(recs: &[u8], n: usize, base: usize) -> Reading
     requires { base + length recs.now < 2 ^ 63 }
-    ensures { result ≡ yearsOf recs.now n base }
+    ensures { result ≡ years_of recs.now n base }
 {
     let mut y: usize = 0;
     let mut deliveries: usize = 0;

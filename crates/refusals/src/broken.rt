@@ -1,5 +1,5 @@
 // Which part of rule 2 the count of pots broke, and which part of rule 4 a pot: the count and the record are asked.
-ghost use Rattle.rules.specs.Names.{potWidth};
+ghost use Rattle.rules.specs.Names.{pot_width};
 ghost use Rattle.layout.specs.Layout.{Room};
 
 use super::whose::after;
@@ -21,7 +21,7 @@ pub fn drawn_without_caps(file: &[u8], at: usize) -> bool {
 
 // Is a budget of the first of these pots too high?
 fn budget_high(recs: &[u8], years: usize, gained: usize) -> bool
-    requires { Room recs.now (potWidth years gained) 0 }
+    requires { Room recs.now (pot_width years gained) 0 }
 {
     let mut y: usize = 0;
     while y < years {

@@ -1,7 +1,7 @@
 // The count or record that stands at an offset of a refused file. The counts before the fault are right, and they say where each section
 // stands; a count that the file does not have is 0.
 ghost use Rattle.std.specs.Prelude.{◌≡◌, ◌+◌, ◌*◌, ◌<◌, min};
-ghost use Rattle.rules.specs.Names.{countWidth};
+ghost use Rattle.rules.specs.Names.{count_width};
 ghost use Rattle.layout.specs.Layout.{beyond};
 
 use layout::{pot, technology};
@@ -11,7 +11,7 @@ use text::{number, word};
 // The place after a section of n records, whose count is at `at`.
 pub fn after(at: usize, n: usize, width: usize) -> usize
     requires { (n < 65536) × (width < 1000000) }
-    ensures { result ≡ min (min (at + countWidth) beyond + n * width) beyond }
+    ensures { result ≡ min (min (at + count_width) beyond + n * width) beyond }
 {
     on(on(at, names::COUNT_WIDTH), n * width)
 }

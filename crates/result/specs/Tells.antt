@@ -1,11 +1,11 @@
 -- What it is for tellings to be those of a round: every place of them is told. Assumes nothing.
 use Rattle.std.specs.Prelude.{ℕ, ◌≤◌, ◌<◌, ◌&&◌, ◌≡◌, [], ltb, get_or}
-use Rattle.rules.specs.Names.{mostYears, mostDeliveries, mostPots, mostApps, mostBids, noReason}
+use Rattle.rules.specs.Names.{most_years, most_deliveries, most_pots, most_apps, most_bids, no_reason}
 use Rattle.rules.specs.Lists.{pick}
 use Rattle.rules.specs.File.{Round}
-use Rattle.rules.specs.Pot.{outcome, priceIn, totalIn, reason}
-use Rattle.rules.specs.Round.{potOf}
-use Rattle.rules.specs.Result.{appTold, potAt}
+use Rattle.rules.specs.Pot.{outcome, price_in, total_in, reason}
+use Rattle.rules.specs.Round.{pot_of}
+use Rattle.rules.specs.Result.{app_told, pot_at}
 use Rattle.rules.specs.declared.Sections.{Sections}
 use Rattle.rules.specs.declared.Told.{Told}
 use Rattle.result.specs.declared.PotTold.{PotTold}
@@ -13,11 +13,11 @@ use Rattle.result.specs.declared.Tellings.{Tellings}
 
 -- the counts of the sections are in their ranges
 pub record InRange (sections : Sections) : Type 0 where
-  pub years : sections.years ≤ mostYears
-  pub deliveries : sections.deliveries ≤ mostDeliveries
-  pub pots : sections.pots ≤ mostPots
-  pub apps : sections.applications ≤ mostApps
-  pub bids : sections.bids ≤ mostBids
+  pub years : sections.years ≤ most_years
+  pub deliveries : sections.deliveries ≤ most_deliveries
+  pub pots : sections.pots ≤ most_pots
+  pub apps : sections.applications ≤ most_apps
+  pub bids : sections.bids ≤ most_bids
 
 -- they are those of a round
 pub record Counted (R : Round) (sections : Sections) : Type 0 where
@@ -31,13 +31,13 @@ pub record Counted (R : Round) (sections : Sections) : Type 0 where
 abbrev pub untold : Told
 untold = record { won = 0; bid = 0; reason = 0; paid = 0 }
 
-abbrev pub noPot : PotTold
-noPot = record { outcome = 0; prices = []; totals = [] }
+abbrev pub no_pot : PotTold
+no_pot = record { outcome = 0; prices = []; totals = [] }
 
 -- each number is the one that the definitions tell, and the places past the counts are empty
 pub record Tells (R : Round) (t : Tellings) : Type 0 where
-  pub outcome : (p : ℕ) → (get_or t.pots p noPot).outcome ≡ pick (ltb p R.p) (outcome (potOf R p)) 0
-  pub price : (p d : ℕ) → d < mostDeliveries → get_or (get_or t.pots p noPot).prices d 0 ≡ pick (ltb p R.p) (priceIn (potOf R p) d) 0
-  pub total : (p y : ℕ) → get_or (get_or t.pots p noPot).totals y 0 ≡ pick (ltb p R.p && ltb y R.y) (totalIn (potOf R p) y) 0
-  pub app : (a : ℕ) → get_or t.apps a untold ≡ pick (ltb a R.n) (appTold R a) untold
-  pub reason : (k : ℕ) → get_or t.reasons k 0 ≡ pick (ltb k R.b) (reason (potAt R k) k) noReason
+  pub outcome : (p : ℕ) → (get_or t.pots p no_pot).outcome ≡ pick (ltb p R.p) (outcome (pot_of R p)) 0
+  pub price : (p d : ℕ) → d < most_deliveries → get_or (get_or t.pots p no_pot).prices d 0 ≡ pick (ltb p R.p) (price_in (pot_of R p) d) 0
+  pub total : (p y : ℕ) → get_or (get_or t.pots p no_pot).totals y 0 ≡ pick (ltb p R.p && ltb y R.y) (total_in (pot_of R p) y) 0
+  pub app : (a : ℕ) → get_or t.apps a untold ≡ pick (ltb a R.n) (app_told R a) untold
+  pub reason : (k : ℕ) → get_or t.reasons k 0 ≡ pick (ltb k R.b) (reason (pot_at R k) k) no_reason

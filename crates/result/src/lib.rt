@@ -1,13 +1,13 @@
 // The result: what is told of a round, as counts and records in bytes, each section through its own part of the lent buffer.
 ghost use Rattle.std.specs.Prelude.{◌≡◌, ◌+◌, ◌*◌, ◌≤◌, ◌<◌, length};
-ghost use Rattle.rules.specs.Names.{countWidth};
+ghost use Rattle.rules.specs.Names.{count_width};
 ghost use Rattle.rules.specs.Bytes.{each, onto};
 ghost use Rattle.rules.specs.File.{Round};
-ghost use Rattle.rules.specs.Result.{appBytes, needed, resultBytes};
+ghost use Rattle.rules.specs.Result.{app_bytes, needed, result_bytes};
 ghost use Rattle.store.specs.Filled.{Filled};
 ghost use Rattle.result.specs.Tells.{InRange, Counted, Tells};
-ghost use Rattle.result.specs.ToldBytes.{appSize, reasonSize, potSize, resultSize, largestPots, largestResult};
-ghost use Rattle.result.specs.ToldBytes.{potBytesTold, potRecord, appRecord, potsTold, appsTold, bidsTold, roundTold};
+ghost use Rattle.result.specs.ToldBytes.{app_size, reason_size, pot_size, result_size, largest_pots, largest_result};
+ghost use Rattle.result.specs.ToldBytes.{pot_bytes_told, pot_record, app_record, pots_told, apps_told, bids_told, round_told};
 
 use names::{COUNT_WIDTH, MOST_APPS, MOST_BIDS, MOST_DELIVERIES, MOST_POTS, YEARS};
 use rules::{Sections, Told};
@@ -57,8 +57,8 @@ pub struct Tellings {
 // The record of a pot: outcome, clearing price for each delivery year, total for each year.
 fn pot_record(s: &mut [u8], told: PotTold, sections: Sections)
     requires ready { InRange sections }
-    requires room { potSize sections ≤ length s.old }
-    ensures { Filled (potBytesTold sections told) s.old s.new }
+    requires room { pot_size sections ≤ length s.old }
+    ensures { Filled (pot_bytes_told sections told) s.old s.new }
 {
     put(s, OUTCOME_SIZE, told.outcome);
     let prices = told.prices;
@@ -72,7 +72,7 @@ fn pot_record(s: &mut [u8], told: PotTold, sections: Sections)
 // How many bytes the record of a pot takes.
 fn pot_size(sections: Sections) -> usize
     requires { InRange sections }
-    ensures { result ≡ potSize sections }
+    ensures { result ≡ pot_size sections }
 {
     OUTCOME_SIZE + PRICE_SIZE * sections.deliveries + TOTAL_SIZE * sections.years
 }
@@ -80,8 +80,8 @@ fn pot_size(sections: Sections) -> usize
 // The records of the pots, one after the other.
 fn pot_records(s: &mut [u8], t: Tellings, sections: Sections)
     requires ready { InRange sections }
-    requires room { sections.pots * potSize sections ≤ length s.old }
-    ensures { Filled (each (potRecord t sections) sections.pots) s.old s.new }
+    requires room { sections.pots * pot_size sections ≤ length s.old }
+    ensures { Filled (each (pot_record t sections) sections.pots) s.old s.new }
 {
     let pots = t.pots;
     let width = pot_size(sections);
@@ -98,8 +98,8 @@ fn pot_records(s: &mut [u8], t: Tellings, sections: Sections)
 // The section of the pots: their count, then their records.
 fn pots(s: &mut [u8], t: Tellings, sections: Sections)
     requires ready { InRange sections }
-    requires room { countWidth + sections.pots * potSize sections ≤ length s.old }
-    ensures { Filled (potsTold t sections) s.old s.new }
+    requires room { count_width + sections.pots * pot_size sections ≤ length s.old }
+    ensures { Filled (pots_told t sections) s.old s.new }
 {
     put(s, COUNT_WIDTH, sections.pots as u64);
     pot_records(&mut s[COUNT_WIDTH..], t, sections);
@@ -107,8 +107,8 @@ fn pots(s: &mut [u8], t: Tellings, sections: Sections)
 
 // The record of an application: won, bid, automatic reason, price paid.
 fn application_record(s: &mut [u8], told: Told)
-    requires { appSize ≤ length s.old }
-    ensures { Filled (appBytes told) s.old s.new }
+    requires { app_size ≤ length s.old }
+    ensures { Filled (app_bytes told) s.old s.new }
 {
     put(s, WON_SIZE, told.won);
     put(&mut s[BID_AT..], BID_SIZE, told.bid);
@@ -119,8 +119,8 @@ fn application_record(s: &mut [u8], told: Told)
 // The records of the applications, one after the other.
 fn application_records(s: &mut [u8], t: Tellings, sections: Sections)
     requires ready { InRange sections }
-    requires room { sections.applications * appSize ≤ length s.old }
-    ensures { Filled (each (appRecord t) sections.applications) s.old s.new }
+    requires room { sections.applications * app_size ≤ length s.old }
+    ensures { Filled (each (app_record t) sections.applications) s.old s.new }
 {
     let apps = t.apps;
     let n = sections.applications;
@@ -136,8 +136,8 @@ fn application_records(s: &mut [u8], t: Tellings, sections: Sections)
 // The section of the applications: their count, then their records.
 fn applications(s: &mut [u8], t: Tellings, sections: Sections)
     requires ready { InRange sections }
-    requires room { countWidth + sections.applications * appSize ≤ length s.old }
-    ensures { Filled (appsTold t sections) s.old s.new }
+    requires room { count_width + sections.applications * app_size ≤ length s.old }
+    ensures { Filled (apps_told t sections) s.old s.new }
 {
     put(s, COUNT_WIDTH, sections.applications as u64);
     application_records(&mut s[COUNT_WIDTH..], t, sections);
@@ -146,8 +146,8 @@ fn applications(s: &mut [u8], t: Tellings, sections: Sections)
 // The section of the bids: their count, then the reason of each.
 fn bids(s: &mut [u8], t: Tellings, sections: Sections)
     requires ready { InRange sections }
-    requires room { countWidth + sections.bids * reasonSize ≤ length s.old }
-    ensures { Filled (bidsTold t sections) s.old s.new }
+    requires room { count_width + sections.bids * reason_size ≤ length s.old }
+    ensures { Filled (bids_told t sections) s.old s.new }
 {
     put(s, COUNT_WIDTH, sections.bids as u64);
     let reasons = t.reasons;
@@ -158,8 +158,8 @@ fn bids(s: &mut [u8], t: Tellings, sections: Sections)
 // How many bytes the records of the pots take.
 fn pots_size(sections: Sections) -> usize
     requires { InRange sections }
-    ensures sized { result ≡ sections.pots * potSize sections }
-    ensures small { result ≤ largestPots }
+    ensures sized { result ≡ sections.pots * pot_size sections }
+    ensures small { result ≤ largest_pots }
 {
     sections.pots * pot_size(sections)
 }
@@ -167,8 +167,8 @@ fn pots_size(sections: Sections) -> usize
 // How many bytes the result needs.
 pub fn needed(sections: Sections) -> usize
     requires { InRange sections }
-    ensures sized { result ≡ resultSize sections }
-    ensures small { result ≤ largestResult }
+    ensures sized { result ≡ result_size sections }
+    ensures small { result ≤ largest_result }
     ensures meant { (R : Round) → Counted R sections → result ≡ needed R }
 {
     3 * COUNT_WIDTH
@@ -180,9 +180,9 @@ pub fn needed(sections: Sections) -> usize
 // The result over the start of the lent buffer: the three sections, each through its own part.
 pub fn write(t: Tellings, sections: Sections, res: &mut [u8])
     requires ready { InRange sections }
-    requires room { resultSize sections ≤ length res.old }
-    ensures told { res.new ≡ onto (roundTold t sections) res.old }
-    ensures meant { (R : Round) → Counted R sections → Tells R t → res.new ≡ onto (resultBytes R) res.old }
+    requires room { result_size sections ≤ length res.old }
+    ensures told { res.new ≡ onto (round_told t sections) res.old }
+    ensures meant { (R : Round) → Counted R sections → Tells R t → res.new ≡ onto (result_bytes R) res.old }
 {
     let second = COUNT_WIDTH + pots_size(sections);
     let third = second + (COUNT_WIDTH + sections.applications * APP_SIZE);

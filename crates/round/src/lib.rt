@@ -1,7 +1,7 @@
 // The public functions: a round file is cleared into a lent result, or listed as text. Each contract speaks of the file's bytes and of the
 // lent bytes through the definitions of crate rules.
 ghost use Rattle.std.specs.Prelude.{◌≡◌, ◌≤◌, ◌<◌, length};
-ghost use Rattle.rules.specs.File.{roundOf};
+ghost use Rattle.rules.specs.File.{round_of};
 ghost use Rattle.rules.specs.Refusals.{reading};
 ghost use Rattle.rules.specs.Result.{length_of};
 ghost use Rattle.rules.specs.declared.Reading.TheVariants.{Accepted};
@@ -15,7 +15,7 @@ use rules::{Answer, Reading, Sections};
 // What is told of an accepted file, whose sections these are.
 fn told(file: &[u8], sections: Sections) -> Tellings
     requires { reading file.now ≡ Accepted sections }
-    ensures { Tells (roundOf file.now) result }
+    ensures { Tells (round_of file.now) result }
 {
     tell::tell(file, sections)
 }

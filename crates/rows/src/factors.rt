@@ -1,9 +1,9 @@
 // What the exact cost of a bid in a year is the product of, beside its price: "load factor in y × hours × capacity × (1 − TLM in y) × RQM".
 ghost use Rattle.std.specs.Prelude.{◌≡◌, ◌*◌, ◌≤◌, ◌<◌};
-ghost use Rattle.rules.specs.Names.{longYear, largestCapacity, dayHours};
-ghost use Rattle.rules.specs.Value.{hoursOf, mostEnergy, mostShare};
-ghost use Rattle.layout.specs.Layout.{bidShown};
-ghost use Rattle.rows.specs.Rows.{roundIn, Held};
+ghost use Rattle.rules.specs.Names.{long_year, largest_capacity, day_hours};
+ghost use Rattle.rules.specs.Value.{hours_of, most_energy, most_share};
+ghost use Rattle.layout.specs.Layout.{bid_shown};
+ghost use Rattle.rows.specs.Rows.{round_in, Held};
 ghost use Rattle.rows.specs.Factors.{InScale, FactorsOf};
 
 use layout::bid::Bid;
@@ -23,8 +23,8 @@ pub struct Factors {
 
 // "Hours are 0 for y before d, 24 × first-year days for y = d, and 24 × days of y after": d is the start year.
 fn hours(y: usize, d: usize, first: u64, days: u64) -> u64
-    requires { (first ≤ longYear) × (days ≤ longYear) }
-    ensures { (result ≡ hoursOf y d first days) × (result ≤ dayHours * longYear) }
+    requires { (first ≤ long_year) × (days ≤ long_year) }
+    ensures { (result ≡ hours_of y d first days) × (result ≤ day_hours * long_year) }
 {
     if y < d {
         return 0;
@@ -39,8 +39,8 @@ impl Factors {
     // Of a bid of technology t in year y.
     pub fn of(file: &[u8], sections: Sections, t: usize, bid: Bid, y: usize) -> Self
         requires held { Held file.now sections × (t < sections.technologies) × (y < sections.years) }
-        requires days_le_long_year { (bid.days ≤ longYear) × (bid.capacity ≤ largestCapacity) }
-        ensures { FactorsOf (roundIn file.now sections) t (bidShown bid) y result × InScale result }
+        requires days_le_long_year { (bid.days ≤ long_year) × (bid.capacity ≤ largest_capacity) }
+        ensures { FactorsOf (round_in file.now sections) t (bid_shown bid) y result × InScale result }
     {
         let year_recs = parts::years(file, sections);
         let recs = parts::technologies(file, sections);
@@ -58,7 +58,7 @@ impl Factors {
     // Load factor × hours × capacity.
     pub fn energy(self) -> u64
         requires { InScale self }
-        ensures { (result ≡ self.load * (self.hours * self.capacity)) × (result ≤ mostEnergy) }
+        ensures { (result ≡ self.load * (self.hours * self.capacity)) × (result ≤ most_energy) }
     {
         self.load * (self.hours * self.capacity)
     }
@@ -66,7 +66,7 @@ impl Factors {
     // (1 − TLM) × RQM.
     pub fn share(self) -> u64
         requires { InScale self }
-        ensures { (result ≡ self.kept * self.rqm) × (result ≤ mostShare) }
+        ensures { (result ≡ self.kept * self.rqm) × (result ≤ most_share) }
     {
         self.kept * self.rqm
     }

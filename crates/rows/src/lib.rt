@@ -3,11 +3,11 @@
 pub mod factors;
 
 ghost use Rattle.std.specs.Prelude.{◌≡◌, ◌≤◌, ◌<◌};
-ghost use Rattle.rules.specs.Names.{longYear, largestCapacity};
-ghost use Rattle.rules.specs.File.{techAt, appAt, bidAt};
-ghost use Rattle.rules.specs.Round.{atAdminPrice, mine, appMine};
-ghost use Rattle.layout.specs.Layout.{applicationShown, bidShown};
-ghost use Rattle.rows.specs.Rows.{roundIn, Held, rowNumbers, figuresIn};
+ghost use Rattle.rules.specs.Names.{long_year, largest_capacity};
+ghost use Rattle.rules.specs.File.{tech_at, app_at, bid_at};
+ghost use Rattle.rules.specs.Round.{at_admin_price, mine, app_mine};
+ghost use Rattle.layout.specs.Layout.{application_shown, bid_shown};
+ghost use Rattle.rows.specs.Rows.{round_in, Held, row_numbers, figures_in};
 
 use factors::Factors;
 use layout::application::Application;
@@ -20,7 +20,7 @@ use rules::Sections;
 // Application a.
 pub fn application_of(file: &[u8], sections: Sections, a: usize) -> Application
     requires { Held file.now sections × (a < sections.applications) }
-    ensures { applicationShown result ≡ appAt (roundIn file.now sections).apps a }
+    ensures { application_shown result ≡ app_at (round_in file.now sections).apps a }
 {
     application::read(parts::applications(file, sections), a)
 }
@@ -28,7 +28,7 @@ pub fn application_of(file: &[u8], sections: Sections, a: usize) -> Application
 // The pot of technology t.
 fn pot_of(file: &[u8], sections: Sections, t: usize) -> usize
     requires { Held file.now sections × (t < sections.technologies) }
-    ensures { result ≡ (techAt sections.years (roundIn file.now sections).techs t).pot }
+    ensures { result ≡ (tech_at sections.years (round_in file.now sections).techs t).pot }
 {
     technology::pot(parts::technologies(file, sections), sections.years, t)
 }
@@ -36,7 +36,7 @@ fn pot_of(file: &[u8], sections: Sections, t: usize) -> usize
 // The administrative price of technology t in year y.
 fn admin_of(file: &[u8], sections: Sections, t: usize, y: usize) -> u64
     requires { Held file.now sections × (t < sections.technologies) × (y < sections.years) }
-    ensures { result ≡ (techAt sections.years (roundIn file.now sections).techs t).admin y }
+    ensures { result ≡ (tech_at sections.years (round_in file.now sections).techs t).admin y }
 {
     technology::admin(parts::technologies(file, sections), sections.years, t, y)
 }
@@ -44,7 +44,7 @@ fn admin_of(file: &[u8], sections: Sections, t: usize, y: usize) -> u64
 // Application a at its administrative price: its own capacity, year and days.
 pub fn at_admin_price(file: &[u8], sections: Sections, a: usize) -> Bid
     requires { Held file.now sections × (a < sections.applications) }
-    ensures { bidShown result ≡ atAdminPrice (roundIn file.now sections) a }
+    ensures { bid_shown result ≡ at_admin_price (round_in file.now sections) a }
 {
     let own = application_of(file, sections, a);
     Bid {
@@ -59,7 +59,7 @@ pub fn at_admin_price(file: &[u8], sections: Sections, a: usize) -> Bid
 // Does application a stand in pot p?
 pub fn app_mine(file: &[u8], sections: Sections, p: usize, a: usize) -> bool
     requires { Held file.now sections }
-    ensures { result ≡ appMine (roundIn file.now sections) p a }
+    ensures { result ≡ app_mine (round_in file.now sections) p a }
 {
     if sections.applications <= a {
         return false;
@@ -73,7 +73,7 @@ pub fn app_mine(file: &[u8], sections: Sections, p: usize, a: usize) -> bool
 // Bid k.
 pub fn bid_of(file: &[u8], sections: Sections, k: usize) -> Bid
     requires { Held file.now sections × (k < sections.bids) }
-    ensures { bidShown result ≡ bidAt (roundIn file.now sections).bids k }
+    ensures { bid_shown result ≡ bid_at (round_in file.now sections).bids k }
 {
     bid::read(parts::bids(file, sections), k)
 }
@@ -81,7 +81,7 @@ pub fn bid_of(file: &[u8], sections: Sections, k: usize) -> Bid
 // Does bid k stand in pot p?
 fn mine(file: &[u8], sections: Sections, p: usize, k: usize) -> bool
     requires { Held file.now sections }
-    ensures { result ≡ mine (roundIn file.now sections) p k }
+    ensures { result ≡ mine (round_in file.now sections) p k }
 {
     if sections.bids <= k {
         return false;
@@ -95,7 +95,7 @@ fn mine(file: &[u8], sections: Sections, p: usize, k: usize) -> bool
 // The row of bid k, zeros if it stands in another pot: standing, application, start year, price, draw of the application, administrative price.
 pub fn row(file: &[u8], sections: Sections, p: usize, k: usize) -> [u64; sheet::ROW]
     requires { Held file.now sections }
-    ensures { result ≡ rowNumbers (roundIn file.now sections) p k }
+    ensures { result ≡ row_numbers (round_in file.now sections) p k }
 {
     if mine(file, sections, p, k) {
         let bid = bid_of(file, sections, k);
@@ -116,8 +116,8 @@ pub fn row(file: &[u8], sections: Sections, p: usize, k: usize) -> [u64; sheet::
 // The figures in year y of a bid of technology t: reference price, load factor × hours × capacity, (1 − TLM) × RQM.
 pub fn figure(file: &[u8], sections: Sections, t: usize, bid: Bid, y: usize) -> [u64; sheet::FIGURE]
     requires held { Held file.now sections × (t < sections.technologies) × (y < sections.years) }
-    requires days_le_long_year { (bid.days ≤ longYear) × (bid.capacity ≤ largestCapacity) }
-    ensures { result ≡ figuresIn (roundIn file.now sections) t (bidShown bid) y }
+    requires days_le_long_year { (bid.days ≤ long_year) × (bid.capacity ≤ largest_capacity) }
+    ensures { result ≡ figures_in (round_in file.now sections) t (bid_shown bid) y }
 {
     let of = Factors::of(file, sections, t, bid, y);
     [of.reference, of.energy(), of.share()]

@@ -1,6 +1,6 @@
 -- "Units and the round file": the sections of a file, and the fields of their records. Assumes nothing.
 use Rattle.std.specs.Prelude.{ℕ, zero, suc, ◌+◌, ◌-◌, ◌*◌, List, ltb}
-use Rattle.rules.specs.Names.{countWidth, yearWidth, capWidth, capsAdded, drawnWidth, drawnAdded, potWidth, techWidth, appWidth, bidWidth}
+use Rattle.rules.specs.Names.{count_width, year_width, cap_width, caps_added, drawn_width, drawn_added, pot_width, tech_width, app_width, bid_width}
 use Rattle.rules.specs.Lists.{pick}
 use Rattle.rules.specs.Bytes.{le, part}
 use Rattle.rules.specs.declared.Sections.{Sections}
@@ -11,36 +11,36 @@ pub record Year : Type 0 where
   pub kind : ℕ
   pub tlm : ℕ
 
-abbrev pub yearAt : List ℕ → ℕ → Year
-yearAt s i = record { days = le 2 s (i * yearWidth); kind = le 2 s (i * yearWidth + 2); tlm = le 2 s (i * yearWidth + 4) }
+abbrev pub year_at : List ℕ → ℕ → Year
+year_at s i = record { days = le 2 s (i * year_width); kind = le 2 s (i * year_width + 2); tlm = le 2 s (i * year_width + 4) }
 
 -- how many of the first n years are delivery years: a delivery year's kind is 1 and any other's 0, so the sum of the kinds
 unfoldable pub deliveries : List ℕ → ℕ → ℕ
 deliveries s zero = 0
-deliveries s (suc n) = deliveries s n + (yearAt s n).kind
+deliveries s (suc n) = deliveries s n + (year_at s n).kind
 
 -- "the pots count of such a file has 32,768 added" (02, CR 5), "has 16,384 added as well" (02, CR 6): one of three by what a count of pots has added. "16,384
 -- added without 32,768 is refusal 2": then the count is taken as it stands, and is too high
-abbrev pub byAdded : {A : Type 0} → (count : ℕ) → (nothing caps both : A) → A
-byAdded n nothing caps both = pick (ltb n capsAdded) nothing (pick (ltb n (capsAdded + drawnAdded)) caps both)
+abbrev pub by_added : {A : Type 0} → (count : ℕ) → (nothing caps both : A) → A
+by_added n nothing caps both = pick (ltb n caps_added) nothing (pick (ltb n (caps_added + drawn_added)) caps both)
 
 -- how many pots a count tells, and how many bytes each pot's record has then gained
-unfoldable pub potsTold : (count : ℕ) → ℕ
-potsTold n = byAdded n n (n - capsAdded) (n - (capsAdded + drawnAdded))
+unfoldable pub pots_told : (count : ℕ) → ℕ
+pots_told n = by_added n n (n - caps_added) (n - (caps_added + drawn_added))
 
-unfoldable pub gainedTold : (count : ℕ) → ℕ
-gainedTold n = byAdded n 0 capWidth (capWidth + drawnWidth)
+unfoldable pub gained_told : (count : ℕ) → ℕ
+gained_told n = by_added n 0 cap_width (cap_width + drawn_width)
 
 -- "pots: budget 8 for each year", of y years; "a 4-byte cap after its budgets" (02, CR 5), "a 4-byte drawn number after the cap" (02, CR 6), where a record has
 -- gained c bytes
-abbrev pub budgetAt : (y c : ℕ) → List ℕ → (i k : ℕ) → ℕ
-budgetAt y c s i k = le 8 s (i * potWidth y c + 8 * k)
+abbrev pub budget_at : (y c : ℕ) → List ℕ → (i k : ℕ) → ℕ
+budget_at y c s i k = le 8 s (i * pot_width y c + 8 * k)
 
 abbrev pub cap_at : (y c : ℕ) → List ℕ → (i : ℕ) → ℕ
-cap_at y c s i = le 4 s (i * potWidth y c + 8 * y)
+cap_at y c s i = le 4 s (i * pot_width y c + 8 * y)
 
-abbrev pub drawnAt : (y c : ℕ) → List ℕ → (i : ℕ) → ℕ
-drawnAt y c s i = le 4 s (i * potWidth y c + (8 * y + capWidth))
+abbrev pub drawn_at : (y c : ℕ) → List ℕ → (i : ℕ) → ℕ
+drawn_at y c s i = le 4 s (i * pot_width y c + (8 * y + cap_width))
 
 -- "technologies: pot 2, RQM 2, then for each year: administrative price 4, reference price 4, load factor 2"
 pub record Tech : Type 0 where
@@ -50,13 +50,13 @@ pub record Tech : Type 0 where
   pub reference : ℕ → ℕ
   pub load : ℕ → ℕ
 
-abbrev pub techAt : (y : ℕ) → List ℕ → ℕ → Tech
-techAt y s i = record {
-  pot = le 2 s (i * techWidth y);
-  rqm = le 2 s (i * techWidth y + 2);
-  admin = λ k. le 4 s (i * techWidth y + (4 + 10 * k));
-  reference = λ k. le 4 s (i * techWidth y + (8 + 10 * k));
-  load = λ k. le 2 s (i * techWidth y + (12 + 10 * k));
+abbrev pub tech_at : (y : ℕ) → List ℕ → ℕ → Tech
+tech_at y s i = record {
+  pot = le 2 s (i * tech_width y);
+  rqm = le 2 s (i * tech_width y + 2);
+  admin = λ k. le 4 s (i * tech_width y + (4 + 10 * k));
+  reference = λ k. le 4 s (i * tech_width y + (8 + 10 * k));
+  load = λ k. le 2 s (i * tech_width y + (12 + 10 * k));
 }
 
 -- "applications: technology 2, year 2, first-year days 2, draw 2, capacity 4, declared cost 8". Nothing reads the declared cost
@@ -67,13 +67,13 @@ pub record App : Type 0 where
   pub draw : ℕ
   pub capacity : ℕ
 
-abbrev pub appAt : List ℕ → ℕ → App
-appAt s i = record {
-  tech = le 2 s (i * appWidth);
-  year = le 2 s (i * appWidth + 2);
-  days = le 2 s (i * appWidth + 4);
-  draw = le 2 s (i * appWidth + 6);
-  capacity = le 4 s (i * appWidth + 8);
+abbrev pub app_at : List ℕ → ℕ → App
+app_at s i = record {
+  tech = le 2 s (i * app_width);
+  year = le 2 s (i * app_width + 2);
+  days = le 2 s (i * app_width + 4);
+  draw = le 2 s (i * app_width + 6);
+  capacity = le 4 s (i * app_width + 8);
 }
 
 -- "bids: application 2, year 2, first-year days 2, capacity 4, price 4"
@@ -84,13 +84,13 @@ pub record Bid : Type 0 where
   pub capacity : ℕ
   pub price : ℕ
 
-abbrev pub bidAt : List ℕ → ℕ → Bid
-bidAt s i = record {
-  app = le 2 s (i * bidWidth);
-  year = le 2 s (i * bidWidth + 2);
-  days = le 2 s (i * bidWidth + 4);
-  capacity = le 4 s (i * bidWidth + 6);
-  price = le 4 s (i * bidWidth + 10);
+abbrev pub bid_at : List ℕ → ℕ → Bid
+bid_at s i = record {
+  app = le 2 s (i * bid_width);
+  year = le 2 s (i * bid_width + 2);
+  days = le 2 s (i * bid_width + 4);
+  capacity = le 4 s (i * bid_width + 6);
+  price = le 4 s (i * bid_width + 10);
 }
 
 -- The parts of a file that its sections' records occupy, and how many records each has: y years, d of them delivery years, p pots that have gained c
@@ -110,31 +110,31 @@ pub record Round : Type 0 where
   pub b : ℕ
 
 -- the offsets of the counts of the last four sections, and of the end, where the counts before them are these
-abbrev pub potsAt : (y : ℕ) → ℕ
-potsAt y = countWidth + y * yearWidth
+abbrev pub pots_at : (y : ℕ) → ℕ
+pots_at y = count_width + y * year_width
 
-abbrev pub techsAt : (y c p : ℕ) → ℕ
-techsAt y c p = potsAt y + countWidth + p * potWidth y c
+abbrev pub techs_at : (y c p : ℕ) → ℕ
+techs_at y c p = pots_at y + count_width + p * pot_width y c
 
-abbrev pub appsAt : (y c p t : ℕ) → ℕ
-appsAt y c p t = techsAt y c p + countWidth + t * techWidth y
+abbrev pub apps_at : (y c p t : ℕ) → ℕ
+apps_at y c p t = techs_at y c p + count_width + t * tech_width y
 
-abbrev pub bidsAt : (y c p t n : ℕ) → ℕ
-bidsAt y c p t n = appsAt y c p t + countWidth + n * appWidth
+abbrev pub bids_at : (y c p t n : ℕ) → ℕ
+bids_at y c p t n = apps_at y c p t + count_width + n * app_width
 
 abbrev pub end_at : (y c p t n b : ℕ) → ℕ
-end_at y c p t n b = bidsAt y c p t n + countWidth + b * bidWidth
+end_at y c p t n b = bids_at y c p t n + count_width + b * bid_width
 
 -- "Five sections stand in this order, each after its 2-byte count." The sections of a file whose counts are these
 unfoldable pub sections : List ℕ → (y c p t n b : ℕ) → Round
 sections s y c p t n b = record {
-  years = part s countWidth (potsAt y);
-  pots = part s (potsAt y + countWidth) (techsAt y c p);
-  techs = part s (techsAt y c p + countWidth) (appsAt y c p t);
-  apps = part s (appsAt y c p t + countWidth) (bidsAt y c p t n);
-  bids = part s (bidsAt y c p t n + countWidth) (end_at y c p t n b);
+  years = part s count_width (pots_at y);
+  pots = part s (pots_at y + count_width) (techs_at y c p);
+  techs = part s (techs_at y c p + count_width) (apps_at y c p t);
+  apps = part s (apps_at y c p t + count_width) (bids_at y c p t n);
+  bids = part s (bids_at y c p t n + count_width) (end_at y c p t n b);
   y = y;
-  d = deliveries (part s countWidth (potsAt y)) y;
+  d = deliveries (part s count_width (pots_at y)) y;
   c = c;
   p = p;
   t = t;
@@ -143,19 +143,19 @@ sections s y c p t n b = record {
 }
 
 -- the sections of a file, each count read where the section before ends
-unfoldable pub roundOf : List ℕ → Round
-roundOf s =
-    let y = le countWidth s 0 in
-    let c = gainedTold (le countWidth s (potsAt y)) in
-    let p = potsTold (le countWidth s (potsAt y)) in
-    let t = le countWidth s (techsAt y c p) in
-    let n = le countWidth s (appsAt y c p t) in
-    let b = le countWidth s (bidsAt y c p t n) in
+unfoldable pub round_of : List ℕ → Round
+round_of s =
+    let y = le count_width s 0 in
+    let c = gained_told (le count_width s (pots_at y)) in
+    let p = pots_told (le count_width s (pots_at y)) in
+    let t = le count_width s (techs_at y c p) in
+    let n = le count_width s (apps_at y c p t) in
+    let b = le count_width s (bids_at y c p t n) in
     sections s y c p t n b
 
 -- "hands on each section as the part of the file that it occupies": the counts and the places of the sections
-unfoldable pub sectionsOf : Round → Sections
-sectionsOf R = record {
+unfoldable pub sections_of : Round → Sections
+sections_of R = record {
   years = R.y;
   deliveries = R.d;
   gained = R.c;
@@ -163,8 +163,8 @@ sectionsOf R = record {
   technologies = R.t;
   applications = R.n;
   bids = R.b;
-  pots_at = potsAt R.y;
-  technologies_at = techsAt R.y R.c R.p;
-  applications_at = appsAt R.y R.c R.p R.t;
-  bids_at = bidsAt R.y R.c R.p R.t R.n;
+  pots_at = pots_at R.y;
+  technologies_at = techs_at R.y R.c R.p;
+  applications_at = apps_at R.y R.c R.p R.t;
+  bids_at = bids_at R.y R.c R.p R.t R.n;
 }

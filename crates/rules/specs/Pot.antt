@@ -3,16 +3,16 @@
 -- what had won "by the end of the step that turned it down" is `winners` of the trace from that step on.
 use Rattle.std.specs.Prelude.{ℕ, zero, suc, ◌+◌, ◌-◌, ◌/◌, ◌%◌, ◌^◌, min, Bool, true, false, not, ◌&&◌, ◌||◌, List, [], ◌∷◌, ◌++◌, map, eqb, leb, ltb, length}
 use Rattle.std.proofs.Math.Option.{Option, none, some}
-use Rattle.rules.specs.Names.{administrative, auctioned, tooWide, widestTie, noPrice, noReason, becauseWon, downAlone, downTied, unlookedWon}
-use Rattle.rules.specs.Names.{unlookedElse, becauseAdministrative, becauseTooWide, becauseSilent}
-use Rattle.rules.specs.Value.{ceilDiv}
+use Rattle.rules.specs.Names.{administrative, auctioned, too_wide, widest_tie, no_price, no_reason, because_won, down_alone, down_tied, unlooked_won}
+use Rattle.rules.specs.Names.{unlooked_else, because_administrative, because_too_wide, because_silent}
+use Rattle.rules.specs.Value.{ceil_div}
 use Rattle.rules.specs.Lists.{pick, memb, sift, below, sum}
 
 -- "Pots are cleared apart": what the clearing of one pot reads. `bids` are the numbers of its sealed bids, `apps` those of its applications; years are numbered
 -- below `years`; `cost b p y` is the exact cost in parts of bid b in year y where the clearing price of its start year is p, with `scale` parts to the penny;
 -- `budget y` is in pence; `admin` is the administrative price of a bid's technology in its start year, and `capacity` the bid's capacity; `cap` is the most
--- capacity of all winners, where there is a cap, and `drawn` the number drawn for its ties, where there is one. Of application a `adminPrice` is its
--- administrative price, `adminCost a y` the exact cost in parts of its own capacity, year and days at that price, and `appCapacity` its own capacity.
+-- capacity of all winners, where there is a cap, and `drawn` the number drawn for its ties, where there is one. Of application a `admin_price` is its
+-- administrative price, `admin_cost a y` the exact cost in parts of its own capacity, year and days at that price, and `app_capacity` its own capacity.
 pub record Pot : Type 0 where
   pub bids : List ℕ
   pub apps : List ℕ
@@ -28,9 +28,9 @@ pub record Pot : Type 0 where
   pub capacity : ℕ → ℕ
   pub cap : Option ℕ
   pub drawn : Option ℕ
-  pub adminPrice : ℕ → ℕ
-  pub adminCost : ℕ → ℕ → ℕ
-  pub appCapacity : ℕ → ℕ
+  pub admin_price : ℕ → ℕ
+  pub admin_cost : ℕ → ℕ → ℕ
+  pub app_capacity : ℕ → ℕ
 
 -- What a step did: the bids that it let win, those that it turned down and the reason that they are given, the years that it closed, and the year that it
 -- left open though it turned a bid down there, since the next look is at the same application's next bid (2); whether more bids remained than are searched (3);
@@ -72,23 +72,23 @@ hanging [] = []
 hanging (e ∷ s) = e.hangs
 
 -- did the last step meet a tie too wide?
-unfoldable pub wideEnd : Trace → Bool
-wideEnd [] = false
-wideEnd (e ∷ s) = e.wide
+unfoldable pub wide_end : Trace → Bool
+wide_end [] = false
+wide_end (e ∷ s) = e.wide
 
 -- "The state of a pot holds the marks of every bid": a bid's reason, 0 where it has not been looked at
 unfoldable pub mark : Trace → ℕ → ℕ
-mark [] b = noReason
-mark (e ∷ s) b = pick (memb b e.wins) becauseWon (pick (memb b e.downs) e.why (mark s b))
+mark [] b = no_reason
+mark (e ∷ s) b = pick (memb b e.wins) because_won (pick (memb b e.downs) e.why (mark s b))
 
 -- "go on with the drawn number divided by m, the rest dropped" (02, CR 6); and after all the steps of a trace
 unfoldable pub divided : Option ℕ → (m : ℕ) → Option ℕ
 divided none m = none
 divided (some d) m = some (d / m)
 
-unfoldable pub goesOn : Option ℕ → Trace → Option ℕ
-goesOn d [] = d
-goesOn d (e ∷ s) = divided (goesOn d s) e.ways
+unfoldable pub goes_on : Option ℕ → Trace → Option ℕ
+goes_on d [] = d
+goes_on d (e ∷ s) = divided (goes_on d s) e.ways
 
 -- "equal fits": a number is not above a limit, where there is one
 unfoldable pub at_most : Option ℕ → ℕ → Bool
@@ -118,16 +118,16 @@ at_place k (x ∷ l) = pick (eqb (length l) k) x (at_place k l)
 module _ (P : Pot) where
   -- "Round each value up to a penny" (02, CR 11): "the exact cost rounded up once", to whole pence
   unfoldable pub value : ℕ → ℕ → ℕ → ℕ
-  value b p y = ceilDiv (P.cost b p y) P.scale
+  value b p y = ceil_div (P.cost b p y) P.scale
 
   -- "sets the clearing price of their years to their price": the clearing price of year d is the price of its newest winner, where winners are listed the
-  -- newest first; z where it has none: 0 in a trial, which then asks no price of that year, and `noPrice` in the result
-  unfoldable pub priceFrom : (z : ℕ) → List ℕ → ℕ → ℕ
-  priceFrom z [] d = z
-  priceFrom z (w ∷ ws) d = pick (eqb (P.yr w) d) (P.price w) (priceFrom z ws d)
+  -- newest first; z where it has none: 0 in a trial, which then asks no price of that year, and `no_price` in the result
+  unfoldable pub price_from : (z : ℕ) → List ℕ → ℕ → ℕ
+  price_from z [] d = z
+  price_from z (w ∷ ws) d = pick (eqb (P.yr w) d) (P.price w) (price_from z ws d)
 
   abbrev pub clearing : List ℕ → ℕ → ℕ
-  clearing ws d = priceFrom 0 ws d
+  clearing ws d = price_from 0 ws d
 
   -- "revalues every winner": the sum over those of some bids that pass a test of what f gives in year y, each at the price of its start year
   unfoldable pub tally : (ℕ → ℕ → ℕ → ℕ) → (ℕ → Bool) → (ℕ → ℕ) → ℕ → List ℕ → ℕ
@@ -149,8 +149,8 @@ module _ (P : Pot) where
   counted ws = length (sift (λ b. memb b ws) P.bids)
 
   -- "the summed capacity of its winners" (02, CR 5): that of the bids, in every year the same
-  abbrev pub summedCapacity : List ℕ → ℕ
-  summedCapacity ws = summed (λ b p y. P.capacity b) ws 0
+  abbrev pub summed_capacity : List ℕ → ℕ
+  summed_capacity ws = summed (λ b p y. P.capacity b) ws 0
 
   -- "fits if no year's total exceeds its budget; equal fits": of the first n years
   unfoldable pub within : (ℕ → ℕ) → ℕ → Bool
@@ -162,7 +162,7 @@ module _ (P : Pot) where
   fitting tot capacity = within tot P.years && at_most P.cap capacity
 
   abbrev pub fits : List ℕ → Bool
-  fits ws = fitting (total ws) (summedCapacity ws)
+  fits ws = fitting (total ws) (summed_capacity ws)
 
   -- "Live bids are those not yet looked at, of an application that has not won, in an open year"
   unfoldable pub live : Trace → ℕ → Bool
@@ -186,11 +186,11 @@ module _ (P : Pot) where
 
   -- "all win"; and where the look was a further one of 2, "it wins and the year closes"
   abbrev pub won : Trace → List ℕ → Event
-  won s l = record { wins = l; downs = []; why = downAlone; closes = hanging s; hangs = []; wide = false; ways = 1 }
+  won s l = record { wins = l; downs = []; why = down_alone; closes = hanging s; hangs = []; wide = false; ways = 1 }
 
   -- b is turned down alone
   abbrev pub down : ℕ → List ℕ → List ℕ → Event
-  down b close hang = record { wins = []; downs = b ∷ []; why = downAlone; closes = close; hangs = hang; wide = false; ways = 1 }
+  down b close hang = record { wins = []; downs = b ∷ []; why = down_alone; closes = close; hangs = hang; wide = false; ways = 1 }
 
   -- "the sole next lowest live bid of the whole pot is of the same application and year"
   unfoldable pub follows : ℕ → List ℕ → Bool
@@ -212,16 +212,16 @@ module _ (P : Pot) where
 
   -- of the bids r that remain beside the winners ws: does combination m fit, and what is its "total in the last year of the file"? "Closest to the budget still
   -- means money" (02, CR 5): the total, not the capacity
-  abbrev pub fitsAt : (ws r : List ℕ) → (m : ℕ) → Bool
-  fitsAt ws r m = fits (combination r m ++ ws)
+  abbrev pub fits_at : (ws r : List ℕ) → (m : ℕ) → Bool
+  fits_at ws r m = fits (combination r m ++ ws)
 
   abbrev pub last_at : (ws r : List ℕ) → (m : ℕ) → ℕ
   last_at ws r m = total (combination r m ++ ws) (P.years - 1)
 
   -- "choose the fitting combination whose total in the last year of the file is greatest; if none remain, none is chosen. Among equals, the one holding the
   -- lowest-draw bid on which they differ": the one with the largest number
-  unfoldable pub topNumber : (ws r : List ℕ) → ℕ
-  topNumber ws r = best (fitsAt ws r) (last_at ws r) (2 ^ length r)
+  unfoldable pub top_number : (ws r : List ℕ) → ℕ
+  top_number ws r = best (fits_at ws r) (last_at ws r) (2 ^ length r)
 
   -- "no other tied bid can be added and still fit" (02, CR 6), to combination m: of those that remain, for one that does not fit alone can never be added
   unfoldable pub full : (ws r : List ℕ) → (m : ℕ) → Bool
@@ -229,14 +229,14 @@ module _ (P : Pot) where
 
   -- "Among the best combinations keep those to which no other tied bid can be added and still fit" (02, CR 6): combination m, `most` being the greatest total
   unfoldable pub keeps : (ws r : List ℕ) → (most m : ℕ) → Bool
-  keeps ws r most m = fitsAt ws r m && (eqb (last_at ws r m) most && full ws r m)
+  keeps ws r most m = fits_at ws r m && (eqb (last_at ws r m) most && full ws r m)
 
   unfoldable pub kept : (ws r : List ℕ) → List ℕ
-  kept ws r = sift (keeps ws r (last_at ws r (topNumber ws r))) (below (2 ^ length r))
+  kept ws r = sift (keeps ws r (last_at ws r (top_number ws r))) (below (2 ^ length r))
 
   -- "If there are m, .. take the one at place (drawn number mod m)"; "Without drawn numbers the rule of 01 stands" (02, CR 6)
   unfoldable pub number : Option ℕ → (ws r : List ℕ) → ℕ
-  number none ws r = topNumber ws r
+  number none ws r = top_number ws r
   number (some d) ws r = let l = kept ws r in at_place (d % length l) l
 
   unfoldable pub chosen : Option ℕ → (ws r : List ℕ) → List ℕ
@@ -250,8 +250,8 @@ module _ (P : Pot) where
   ways_of ws l = length (kept ws (remaining ws l))
 
   -- the number that the pot's next tie is drawn by
-  abbrev pub drawnAfter : Trace → Option ℕ
-  drawnAfter s = goesOn P.drawn s
+  abbrev pub drawn_after : Trace → Option ℕ
+  drawn_after s = goes_on P.drawn s
 
   abbrev pub others : List ℕ → List ℕ → List ℕ
   others l ch = sift (λ b. not (memb b ch)) l
@@ -259,17 +259,17 @@ module _ (P : Pot) where
   -- "All others taken are turned down and their years close"
   abbrev pub shared : Trace → List ℕ → Event
   shared s l =
-      let ch = choose (drawnAfter s) (winners s) l in
+      let ch = choose (drawn_after s) (winners s) l in
       let out = others l ch in
-      record { wins = ch; downs = out; why = downTied; closes = map P.yr out; hangs = []; wide = false; ways = ways_of (winners s) l }
+      record { wins = ch; downs = out; why = down_tied; closes = map P.yr out; hangs = []; wide = false; ways = ways_of (winners s) l }
 
   -- "outcome 2 (H): no price, totals 0, no winner in this pot": the step that ends the pot
-  abbrev pub endedWide : Event
-  endedWide = record { wins = []; downs = []; why = downTied; closes = []; hangs = []; wide = true; ways = 1 }
+  abbrev pub ended_wide : Event
+  ended_wide = record { wins = []; downs = []; why = down_tied; closes = []; hangs = []; wide = true; ways = 1 }
 
   -- 3, of several bids; where 01 has "If more than 10 remain, outcome 2", "Outcome 2 is from then on given for 21 or more" (02, CR 7)
   unfoldable pub tied : Trace → List ℕ → Event
-  tied s l = pick (ltb widestTie (length (remaining (winners s) l))) endedWide (shared s l)
+  tied s l = pick (ltb widest_tie (length (remaining (winners s) l))) ended_wide (shared s l)
 
   -- 2: "If one bid alone was taken and does not fit, it is turned down. While the sole next lowest live bid of the whole pot is of the same application and
   -- year, look at it .. Otherwise the year closes." Whether there is a further look is decided when the bid is turned down, so that each look is one step
@@ -302,55 +302,55 @@ module _ (P : Pot) where
   -- ---- the first test, and what is told of the pot
 
   -- "all a pot's applications, at their administrative prices": with or without a sealed bid, for "The first test counts it as before" (02, CR 8)
-  unfoldable pub adminTotal : ℕ → ℕ
-  adminTotal y = sum (λ a. ceilDiv (P.adminCost a y) P.scale) P.apps
+  unfoldable pub admin_total : ℕ → ℕ
+  admin_total y = sum (λ a. ceil_div (P.admin_cost a y) P.scale) P.apps
 
   -- their summed capacity: that of the applications (02, CR 5)
-  unfoldable pub adminCapacity : ℕ
-  adminCapacity = sum P.appCapacity P.apps
+  unfoldable pub admin_capacity : ℕ
+  admin_capacity = sum P.app_capacity P.apps
 
-  unfoldable pub adminFits : Bool
-  adminFits = fitting adminTotal adminCapacity
+  unfoldable pub admin_fits : Bool
+  admin_fits = fitting admin_total admin_capacity
 
   -- one of three by the outcome: "fit its budget in every year, all win at those prices (outcome 0) .. Otherwise outcome 1", and 2 after a tie too wide
   abbrev pub by : {A : Type 0} → A → A → A → A
-  by a b c = pick adminFits a (pick (wideEnd auction) c b)
+  by a b c = pick admin_fits a (pick (wide_end auction) c b)
 
   unfoldable pub outcome : ℕ
-  outcome = by administrative auctioned tooWide
+  outcome = by administrative auctioned too_wide
 
   -- "In outcome 0 every clearing price is none"; in outcome 2 "no price"; and none in a year that no winner starts in
-  unfoldable pub priceIn : ℕ → ℕ
-  priceIn d = by noPrice (priceFrom noPrice (winners auction) d) noPrice
+  unfoldable pub price_in : ℕ → ℕ
+  price_in d = by no_price (price_from no_price (winners auction) d) no_price
 
   -- "In outcome 0 .. the totals are those at administrative prices"; in outcome 2 "totals 0"
-  unfoldable pub totalIn : ℕ → ℕ
-  totalIn y = by (adminTotal y) (total (winners auction) y) 0
+  unfoldable pub total_in : ℕ → ℕ
+  total_in y = by (admin_total y) (total (winners auction) y) 0
 
   -- "A winner is paid its year's clearing price capped at its administrative price"
   unfoldable pub paid : ℕ → ℕ
   paid w = min (clearing (winners auction) (P.yr w)) (P.admin w)
 
   -- "4 not looked at, its application won; 5 not looked at, otherwise"
-  unfoldable pub unlookedReason : Trace → ℕ → ℕ
-  unlookedReason s b = pick (memb (P.app b) (map P.app (winners s))) unlookedWon unlookedElse
+  unfoldable pub unlooked_reason : Trace → ℕ → ℕ
+  unlooked_reason s b = pick (memb (P.app b) (map P.app (winners s))) unlooked_won unlooked_else
 
   -- the mark of a bid that was looked at; and of one that was not
-  unfoldable pub auctionReason : Trace → ℕ → ℕ
-  auctionReason s b = pick (memb b (seen s)) (mark s b) (unlookedReason s b)
+  unfoldable pub auction_reason : Trace → ℕ → ℕ
+  auction_reason s b = pick (memb b (seen s)) (mark s b) (unlooked_reason s b)
 
   -- "6 outcome 0; 7 outcome 2"
   unfoldable pub reason : ℕ → ℕ
-  reason b = by becauseAdministrative (auctionReason auction b) becauseTooWide
+  reason b = by because_administrative (auction_reason auction b) because_too_wide
 
   -- "an application without a sealed bid" (02, CR 8): none of the pot's bids is its own
   unfoldable pub silent : ℕ → Bool
   silent a = not (memb a (map P.app P.bids))
 
   -- "it is lost with automatic reason 8 in outcome 1, and keeps 7 in outcome 2" (02, CR 8); "automatic reason 6 in outcome 0"; "0 where it had sealed bids"
-  unfoldable pub automaticReason : ℕ → ℕ
-  automaticReason a = pick (silent a) (by becauseAdministrative becauseSilent becauseTooWide) noReason
+  unfoldable pub automatic_reason : ℕ → ℕ
+  automatic_reason a = pick (silent a) (by because_administrative because_silent because_too_wide) no_reason
 
   -- the winning bids of application a: one at the most
-  unfoldable pub winnersOf : ℕ → List ℕ
-  winnersOf a = sift (λ w. eqb (P.app w) a && memb w (winners auction)) P.bids
+  unfoldable pub winners_of : ℕ → List ℕ
+  winners_of a = sift (λ w. eqb (P.app w) a && memb w (winners auction)) P.bids

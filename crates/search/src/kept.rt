@@ -1,9 +1,9 @@
 // Those kept, from the smallest number on: how many, counted stretch by stretch, and the one at a place, for which its stretch alone is gone through once more.
 ghost use Rattle.std.specs.Prelude.{◌≡◌, ◌+◌, ◌^◌, ◌≤◌, ◌<◌};
 ghost use Rattle.combinations.specs.Combinations.{combinations};
-ghost use Rattle.ties.specs.Ties.{Searching, Cuttable, okBy, last_by, keptBy, listed_of};
+ghost use Rattle.ties.specs.Ties.{Searching, Cuttable, ok_by, last_by, kept_by, listed_of};
 ghost use Rattle.branches.specs.Branches.{Passed};
-ghost use Rattle.search.specs.Search.{Seeking, stretches, stretchEnd, Tallied, Stands, place_of};
+ghost use Rattle.search.specs.Search.{Seeking, stretches, stretch_end, Tallied, Stands, place_of};
 
 use added::whole::{Narrow, whole};
 use branches::scan::others;
@@ -33,9 +33,9 @@ pub struct Aim {
 // How many from there on can be passed over: a branch, or those of one that have another total; where a bid is idle most have the same, and a small branch is
 // tried instead.
 fn rise(sheet: &Sheet, of: Size, table: &Table, most: u64, idle: bool, from: From) -> u32
-    requires searching { Searching sheet.now of table.now × Cuttable (okBy sheet.now of table.now) (last_by of table.now) }
+    requires searching { Searching sheet.now of table.now × Cuttable (ok_by sheet.now of table.now) (last_by of table.now) }
     requires left_nonzero { (0 < from.left) × (from.mask + from.left ≤ combinations) }
-    ensures { Passed (okBy sheet.now of table.now) (last_by of table.now) most from.mask from.left result }
+    ensures { Passed (ok_by sheet.now of table.now) (last_by of table.now) most from.mask from.left result }
 {
     if from.mask % ONE_LOW == 0 {
         let three = passed(sheet, of, table, most, from, THREE_LOW);
@@ -72,8 +72,8 @@ pub struct Stretch {
 // Those kept before its end: how many, and the one at a place.
 fn walk(sheet: &Sheet, of: Size, table: &Table, tied: Tied, aim: Aim, on: Stretch) -> Listed
     requires seeking { Seeking sheet.now of table.now tied aim × (on.mask ≤ on.end) × (on.end ≤ 2 ^ tied.count) }
-    requires list_value { on.list ≡ listed_of (keptBy sheet.now of table.now tied aim.most) aim.place on.mask }
-    ensures { result ≡ listed_of (keptBy sheet.now of table.now tied aim.most) aim.place on.end }
+    requires list_value { on.list ≡ listed_of (kept_by sheet.now of table.now tied aim.most) aim.place on.mask }
+    ensures { result ≡ listed_of (kept_by sheet.now of table.now tied aim.most) aim.place on.end }
 {
     let end = on.end;
     let mut list = on.list;
@@ -105,7 +105,7 @@ fn walk(sheet: &Sheet, of: Size, table: &Table, tied: Tied, aim: Aim, on: Stretc
 // Where the first k stretches of so many combinations end.
 fn stretch_end(end: u32, k: usize) -> u32
     requires { (end ≤ combinations) × (k ≤ stretches) }
-    ensures { result ≡ stretchEnd end k }
+    ensures { result ≡ stretch_end end k }
 {
     let next = k as u32 * THREE_LOW;
     if next > end {
@@ -117,7 +117,7 @@ fn stretch_end(end: u32, k: usize) -> u32
 // How many are kept before the first stretch, before the second, and so on, and last of all.
 pub fn tally(sheet: &Sheet, of: Size, table: &Table, tied: Tied, aim: Aim) -> [u64; STRETCHES + 1]
     requires { Seeking sheet.now of table.now tied aim }
-    ensures { Tallied (keptBy sheet.now of table.now tied aim.most) (2 ^ tied.count) stretches result }
+    ensures { Tallied (kept_by sheet.now of table.now tied aim.most) (2 ^ tied.count) stretches result }
 {
     let all = power(tied.count as u32);
     let mut out = [0u64; STRETCHES + 1];
@@ -156,8 +156,8 @@ pub fn at_place(
     aim: Aim,
     counts: &[u64; STRETCHES + 1],
 ) -> u32
-    requires { Seeking sheet.now of table.now tied aim × Tallied (keptBy sheet.now of table.now tied aim.most) (2 ^ tied.count) stretches counts.now }
-    ensures { result ≡ place_of (keptBy sheet.now of table.now tied aim.most) (2 ^ tied.count) aim.place }
+    requires { Seeking sheet.now of table.now tied aim × Tallied (kept_by sheet.now of table.now tied aim.most) (2 ^ tied.count) stretches counts.now }
+    ensures { result ≡ place_of (kept_by sheet.now of table.now tied aim.most) (2 ^ tied.count) aim.place }
 {
     let k = stretch_of(counts, aim.place);
     if k >= STRETCHES {

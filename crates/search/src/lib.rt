@@ -2,7 +2,7 @@
 // specs/Search.antt says what each function computes.
 ghost use Rattle.std.specs.Prelude.{true, ◌≡◌};
 ghost use Rattle.combinations.specs.Combinations.{Gathered};
-ghost use Rattle.ties.specs.Ties.{Based, topBy, tableFor, answer_of, choice_of};
+ghost use Rattle.ties.specs.Ties.{Based, top_by, table_for, answer_of, choice_of};
 
 mod kept;
 
@@ -71,7 +71,7 @@ pub fn agree(sheet: &Sheet, of: Size, base: &Base, tied: Tied, price: u64, drawn
 // The number of the best combination.
 fn top(sheet: &Sheet, of: Size, base: &Base, tied: Tied, price: u64) -> u32
     requires { Based sheet.now of base.now × Gathered of tied }
-    ensures { result ≡ topBy sheet.now of (tableFor sheet.now of base.now tied price) tied.count }
+    ensures { result ≡ top_by sheet.now of (table_for sheet.now of base.now tied price) tied.count }
 {
     let own = tables::owns(sheet, of, tied, price);
     let table = tables::table(base, &own, tied);

@@ -5,5 +5,5 @@ use native.Mathlib.Omega.{arith}
 use Rattle.sheet.specs.declared.Size.{Size}
 use Rattle.sheet.specs.Sheet.{columns, Ready}
 
-pub columns-few : {sheet : List ℕ} {of : Size} → Ready sheet of → of.columns ≤ columns
-columns-few ok = omega (arith, ok.years, ok.columns-most)
+pub columns_few : {sheet : List ℕ} {of : Size} → Ready sheet of → of.columns ≤ columns
+columns_few ok = omega (arith, ok.years, ok.columns_most)

@@ -2,9 +2,9 @@
 // figures of bids and applications, as numbers in one lent array, which the first test and the auction read; and its size. specs/Sheet.antt says what stands
 // where.
 ghost use Rattle.std.specs.Prelude.{◌≡◌, ◌<◌};
-ghost use Rattle.rules.specs.Names.{mostBids, mostApps, mostYears};
-ghost use Rattle.sheet.specs.Sheet.{columns, places, limitAt, drawnIn, entrantAt, adminAt, inAuction, inTest, rowApp, rowYear, rowPrice, rowDraw};
-ghost use Rattle.sheet.specs.Sheet.{rowAdmin, capacityAt, figReference, figEnergy, figShare};
+ghost use Rattle.rules.specs.Names.{most_bids, most_apps, most_years};
+ghost use Rattle.sheet.specs.Sheet.{columns, places, limit_at, drawn_in, entrant_at, admin_at, in_auction, in_test, row_app, row_year, row_price, row_draw};
+ghost use Rattle.sheet.specs.Sheet.{row_admin, capacity_at, fig_reference, fig_energy, fig_share};
 
 // How much of a sheet is used: the years, bids and applications of the file; the columns of a row of the pot's totals; and how many of the bids are of the pot,
 // and enter its auction.
@@ -55,81 +55,81 @@ pub const ENTERED: u64 = 1;
 // The limit of a column.
 pub fn limit(sheet: &Sheet, c: usize) -> u64
     requires { c < columns }
-    ensures { result ≡ limitAt sheet.now c }
+    ensures { result ≡ limit_at sheet.now c }
 {
     sheet[c]
 }
 
 // One more than the number drawn for the pot's ties, and 0 where there is none.
 pub fn drawn(sheet: &Sheet) -> u64
-    ensures { result ≡ drawnIn sheet.now }
+    ensures { result ≡ drawn_in sheet.now }
 {
     sheet[DRAWN_AT]
 }
 
 // The bid that enters the auction at place j of their list.
 pub fn entrant(sheet: &Sheet, j: usize) -> usize
-    requires { j < mostBids }
-    ensures { result ≡ entrantAt sheet.now j }
+    requires { j < most_bids }
+    ensures { result ≡ entrant_at sheet.now j }
 {
     sheet[ENTRANTS_AT + j] as usize
 }
 
 // The administrative price of application a of the pot; 0 of one of another pot.
 pub fn admin_price(sheet: &Sheet, a: usize) -> u64
-    requires { a < mostApps }
-    ensures { result ≡ adminAt sheet.now a }
+    requires { a < most_apps }
+    ensures { result ≡ admin_at sheet.now a }
 {
     sheet[ADMINS_AT + a]
 }
 
 // Is application a of the pot, and so in its first test?
 pub fn in_test(sheet: &Sheet, a: usize) -> bool
-    requires { a < mostApps }
-    ensures { result ≡ inTest sheet.now a }
+    requires { a < most_apps }
+    ensures { result ≡ in_test sheet.now a }
 {
     sheet[ADMINS_AT + a] != 0
 }
 
 // Is bid k of the pot, and so in its auction?
 pub fn in_auction(sheet: &Sheet, k: usize) -> bool
-    requires { k < mostBids }
-    ensures { result ≡ inAuction sheet.now k }
+    requires { k < most_bids }
+    ensures { result ≡ in_auction sheet.now k }
 {
     sheet[ROWS_AT + k * ROW] == ENTERED
 }
 
 pub fn app(sheet: &Sheet, k: usize) -> usize
-    requires { k < mostBids }
-    ensures { result ≡ rowApp sheet.now k }
+    requires { k < most_bids }
+    ensures { result ≡ row_app sheet.now k }
 {
     sheet[ROWS_AT + k * ROW + 1] as usize
 }
 
 pub fn year(sheet: &Sheet, k: usize) -> usize
-    requires { k < mostBids }
-    ensures { result ≡ rowYear sheet.now k }
+    requires { k < most_bids }
+    ensures { result ≡ row_year sheet.now k }
 {
     sheet[ROWS_AT + k * ROW + 2] as usize
 }
 
 pub fn price(sheet: &Sheet, k: usize) -> u64
-    requires { k < mostBids }
-    ensures { result ≡ rowPrice sheet.now k }
+    requires { k < most_bids }
+    ensures { result ≡ row_price sheet.now k }
 {
     sheet[ROWS_AT + k * ROW + 3]
 }
 
 pub fn draw(sheet: &Sheet, k: usize) -> u64
-    requires { k < mostBids }
-    ensures { result ≡ rowDraw sheet.now k }
+    requires { k < most_bids }
+    ensures { result ≡ row_draw sheet.now k }
 {
     sheet[ROWS_AT + k * ROW + 4]
 }
 
 pub fn admin(sheet: &Sheet, k: usize) -> u64
-    requires { k < mostBids }
-    ensures { result ≡ rowAdmin sheet.now k }
+    requires { k < most_bids }
+    ensures { result ≡ row_admin sheet.now k }
 {
     sheet[ROWS_AT + k * ROW + 5]
 }
@@ -137,29 +137,29 @@ pub fn admin(sheet: &Sheet, k: usize) -> u64
 // The capacity at place k.
 pub fn capacity(sheet: &Sheet, k: usize) -> u64
     requires { k < places }
-    ensures { result ≡ capacityAt sheet.now k }
+    ensures { result ≡ capacity_at sheet.now k }
 {
     sheet[FIGURES_AT + k * FIGURES]
 }
 
 // The figures at place k, in year y.
 pub fn reference(sheet: &Sheet, k: usize, y: usize) -> u64
-    requires { (k < places) × (y < mostYears) }
-    ensures { result ≡ figReference sheet.now k y }
+    requires { (k < places) × (y < most_years) }
+    ensures { result ≡ fig_reference sheet.now k y }
 {
     sheet[FIGURES_AT + k * FIGURES + CAPACITY + y * FIGURE]
 }
 
 pub fn energy(sheet: &Sheet, k: usize, y: usize) -> u64
-    requires { (k < places) × (y < mostYears) }
-    ensures { result ≡ figEnergy sheet.now k y }
+    requires { (k < places) × (y < most_years) }
+    ensures { result ≡ fig_energy sheet.now k y }
 {
     sheet[FIGURES_AT + k * FIGURES + CAPACITY + y * FIGURE + 1]
 }
 
 pub fn share(sheet: &Sheet, k: usize, y: usize) -> u64
-    requires { (k < places) × (y < mostYears) }
-    ensures { result ≡ figShare sheet.now k y }
+    requires { (k < places) × (y < most_years) }
+    ensures { result ≡ fig_share sheet.now k y }
 {
     sheet[FIGURES_AT + k * FIGURES + CAPACITY + y * FIGURE + 2]
 }

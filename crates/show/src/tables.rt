@@ -1,6 +1,6 @@
 // The five tables of an accepted file, each over the part of the file that its section occupies.
 ghost use Rattle.std.specs.Prelude.{◌*◌, ◌≤◌, ◌<◌, length};
-ghost use Rattle.rules.specs.Names.{yearWidth, capWidth, potWidth, techWidth, appWidth, bidWidth};
+ghost use Rattle.rules.specs.Names.{year_width, cap_width, pot_width, tech_width, app_width, bid_width};
 ghost use Rattle.laws_reading.specs.Reading.{GainedTold};
 ghost use Rattle.layout.specs.Layout.{Room};
 ghost use Rattle.rows.specs.Rows.{Held};
@@ -10,7 +10,7 @@ use rules::Sections;
 use text::{factor, field, hundredths, money, thousandths, word};
 
 fn year_line(recs: &[u8], y: usize)
-    requires { Room recs.now yearWidth y }
+    requires { Room recs.now year_width y }
 {
     field(b"  ", y as u64);
     field(b"     ", year::days(recs, y));
@@ -24,7 +24,7 @@ fn year_line(recs: &[u8], y: usize)
 }
 
 fn years(recs: &[u8], n: usize)
-    requires { n * yearWidth ≤ length recs.now }
+    requires { n * year_width ≤ length recs.now }
 {
     word(b"years\n  year  days  kind       TLM\n");
     let mut y: usize = 0;
@@ -36,7 +36,7 @@ fn years(recs: &[u8], n: usize)
 
 // The budget of pot p in year y, after a comma but for the first.
 fn budget(recs: &[u8], years: usize, gained: usize, p: usize, y: usize)
-    requires { Room recs.now (potWidth years gained) p × (y < years) }
+    requires { Room recs.now (pot_width years gained) p × (y < years) }
 {
     if y > 0 {
         word(b",");
@@ -45,7 +45,7 @@ fn budget(recs: &[u8], years: usize, gained: usize, p: usize, y: usize)
 }
 
 fn budgets(recs: &[u8], years: usize, gained: usize, p: usize)
-    requires { Room recs.now (potWidth years gained) p }
+    requires { Room recs.now (pot_width years gained) p }
 {
     let mut y: usize = 0;
     while y < years {
@@ -56,7 +56,7 @@ fn budgets(recs: &[u8], years: usize, gained: usize, p: usize)
 
 // The cap of pot p, in a file with caps.
 fn cap(recs: &[u8], years: usize, gained: usize, p: usize)
-    requires { Room recs.now (potWidth years gained) p × (capWidth ≤ gained) }
+    requires { Room recs.now (pot_width years gained) p × (cap_width ≤ gained) }
 {
     let cap = pot::cap(recs, years, gained, p);
     if cap == names::NO_CAP {
@@ -68,7 +68,7 @@ fn cap(recs: &[u8], years: usize, gained: usize, p: usize)
 
 // What the record of pot p has gained: its cap, and after that its drawn number, in a file with drawn numbers.
 fn gains(recs: &[u8], years: usize, gained: usize, p: usize)
-    requires { Room recs.now (potWidth years gained) p × GainedTold gained }
+    requires { Room recs.now (pot_width years gained) p × GainedTold gained }
 {
     if gained == 0 {
         return;
@@ -81,7 +81,7 @@ fn gains(recs: &[u8], years: usize, gained: usize, p: usize)
 }
 
 fn pot_line(recs: &[u8], years: usize, gained: usize, p: usize)
-    requires { Room recs.now (potWidth years gained) p × GainedTold gained }
+    requires { Room recs.now (pot_width years gained) p × GainedTold gained }
 {
     field(b"  pot ", p as u64);
     word(b": budgets");
@@ -91,7 +91,7 @@ fn pot_line(recs: &[u8], years: usize, gained: usize, p: usize)
 }
 
 fn pots(recs: &[u8], years: usize, gained: usize, n: usize)
-    requires { (n * potWidth years gained ≤ length recs.now) × GainedTold gained }
+    requires { (n * pot_width years gained ≤ length recs.now) × GainedTold gained }
 {
     word(b"pots\n");
     let mut p: usize = 0;
@@ -103,7 +103,7 @@ fn pots(recs: &[u8], years: usize, gained: usize, n: usize)
 
 // Technology t in year y.
 fn technology_year(recs: &[u8], years: usize, t: usize, y: usize)
-    requires { Room recs.now (techWidth years) t × (y < years) }
+    requires { Room recs.now (tech_width years) t × (y < years) }
 {
     field(b"    year ", y as u64);
     thousandths(b": administrative ", technology::admin(recs, years, t, y));
@@ -113,7 +113,7 @@ fn technology_year(recs: &[u8], years: usize, t: usize, y: usize)
 }
 
 fn technology_years(recs: &[u8], years: usize, t: usize)
-    requires { Room recs.now (techWidth years) t }
+    requires { Room recs.now (tech_width years) t }
 {
     let mut y: usize = 0;
     while y < years {
@@ -123,7 +123,7 @@ fn technology_years(recs: &[u8], years: usize, t: usize)
 }
 
 fn technology_lines(recs: &[u8], years: usize, t: usize)
-    requires { Room recs.now (techWidth years) t }
+    requires { Room recs.now (tech_width years) t }
 {
     field(b"  technology ", t as u64);
     field(b": pot ", technology::pot(recs, years, t) as u64);
@@ -133,7 +133,7 @@ fn technology_lines(recs: &[u8], years: usize, t: usize)
 }
 
 fn technologies(recs: &[u8], years: usize, n: usize)
-    requires { n * techWidth years ≤ length recs.now }
+    requires { n * tech_width years ≤ length recs.now }
 {
     word(b"technologies\n");
     let mut t: usize = 0;
@@ -144,7 +144,7 @@ fn technologies(recs: &[u8], years: usize, n: usize)
 }
 
 fn application_line(recs: &[u8], a: usize)
-    requires { Room recs.now appWidth a }
+    requires { Room recs.now app_width a }
 {
     let x = application::read(recs, a);
     field(b"  application ", a as u64);
@@ -162,7 +162,7 @@ fn application_line(recs: &[u8], a: usize)
 }
 
 fn applications(recs: &[u8], n: usize)
-    requires { n * appWidth ≤ length recs.now }
+    requires { n * app_width ≤ length recs.now }
 {
     word(b"applications\n");
     let mut a: usize = 0;
@@ -173,7 +173,7 @@ fn applications(recs: &[u8], n: usize)
 }
 
 fn bid_line(recs: &[u8], k: usize)
-    requires { Room recs.now bidWidth k }
+    requires { Room recs.now bid_width k }
 {
     let x = bid::read(recs, k);
     field(b"  bid ", k as u64);
@@ -186,7 +186,7 @@ fn bid_line(recs: &[u8], k: usize)
 }
 
 fn bids(recs: &[u8], n: usize)
-    requires { n * bidWidth ≤ length recs.now }
+    requires { n * bid_width ≤ length recs.now }
 {
     word(b"bids\n");
     let mut k: usize = 0;

@@ -27,24 +27,24 @@ pub above_more : (i v : ℕ) → above (i + 1) v ≡ above i v / 256
 unfolding above
 above_more i v = rw add-one
 
-bytes-more : (i v : ℕ) → bytes (suc i) v ≡ bytes i v ++ ((above i v % 256) ∷ [])
+bytes_more : (i v : ℕ) → bytes (suc i) v ≡ bytes i v ++ ((above i v % 256) ∷ [])
 unfolding bytes above
-bytes-more zero v = refl
-bytes-more (suc i) v = rw (bytes-more i (v / 256), above_in)
+bytes_more zero v = refl
+bytes_more (suc i) v = rw (bytes_more i (v / 256), above_in)
 
-pub length-bytes : (w v : ℕ) → length (bytes w v) ≡ w
+pub length_bytes : (w v : ℕ) → length (bytes w v) ≡ w
 unfolding bytes
-length-bytes zero v = refl
-length-bytes (suc w) v = ap suc (length-bytes w (v / 256))
+length_bytes zero v = refl
+length_bytes (suc w) v = ap suc (length_bytes w (v / 256))
 
 -- ---- one byte more
 
-length-onto : (e s : List ℕ) → length e ≤ length s → length (onto e s) ≡ length s
+length_onto : (e s : List ℕ) → length e ≤ length s → length (onto e s) ≡ length s
 unfolding onto
-length-onto e s h = simp (length-append, length-drop) (omega arith)
+length_onto e s h = simp (length-append, length-drop) (omega arith)
 
-pub filled-length : {e s t : List ℕ} → Filled e s t → length t ≡ length s
-filled-length {e} {s} p = ap length p.bytes ∙ length-onto e s p.fits
+pub filled_length : {e s t : List ℕ} → Filled e s t → length t ≡ length s
+filled_length {e} {s} p = ap length p.bytes ∙ length_onto e s p.fits
 
 -- nothing yet
 pub filled_none : (s : List ℕ) → Filled [] s s
@@ -52,37 +52,37 @@ unfolding onto
 filled_none s = record { bytes = refl; fits = zero-le }
 
 -- at the place n that the bytes so far reach
-onto-more : (e s : List ℕ) (b n : ℕ) → length e ≡ n → n < length s → set (onto e s) n b ≡ onto (e ++ (b ∷ [])) s
+onto_more : (e s : List ℕ) (b n : ℕ) → length e ≡ n → n < length s → set (onto e s) n b ≡ onto (e ++ (b ∷ [])) s
 unfolding onto
-onto-more e s b n q h =
+onto_more e s b n q h =
     let k : length e < length s = rw q h in
     rw (← q, drop-cons s (length e) 0, set-append_seam, length-append, add-one, append_assoc)
 
 -- one turn of `put`: the next byte of v
-pub put-turn : {s s₀ : List ℕ} {x : ℕ} (v i : ℕ) → Filled (bytes i v) s₀ s → x ≡ above i v → i < length s₀ → Filled (bytes (i + 1) v) s₀ (set s i (x % 256))
-put-turn {s} {s₀} v i p q h =
+pub put_turn : {s s₀ : List ℕ} {x : ℕ} (v i : ℕ) → Filled (bytes i v) s₀ s → x ≡ above i v → i < length s₀ → Filled (bytes (i + 1) v) s₀ (set s i (x % 256))
+put_turn {s} {s₀} v i p q h =
     record {
-      bytes = rw (p.bytes, q, add-one, bytes-more) (onto-more (bytes i v) s₀ (above i v % 256) i (length-bytes i v) h);
-      fits = rw length-bytes (omega arith);
+      bytes = rw (p.bytes, q, add-one, bytes_more) (onto_more (bytes i v) s₀ (above i v % 256) i (length_bytes i v) h);
+      fits = rw length_bytes (omega arith);
     }
 
 -- one turn of a copy: the next byte of p
-pub copy-turn : {s s₀ : List ℕ} (p : List ℕ) (i : ℕ) → i < length p → length p ≤ length s₀
+pub copy_turn : {s s₀ : List ℕ} (p : List ℕ) (i : ℕ) → i < length p → length p ≤ length s₀
     → Filled (take i p) s₀ s → Filled (take (i + 1) p) s₀ (set s i (get_or p i 0))
-copy-turn {s} {s₀} p i h g f =
+copy_turn {s} {s₀} p i h g f =
     let l : length (take i p) ≡ i = length-take-le i p (omega arith) in
     let l' : length (take (suc i) p) ≡ suc i = length-take-le (suc i) p h in
     record {
-      bytes = rw (f.bytes, add-one, take-suc p i 0) (onto-more (take i p) s₀ (get_or p i 0) i l (omega arith));
+      bytes = rw (f.bytes, add-one, take-suc p i 0) (onto_more (take i p) s₀ (get_or p i 0) i l (omega arith));
       fits = rw (add-one, l') (omega arith);
     }
 
 -- ---- one part more
 
 -- f over the start of the k elements from the a-th on, where e reaches to a
-filled-part : {e f s xs ys : List ℕ} (a k : ℕ) → length e ≡ a → Filled e s xs → Filled f (take k (drop a xs)) ys → Filled (e ++ f) s (put_mid a k xs ys)
+filled_part : {e f s xs ys : List ℕ} (a k : ℕ) → length e ≡ a → Filled e s xs → Filled f (take k (drop a xs)) ys → Filled (e ++ f) s (put_mid a k xs ys)
 unfolding onto
-filled-part {e} {f} {s} {xs} {ys} a k la p q =
+filled_part {e} {f} {s} {xs} {ys} a k la p q =
     let x : xs ≡ e ++ drop (length e) s = p.bytes in
     let y : ys ≡ f ++ drop (length f) (take k (drop a xs)) = q.bytes in
     let t : take a xs ≡ e = rw x (take_at e (drop (length e) s) a la) in
@@ -98,14 +98,14 @@ filled-part {e} {f} {s} {xs} {ys} a k la p q =
     }
 
 -- the part from the a-th element to the b-th
-pub filled-span : {e f s xs ys : List ℕ} (a b : ℕ) → length e ≡ a → Filled e s xs
+pub filled_span : {e f s xs ys : List ℕ} (a b : ℕ) → length e ≡ a → Filled e s xs
     → Filled f (take (b - a) (drop a xs)) ys → Filled (e ++ f) s (put_mid a (b - a) xs ys)
-filled-span a b la p q = filled-part a (b - a) la p q
+filled_span a b la p q = filled_part a (b - a) la p q
 
 -- the part from the a-th element to the end
-pub filled-rest : {e f s xs ys : List ℕ} (a : ℕ) → length e ≡ a → Filled e s xs → Filled f (take (length xs - a) (drop a xs)) ys
+pub filled_rest : {e f s xs ys : List ℕ} (a : ℕ) → length e ≡ a → Filled e s xs → Filled f (take (length xs - a) (drop a xs)) ys
     → Filled (e ++ f) s (put_mid a (length xs - a) xs ys)
-filled-rest {xs = xs} a la p q = filled-part a (length xs - a) la p q
+filled_rest {xs = xs} a la p q = filled_part a (length xs - a) la p q
 
 -- ---- one record more
 
@@ -119,14 +119,14 @@ unfolding each
 each_same f g zero h = refl
 each_same f g (suc n) h = rw (each_same f g n (λ i l. h i (omega arith)), h n (omega arith))
 
-pub length-each : (f : ℕ → List ℕ) (w n : ℕ) → ((i : ℕ) → length (f i) ≡ w) → length (each f n) ≡ n * w
+pub length_each : (f : ℕ → List ℕ) (w n : ℕ) → ((i : ℕ) → length (f i) ≡ w) → length (each f n) ≡ n * w
 unfolding each
-length-each f w zero h = sym (zero-mul w)
-length-each f w (suc n) h = rw (length-append, length-each f w n h, h, suc-mul)
+length_each f w zero h = sym (zero-mul w)
+length_each f w (suc n) h = rw (length-append, length_each f w n h, h, suc-mul)
 
-pub length-numbers : (w : ℕ) (xs : List ℕ) (from n : ℕ) → length (numbers w xs from n) ≡ n * w
+pub length_numbers : (w : ℕ) (xs : List ℕ) (from n : ℕ) → length (numbers w xs from n) ≡ n * w
 unfolding numbers
-length-numbers w xs from n = length-each _ w n (λ i. length-bytes w _)
+length_numbers w xs from n = length_each _ w n (λ i. length_bytes w _)
 
 -- the records before the i-th and the i-th have room where n have
 pub room : (i n w : ℕ) {l : ℕ} → i < n → n * w ≤ l → i * w + w ≤ l
@@ -134,10 +134,10 @@ room i n w h g =
     let m : suc i * w ≤ n * w = mul-le-mul_right w h in
     le_trans (rw suc-mul at m) g
 
-pub mul-more : (i w : ℕ) {a : ℕ} → a ≡ i * w → a + w ≡ (i + 1) * w
-mul-more i w e = rw (e, add-one, suc-mul)
+pub mul_more : (i w : ℕ) {a : ℕ} → a ≡ i * w → a + w ≡ (i + 1) * w
+mul_more i w e = rw (e, add-one, suc-mul)
 
 -- the next record, of the same width, in the part from its place to the end
 pub each_turn : {s s₀ ys : List ℕ} (f : ℕ → List ℕ) (w i a : ℕ) → ((j : ℕ) → length (f j) ≡ w) → a ≡ i * w → Filled (each f i) s₀ s
     → Filled (f i) (take (length s - a) (drop a s)) ys → Filled (each f (i + 1)) s₀ (put_mid a (length s - a) s ys)
-each_turn f w i a h e p q = rw each_more (filled-rest a (length-each f w i h ∙ sym e) p q)
+each_turn f w i a h e p q = rw each_more (filled_rest a (length_each f w i h ∙ sym e) p q)

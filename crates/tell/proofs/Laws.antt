@@ -16,51 +16,51 @@ use Rattle.tell.specs.ToldTo.{merged}
 
 -- ---- one place more
 
-pub merged-hit : {A : Type 0} (own : ℕ → Bool) (mine old : List A) (d : A) (a : ℕ) {l : List A} {t : Bool} → l ≡ merged own mine old d a → t ≡ own a
+pub merged_hit : {A : Type 0} (own : ℕ → Bool) (mine old : List A) (d : A) (a : ℕ) {l : List A} {t : Bool} → l ≡ merged own mine old d a → t ≡ own a
     → t ≡ true
     → set l a (get_or mine a d) ≡ merged own mine old d (a + 1)
 unfolding merged
-merged-hit own mine old d a e q h = rw (add-one a, ← q, h, e)
+merged_hit own mine old d a e q h = rw (add-one a, ← q, h, e)
 
-pub merged-miss : {A : Type 0} (own : ℕ → Bool) (mine old : List A) (d : A) (a : ℕ) {l : List A} {t : Bool} → l ≡ merged own mine old d a → t ≡ own a
+pub merged_miss : {A : Type 0} (own : ℕ → Bool) (mine old : List A) (d : A) (a : ℕ) {l : List A} {t : Bool} → l ≡ merged own mine old d a → t ≡ own a
     → t ≡ false
     → l ≡ merged own mine old d (a + 1)
 unfolding merged
-merged-miss own mine old d a e q h = rw (add-one a, ← q, h) e
+merged_miss own mine old d a e q h = rw (add-one a, ← q, h) e
 
 -- ---- what stands at each place
 
-pub merged-length : {A : Type 0} (own : ℕ → Bool) (mine old : List A) (d : A) (n : ℕ) → length (merged own mine old d n) ≡ length old
+pub merged_length : {A : Type 0} (own : ℕ → Bool) (mine old : List A) (d : A) (n : ℕ) → length (merged own mine old d n) ≡ length old
 unfolding merged
-merged-length own mine old d zero = refl
-merged-length own mine old d (suc n) =
-    case (own n) (λ t. rw t (length-set (merged own mine old d n) n (get_or mine n d) ∙ merged-length own mine old d n))
-    (λ f. rw f (merged-length own mine old d n))
+merged_length own mine old d zero = refl
+merged_length own mine old d (suc n) =
+    case (own n) (λ t. rw t (length-set (merged own mine old d n) n (get_or mine n d) ∙ merged_length own mine old d n))
+    (λ f. rw f (merged_length own mine old d n))
 
-pub merged-past : {A : Type 0} (own : ℕ → Bool) (mine old : List A) (d : A) (n a : ℕ) → n ≤ length old → n ≤ a
+pub merged_past : {A : Type 0} (own : ℕ → Bool) (mine old : List A) (d : A) (n a : ℕ) → n ≤ length old → n ≤ a
     → get_or (merged own mine old d n) a d ≡ get_or old a d
 unfolding merged
-merged-past own mine old d zero a h g = refl
-merged-past own mine old d (suc n) a h g =
-    let ih = merged-past own mine old d n a (omega arith) (omega arith) in
+merged_past own mine old d zero a h g = refl
+merged_past own mine old d (suc n) a h g =
+    let ih = merged_past own mine old d n a (omega arith) (omega arith) in
     case (own n)
-    (λ t. rw t (put_is (merged own mine old d n) n a (get_or mine n d) d (omega (arith, merged-length own mine old d n))
+    (λ t. rw t (put_is (merged own mine old d n) n a (get_or mine n d) d (omega (arith, merged_length own mine old d n))
     ∙ rw (ne_eqb a n (λ e. omega arith)) ih))
     (λ f. rw f ih)
 
-pub merged-at : {A : Type 0} (own : ℕ → Bool) (mine old : List A) (d : A) (n a : ℕ) → n ≤ length old → a < n
+pub merged_at : {A : Type 0} (own : ℕ → Bool) (mine old : List A) (d : A) (n a : ℕ) → n ≤ length old → a < n
     → get_or (merged own mine old d n) a d ≡ pick (own a) (get_or mine a d) (get_or old a d)
 unfolding merged
-merged-at own mine old d zero a h g = absurd (omega arith)
-merged-at own mine old d (suc n) a h g =
+merged_at own mine old d zero a h g = absurd (omega arith)
+merged_at own mine old d (suc n) a h g =
     case (eqb a n)
     (λ t. rw (eqb-true a n t) (case (own n)
-    (λ y. rw y (put_is (merged own mine old d n) n n (get_or mine n d) d (omega (arith, merged-length own mine old d n)) ∙ rw (eq-eqb n n refl)))
-    (λ z. rw z (merged-past own mine old d n n (omega arith) (omega arith)))))
+    (λ y. rw y (put_is (merged own mine old d n) n n (get_or mine n d) d (omega (arith, merged_length own mine old d n)) ∙ rw (eq-eqb n n refl)))
+    (λ z. rw z (merged_past own mine old d n n (omega arith) (omega arith)))))
     (λ f. let q = eqb-false a n f in
-    let ih = merged-at own mine old d n a (omega arith) (omega arith) in
+    let ih = merged_at own mine old d n a (omega arith) (omega arith) in
     case (own n)
-    (λ y. rw y (put_is (merged own mine old d n) n a (get_or mine n d) d (omega (arith, merged-length own mine old d n)) ∙ rw f ih))
+    (λ y. rw y (put_is (merged own mine old d n) n a (get_or mine n d) d (omega (arith, merged_length own mine old d n)) ∙ rw f ih))
     (λ z. rw z ih))
 
 -- ---- what is told of one pot more: `pot` is the pot of a place, whose own is told now, and was told before of the pots before p
@@ -75,15 +75,15 @@ told_more q p x d h e =
       | no n ↦ rw (le-ltb q (p + 1) (omega (arith, n))) (rw (le-ltb q p (omega (arith, n))) at e)
     ]))
 
-pub column-more : {A : Type 0} (p n : ℕ) (own : ℕ → Bool) (pot : ℕ → ℕ) (X : ℕ → A) (mine old : List A) (d : A) → n ≤ length old
+pub column_more : {A : Type 0} (p n : ℕ) (own : ℕ → Bool) (pot : ℕ → ℕ) (X : ℕ → A) (mine old : List A) (d : A) → n ≤ length old
     → ((a : ℕ) → a < n → own a ≡ eqb (pot a) p) → ((a : ℕ) → a < n → pot a ≡ p → get_or mine a d ≡ X a)
     → ((a : ℕ) → get_or old a d ≡ pick (ltb a n && ltb (pot a) p) (X a) d)
     → (a : ℕ) → get_or (merged own mine old d n) a d ≡ pick (ltb a n && ltb (pot a) (p + 1)) (X a) d
-column-more p n own pot X mine old d long its new before a =
+column_more p n own pot X mine old d long its new before a =
     elim (dec_lt a n) [
-      | yes l ↦ rw (lt-ltb a n l) (merged-at own mine old d n a long l
+      | yes l ↦ rw (lt-ltb a n l) (merged_at own mine old d n a long l
           ∙ rw (its a l) (told_more (pot a) p (X a) d (new a l) (rw (lt-ltb a n l) at (before a))))
       | no z ↦
           let g : n ≤ a = omega (arith, z) in
-          rw (le-ltb a n g) (merged-past own mine old d n a long g ∙ (rw (le-ltb a n g) at (before a)))
+          rw (le-ltb a n g) (merged_past own mine old d n a long g ∙ (rw (le-ltb a n g) at (before a)))
     ]

@@ -1,12 +1,12 @@
 // What is told of a round: each pot is cleared on its own sheet, and what is told of it goes to the places of its applications and bids.
 ghost use Rattle.std.specs.Prelude.{◌≡◌, ◌+◌, ◌<◌, length};
-ghost use Rattle.rules.specs.Names.{mostPots, noReason};
+ghost use Rattle.rules.specs.Names.{most_pots, no_reason};
 ghost use Rattle.rules.specs.File.{Round};
-ghost use Rattle.sheet.specs.Sheet.{inAuction, inTest, sheetLength, Ready};
-ghost use Rattle.rows.specs.Rows.{roundIn, Held};
+ghost use Rattle.sheet.specs.Sheet.{in_auction, in_test, sheet_length, Ready};
+ghost use Rattle.rows.specs.Rows.{round_in, Held};
 ghost use Rattle.fill.specs.Fill.{Blank};
 ghost use Rattle.result.specs.Tells.{untold, Tells};
-ghost use Rattle.tell.specs.ToldTo.{merged, ToldTo, toldWith};
+ghost use Rattle.tell.specs.ToldTo.{merged, ToldTo, told_with};
 
 use auction::Cleared;
 use names::{APPS, BIDS, MOST_DELIVERIES, MOST_POTS, YEARS};
@@ -17,7 +17,7 @@ use sheet::{Sheet, Size};
 // What is told of the applications, those of the pot anew: an application is the pot's where it is in its first test.
 fn with_apps(told: [Told; APPS], mine: [Told; APPS], sheet: &Sheet, of: Size) -> [Told; APPS]
     requires { Ready sheet.now of }
-    ensures { result ≡ merged (inTest sheet.now) mine told untold of.applications }
+    ensures { result ≡ merged (in_test sheet.now) mine told untold of.applications }
 {
     let mut next = told;
     let n = of.applications;
@@ -34,7 +34,7 @@ fn with_apps(told: [Told; APPS], mine: [Told; APPS], sheet: &Sheet, of: Size) ->
 // The reasons of the bids, those of the pot anew.
 fn with_reasons(told: [u64; BIDS], mine: [u64; BIDS], sheet: &Sheet, of: Size) -> [u64; BIDS]
     requires { Ready sheet.now of }
-    ensures { result ≡ merged (inAuction sheet.now) mine told noReason of.bids }
+    ensures { result ≡ merged (in_auction sheet.now) mine told no_reason of.bids }
 {
     let mut next = told;
     let b = of.bids;
@@ -50,9 +50,9 @@ fn with_reasons(told: [u64; BIDS], mine: [u64; BIDS], sheet: &Sheet, of: Size) -
 
 // What is told of the round, with the clearing of pot p added, whose sheet this is.
 fn with_cleared(t: Tellings, c: Cleared, sheet: &Sheet, of: Size, p: usize) -> Tellings
-    requires known { p < mostPots }
+    requires known { p < most_pots }
     requires ready { Ready sheet.now of }
-    ensures { result ≡ toldWith sheet.now of p c t }
+    ensures { result ≡ told_with sheet.now of p c t }
 {
     let prices = c.prices;
     let totals = c.totals;
@@ -99,7 +99,7 @@ fn nothing() -> Tellings
 
 // A sheet to be filled.
 fn blank_sheet() -> Sheet
-    ensures sized { length result ≡ sheetLength }
+    ensures sized { length result ≡ sheet_length }
     ensures blank { Blank result }
 {
     [0; sheet::LENGTH]
@@ -109,8 +109,8 @@ fn blank_sheet() -> Sheet
 fn with_pot(t: Tellings, file: &[u8], sections: Sections, p: usize) -> Tellings
     requires held { Held file.now sections }
     requires known { p < sections.pots }
-    ensures { ToldTo (roundIn file.now sections) p t
-        → ToldTo (roundIn file.now sections) (p + 1) result }
+    ensures { ToldTo (round_in file.now sections) p t
+        → ToldTo (round_in file.now sections) (p + 1) result }
 {
     let mut sheet = blank_sheet();
     let of = fill::fill(file, sections, p, &mut sheet);
@@ -121,7 +121,7 @@ fn with_pot(t: Tellings, file: &[u8], sections: Sections, p: usize) -> Tellings
 // What is told of the round that an accepted file and its sections show.
 pub fn tell(file: &[u8], sections: Sections) -> Tellings
     requires { Held file.now sections }
-    ensures { Tells (roundIn file.now sections) result }
+    ensures { Tells (round_in file.now sections) result }
 {
     let mut t = nothing();
     let n = sections.pots;

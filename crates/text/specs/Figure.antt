@@ -7,9 +7,9 @@ abbrev pub longest : ℕ
 longest = 37
 
 -- and all: a number, a pound sign, a point and two digits of pence
-abbrev pub mostPlaces : ℕ
-mostPlaces = 42
+abbrev pub most_places : ℕ
+most_places = 42
 
 pub record Whole (f : Figure) : Type 0 where
-  pub long : length f.places ≡ mostPlaces
-  pub starts : f.at ≤ mostPlaces
+  pub long : length f.places ≡ most_places
+  pub starts : f.at ≤ most_places

@@ -1,8 +1,8 @@
 // The best combination, by looking at each: what it comes to is read off the table by the parts of its number.
 ghost use Rattle.std.specs.Prelude.{◌≡◌, ◌^◌, ◌≤◌, ◌<◌};
-ghost use Rattle.rules.specs.Names.{mostYears, widestTie};
+ghost use Rattle.rules.specs.Names.{most_years, widest_tie};
 ghost use Rattle.combinations.specs.Combinations.{combinations, Tabled};
-ghost use Rattle.ties.specs.Ties.{Searching, okBy, last_by, betterOf, bestOf};
+ghost use Rattle.ties.specs.Ties.{Searching, ok_by, last_by, better_of, best_of};
 
 use combinations::places::power;
 use combinations::tables::{Table, joint, union};
@@ -18,7 +18,7 @@ pub struct Best {
 // Does a combination fit?
 pub fn fitting(sheet: &Sheet, of: Size, table: &Table, mask: u32) -> bool
     requires { Searching sheet.now of table.now × (mask < combinations) }
-    ensures { result ≡ okBy sheet.now of table.now mask }
+    ensures { result ≡ ok_by sheet.now of table.now mask }
 {
     let t = union(table, mask);
     let columns = of.columns;
@@ -34,7 +34,7 @@ pub fn fitting(sheet: &Sheet, of: Size, table: &Table, mask: u32) -> bool
 
 // What a combination comes to in the last year.
 pub fn last(of: Size, table: &Table, mask: u32) -> u64
-    requires { Tabled table.now × (0 < of.years) × (of.years ≤ mostYears) × (mask < combinations) }
+    requires { Tabled table.now × (0 < of.years) × (of.years ≤ most_years) × (mask < combinations) }
     ensures { result ≡ last_by of table.now mask }
 {
     let t = union(table, mask);
@@ -43,7 +43,7 @@ pub fn last(of: Size, table: &Table, mask: u32) -> u64
 
 // The better of the best so far and a combination that fits and has a larger number: this one, where its total in the last year is no smaller.
 fn better(b: Best, mask: u32, total: u64) -> Best
-    ensures { result ≡ betterOf b mask total }
+    ensures { result ≡ better_of b mask total }
 {
     if total < b.total {
         return b;
@@ -53,8 +53,8 @@ fn better(b: Best, mask: u32, total: u64) -> Best
 
 // The best combination of so many bids: of equals the largest number.
 pub fn top(sheet: &Sheet, of: Size, table: &Table, count: usize) -> Best
-    requires { Searching sheet.now of table.now × (count ≤ widestTie) }
-    ensures { result ≡ bestOf (okBy sheet.now of table.now) (last_by of table.now) (2 ^ count) }
+    requires { Searching sheet.now of table.now × (count ≤ widest_tie) }
+    ensures { result ≡ best_of (ok_by sheet.now of table.now) (last_by of table.now) (2 ^ count) }
 {
     let end = power(count as u32);
     let mut b = Best {

@@ -1,9 +1,9 @@
 // Ties: several bids at one price that do not fit together. Those that do not fit alone are dropped; of those that remain the best combination is taken, or by
 // a drawn number one of the best: here by a plain listing of all, in `search` with branches cut off. specs/Ties.antt says what each function computes.
 ghost use Rattle.std.specs.Prelude.{◌≡◌};
-ghost use Rattle.rules.specs.Names.{mostBids};
+ghost use Rattle.rules.specs.Names.{most_bids};
 ghost use Rattle.combinations.specs.Combinations.{Numbers, Placed};
-ghost use Rattle.ties.specs.Ties.{combinationOf, chosen_of};
+ghost use Rattle.ties.specs.Ties.{combination_of, chosen_of};
 
 pub mod alone;
 pub mod best;
@@ -23,8 +23,8 @@ pub struct Choice {
 
 // The bids of a combination, as a set.
 fn combination(tied: Tied, mask: u32) -> [bool; BIDS]
-    requires { Numbers tied.bids tied.count mostBids × Placed tied }
-    ensures { result ≡ combinationOf tied.bids tied.ranks mask tied.count }
+    requires { Numbers tied.bids tied.count most_bids × Placed tied }
+    ensures { result ≡ combination_of tied.bids tied.ranks mask tied.count }
 {
     let mut out = [false; BIDS];
     let count = tied.count;
@@ -40,7 +40,7 @@ fn combination(tied: Tied, mask: u32) -> [bool; BIDS]
 
 // What is chosen where a tie takes a combination, and what that leaves of the drawn number: "go on with the drawn number divided by m".
 pub fn chosen(tied: Tied, answer: Answer, drawn: u64) -> Choice
-    requires { Numbers tied.bids tied.count mostBids × Placed tied }
+    requires { Numbers tied.bids tied.count most_bids × Placed tied }
     ensures { result ≡ chosen_of tied answer drawn }
 {
     let wins = combination(tied, answer.mask);

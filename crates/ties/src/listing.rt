@@ -1,9 +1,9 @@
 // The plain listing: the best combination, those kept, and which of them is taken, by looking at each. "Among the best combinations keep those to which no other
 // tied bid can be added and still fit."
 ghost use Rattle.std.specs.Prelude.{◌≡◌, ◌^◌, ◌<◌};
-ghost use Rattle.rules.specs.Names.{widestTie};
+ghost use Rattle.rules.specs.Names.{widest_tie};
 ghost use Rattle.combinations.specs.Combinations.{combinations, Gathered};
-ghost use Rattle.ties.specs.Ties.{Based, Searching, Drawing, okBy, addableOf, fullTo, keptBy, countedOf, listed_of, answer_of};
+ghost use Rattle.ties.specs.Ties.{Based, Searching, Drawing, ok_by, addable_of, full_to, kept_by, counted_of, listed_of, answer_of};
 
 use super::best::{fitting, last, top};
 use combinations::places::{member, power};
@@ -27,8 +27,8 @@ pub struct Answer {
 
 // Can the bid at a binary place be added to a combination and still fit?
 pub fn addable(sheet: &Sheet, of: Size, table: &Table, mask: u32, place: u32) -> bool
-    requires { Searching sheet.now of table.now × (mask < combinations) × (place < widestTie) }
-    ensures { result ≡ addableOf (okBy sheet.now of table.now) mask place }
+    requires { Searching sheet.now of table.now × (mask < combinations) × (place < widest_tie) }
+    ensures { result ≡ addable_of (ok_by sheet.now of table.now) mask place }
 {
     if member(mask, place) {
         return false;
@@ -39,7 +39,7 @@ pub fn addable(sheet: &Sheet, of: Size, table: &Table, mask: u32, place: u32) ->
 // Can no other bid be added? Asked of the bids one after the other, each at its binary place.
 pub fn full(sheet: &Sheet, of: Size, table: &Table, tied: Tied, mask: u32) -> bool
     requires { Drawing sheet.now of table.now tied × (mask < combinations) }
-    ensures { result ≡ fullTo (okBy sheet.now of table.now) tied.ranks mask tied.count }
+    ensures { result ≡ full_to (ok_by sheet.now of table.now) tied.ranks mask tied.count }
 {
     let count = tied.count;
     let mut j: usize = 0;
@@ -55,7 +55,7 @@ pub fn full(sheet: &Sheet, of: Size, table: &Table, tied: Tied, mask: u32) -> bo
 // Is a combination kept, where the greatest total in the last year is `most`?
 fn kept(sheet: &Sheet, of: Size, table: &Table, tied: Tied, most: u64, mask: u32) -> bool
     requires { Drawing sheet.now of table.now tied × (mask < combinations) }
-    ensures { result ≡ keptBy sheet.now of table.now tied most mask }
+    ensures { result ≡ kept_by sheet.now of table.now tied most mask }
 {
     if !fitting(sheet, of, table, mask) {
         return false;
@@ -69,7 +69,7 @@ fn kept(sheet: &Sheet, of: Size, table: &Table, tied: Tied, most: u64, mask: u32
 // One combination more, with a larger number: the one at the place, where as many as that were before it.
 pub fn counted(before: Listed, mask: u32, place: u64) -> Listed
     requires { before.count < combinations }
-    ensures { result ≡ countedOf before mask place }
+    ensures { result ≡ counted_of before mask place }
 {
     let count = before.count + 1;
     if before.count == place {
@@ -82,7 +82,7 @@ pub fn counted(before: Listed, mask: u32, place: u64) -> Listed
 // Those kept, from the smallest number on: how many, and the one at a place.
 fn list_kept(sheet: &Sheet, of: Size, table: &Table, tied: Tied, most: u64, place: u64) -> Listed
     requires { Drawing sheet.now of table.now tied }
-    ensures { result ≡ listed_of (keptBy sheet.now of table.now tied most) place (2 ^ tied.count) }
+    ensures { result ≡ listed_of (kept_by sheet.now of table.now tied most) place (2 ^ tied.count) }
 {
     let end = power(tied.count as u32);
     let mut list = Listed { count: 0, mask: 0 };

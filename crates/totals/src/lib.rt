@@ -3,7 +3,7 @@
 ghost use Rattle.std.specs.Prelude.{◌≡◌, ◌≤◌, ◌<◌};
 ghost use Rattle.rules.specs.Value.{dearest};
 ghost use Rattle.sheet.specs.Sheet.{columns, Ready};
-ghost use Rattle.totals.specs.Totals.{counts, Struck, Asked, Worth, Adding, worthOf, total_of, part_of, filled, addedTo, rowFits, adminTotalOf};
+ghost use Rattle.totals.specs.Totals.{counts, Struck, Asked, Worth, Adding, worth_of, total_of, part_of, filled, added_to, row_fits, admin_total_of};
 
 pub mod marks;
 pub mod sums;
@@ -37,7 +37,7 @@ pub fn worth(sheet: &Sheet, of: Size, k: usize, price: u64, c: usize) -> u64
 // A row of totals, with what bid k counts at a price added in each column.
 fn added(sheet: &Sheet, of: Size, k: usize, price: u64, before: [u64; COLUMNS]) -> [u64; COLUMNS]
     requires { Adding sheet.now of before k }
-    ensures { result ≡ addedTo (λ c. worthOf sheet.now of k price c) before of.columns }
+    ensures { result ≡ added_to (λ c. worth_of sheet.now of k price c) before of.columns }
 {
     let mut row = before;
     let columns = of.columns;
@@ -98,7 +98,7 @@ pub fn part(sheet: &Sheet, of: Size, marks: [u16; BIDS], price: u64, d: usize) -
 // Is no column's total above its limit? Equal fits.
 pub fn within(sheet: &Sheet, of: Size, row: [u64; COLUMNS]) -> bool
     requires { of.columns ≤ columns }
-    ensures { result ≡ rowFits sheet.now row of.columns }
+    ensures { result ≡ row_fits sheet.now row of.columns }
 {
     let mut ok = true;
     let limits = of.columns;
@@ -115,7 +115,7 @@ pub fn within(sheet: &Sheet, of: Size, row: [u64; COLUMNS]) -> bool
 // The total in column c of all the pot's applications, with or without a sealed bid, at their administrative prices.
 fn admin_total(sheet: &Sheet, of: Size, c: usize) -> u64
     requires { Ready sheet.now of × (c < of.columns) }
-    ensures { result ≡ adminTotalOf sheet.now of c of.applications }
+    ensures { result ≡ admin_total_of sheet.now of c of.applications }
 {
     let mut sum: u64 = 0;
     let applications = of.applications;
@@ -132,7 +132,7 @@ fn admin_total(sheet: &Sheet, of: Size, c: usize) -> u64
 // The row of totals of the first test.
 pub fn admin_totals(sheet: &Sheet, of: Size) -> [u64; COLUMNS]
     requires { Ready sheet.now of }
-    ensures { result ≡ filled (λ c. adminTotalOf sheet.now of c of.applications) of.columns }
+    ensures { result ≡ filled (λ c. admin_total_of sheet.now of c of.applications) of.columns }
 {
     let mut row = [0u64; COLUMNS];
     let columns = of.columns;

@@ -1,6 +1,6 @@
 // What the winners of each delivery year count, a row of columns for each, and the row of totals that these come to.
 ghost use Rattle.std.specs.Prelude.{◌≡◌, ◌*◌, ◌≤◌, ◌<◌, get_or};
-ghost use Rattle.rules.specs.Names.{mostDeliveries};
+ghost use Rattle.rules.specs.Names.{most_deliveries};
 ghost use Rattle.arrays.specs.Sets.{placed};
 ghost use Rattle.sheet.specs.Sheet.{columns};
 ghost use Rattle.totals.specs.Totals.{filled, column_sum, Totalling};
@@ -13,7 +13,7 @@ pub type Sums = [u64; MOST_DELIVERIES * COLUMNS];
 
 // A row of totals, laid as that of delivery year d.
 pub fn laid(of: Size, sums: Sums, row: [u64; COLUMNS], d: usize) -> Sums
-    requires { (of.columns ≤ columns) × (d < mostDeliveries) }
+    requires { (of.columns ≤ columns) × (d < most_deliveries) }
     ensures { result ≡ placed (λ c. get_or row c 0) sums (d * columns) of.columns }
 {
     let mut out = sums;

@@ -1,8 +1,8 @@
 -- Laws of a bid's value, over the definitions alone. Assumes nothing.
 use Rattle.std.specs.Prelude.{◌≡◌, ℕ, ◌+◌, ◌-◌, ◌*◌, ◌≤◌, ◌<◌}
 use Rattle.std.proofs.Common.{arith, mul-le-mul, mul-le-mul_right}
-use Rattle.rules.specs.Names.{highestPrice, whole}
-use Rattle.rules.specs.Value.{ceilDiv, penny, exactParts, dearest}
+use Rattle.rules.specs.Names.{highest_price, whole}
+use Rattle.rules.specs.Value.{ceil_div, penny, exact_parts, dearest}
 use Rattle.value.specs.Ranges.{InRange}
 
 module _ (price reference energy share : ℕ) where
@@ -11,7 +11,7 @@ module _ (price reference energy share : ℕ) where
   exact = (price - reference) * energy * share
 
   abbrev value : ℕ
-  value = ceilDiv exact penny
+  value = ceil_div exact penny
 
   -- the value is the exact cost, and less than a penny more
   pub covers : exact ≤ value * penny
@@ -29,19 +29,19 @@ module _ (price reference energy share : ℕ) where
   none_below h = let z : price - reference ≡ 0 = omega arith in rw z (omega arith)
 
   -- within the ranges it is at most the dearest
-  pub at-most : InRange price reference energy share → value ≤ dearest
-  at-most r =
-      let d : price - reference ≤ highestPrice = omega (arith, r.price-ok) in
-      omega (arith, mul-le-mul (mul-le-mul d r.energy-ok) r.share-ok)
+  pub at_most_lem : InRange price reference energy share → value ≤ dearest
+  at_most_lem r =
+      let d : price - reference ≤ highest_price = omega (arith, r.price_ok) in
+      omega (arith, mul-le-mul (mul-le-mul d r.energy_ok) r.share_ok)
 
   -- a higher price costs no less
-  pub mono-price : (higher : ℕ) → price ≤ higher → value ≤ ceilDiv ((higher - reference) * energy * share) penny
-  mono-price higher h =
+  pub mono_price : (higher : ℕ) → price ≤ higher → value ≤ ceil_div ((higher - reference) * energy * share) penny
+  mono_price higher h =
       let d : price - reference ≤ higher - reference = omega arith in
       omega (arith, mul-le-mul_right (energy * share) d)
 
 -- document 01's exact cost, with load factor × energy and (1 − TLM) × RQM each taken as one number
-pub exact-is : (price reference load energy tlm rqm : ℕ)
-    → exactParts price reference load energy tlm rqm ≡ exact price reference (load * energy) ((whole - tlm) * rqm)
-unfolding exactParts
-exact-is price reference load energy tlm rqm = omega arith
+pub exact_is : (price reference load energy tlm rqm : ℕ)
+    → exact_parts price reference load energy tlm rqm ≡ exact price reference (load * energy) ((whole - tlm) * rqm)
+unfolding exact_parts
+exact_is price reference load energy tlm rqm = omega arith

@@ -4,8 +4,8 @@
 pub mod wide;
 
 ghost use Rattle.std.specs.Prelude.{◌≡◌, ◌-◌, ◌*◌, ◌≤◌, min};
-ghost use Rattle.rules.specs.Names.{pencePerPound, highestBudget, highestPrice};
-ghost use Rattle.rules.specs.Value.{ceilDiv, penny, dearest};
+ghost use Rattle.rules.specs.Names.{pence_per_pound, highest_budget, highest_price};
+ghost use Rattle.rules.specs.Value.{ceil_div, penny, dearest};
 ghost use Rattle.value.specs.Ranges.{InRange};
 ghost use Rattle.value.specs.Lines.{LineByLine};
 
@@ -37,15 +37,15 @@ pub struct Valuation {
 
 // "Budgets in the file stay in pounds and are compared a hundredfold": a budget in pence.
 pub fn pence(budget: u64) -> u64
-    requires { budget ≤ highestBudget }
-    ensures { result ≡ pencePerPound * budget }
+    requires { budget ≤ highest_budget }
+    ensures { result ≡ pence_per_pound * budget }
 {
     names::PENCE_PER_POUND * budget
 }
 
 // Price less reference, which may fall below zero; it then counts as zero.
 pub fn margin(price: u64, reference: u64) -> u64
-    requires { (price ≤ highestPrice) × (reference ≤ highestPrice) }
+    requires { (price ≤ highest_price) × (reference ≤ highest_price) }
     ensures { result ≡ price - reference }
 {
     let d = price as i64 - reference as i64;
@@ -87,7 +87,7 @@ impl Valuation {
 // The value of a bid in a year: the last line.
 pub fn value(price: u64, reference: u64, energy: u64, share: u64) -> u64
     requires { InRange price reference energy share }
-    ensures { (result ≡ ceilDiv ((price - reference) * energy * share) penny) × (result ≤ dearest) }
+    ensures { (result ≡ ceil_div ((price - reference) * energy * share) penny) × (result ≤ dearest) }
 {
     let worked = Valuation::of(price, reference, energy, share);
     worked.by_rqm

@@ -1,8 +1,8 @@
 // A number of up to 28 digits, in two columns, and its lines of division.
 ghost use Rattle.std.specs.Prelude.{◌≡◌, ◌*◌, ◌%◌, ◌^◌, ◌≤◌, ◌<◌};
-ghost use Rattle.rules.specs.Value.{ceilDiv, mostShare};
+ghost use Rattle.rules.specs.Value.{ceil_div, most_share};
 ghost use Rattle.value.specs.Scales.{widest};
-ghost use Rattle.value.specs.Wide.{mostLower, number_of, Product, Over};
+ghost use Rattle.value.specs.Wide.{most_lower, number_of, Product, Over};
 
 // The upper column counts units of 10^11, the scales of price, load factor, capacity and 1 − TLM together: after their lines it counts ones.
 const COLUMN: u64 = 100000000000;
@@ -17,15 +17,15 @@ pub struct Wide {
 
 // One line: over a scale, rounded up.
 pub fn over(n: u64, scale: u64) -> u64
-    requires { (0 < scale) × (scale ≤ widest) × (n ≤ mostLower) }
-    ensures { result ≡ ceilDiv n scale }
+    requires { (0 < scale) × (scale ≤ widest) × (n ≤ most_lower) }
+    ensures { result ≡ ceil_div n scale }
 {
     (n + (scale - 1)) / scale
 }
 
 impl Wide {
     pub fn product(parts: u64, share: u64) -> Self
-        requires { share ≤ mostShare }
+        requires { share ≤ most_share }
         ensures { Product parts share result }
     {
         Self {
@@ -37,7 +37,7 @@ impl Wide {
 
     // One line: over a scale, rounded up. The units of the upper column get smaller by the scale, and so the lower alone is divided.
     pub fn over(self, scale: u64) -> Self
-        requires { (0 < scale) × (scale ≤ widest) × (self.column % scale ≡ 0) × (self.lower ≤ mostLower) }
+        requires { (0 < scale) × (scale ≤ widest) × (self.column % scale ≡ 0) × (self.lower ≤ most_lower) }
         ensures { Over self scale result }
     {
         Self {

@@ -6,7 +6,7 @@ use lib.ListN.{length}
 use native.Mathlib.Omega.{arith}
 use borrow.Author.Rules.{rules}
 use Rattle.arrays.specs.Sets.{members}
-use Rattle.arrays.proofs.Laws.{count-hit, count-miss, done-by}
+use Rattle.arrays.proofs.Laws.{count_hit, count_miss, done_by}
 use Rattle.arrays.proofs.count.Statement.{statement}
 use Rattle.arrays.proofs.count.Tie as tie
 
@@ -33,14 +33,14 @@ loop-again : tie.Need-loop-preserved invariant-loop decreases-loop
 loop-again c =
     let inv = c.before.before.loop.invariant.1 in (
       omega arith,
-      ⊎_elim (λ w. w.1 ∙ (ap (λ x. x + 1) inv ∙ count-hit _ _ w.0.taken))
-          (λ w. w.1 ∙ (inv ∙ count-miss _ _ w.0.left))
+      ⊎_elim (λ w. w.1 ∙ (ap (λ x. x + 1) inv ∙ count_hit _ _ w.0.taken))
+          (λ w. w.1 ∙ (inv ∙ count_miss _ _ w.0.left))
           c.if1.branch,
       ⊎_elim (λ w. omega arith) (λ w. omega arith) c.if1.branch,
     )
 
 returns : tie.Need-returns invariant-loop decreases-loop
-returns c = done-by length (members _) c.before.loop.invariant.1 c.before.loop.invariant.0 c.loop-test.false
+returns c = done_by length (members _) c.before.loop.invariant.1 c.before.loop.invariant.0 c.loop-test.false
 
 pub count_spec : {M : Type 1} → statement M
 count_spec =

@@ -4,7 +4,7 @@ use mathlib.Core.Path.{◌≡◌}
 use native.Mathlib.Omega.{arith}
 use borrow.Author.Rules.{rules}
 use Rattle.arrays.specs.Sets.{fill, none, built, without}
-use Rattle.arrays.proofs.Laws.{fill-next, without_is, done}
+use Rattle.arrays.proofs.Laws.{fill_next, without_is, done}
 use Rattle.arrays.proofs.others.Statement.{statement}
 use Rattle.arrays.proofs.others.Tie as tie
 
@@ -25,12 +25,12 @@ loop-less : tie.Need-loop-smaller invariant-loop decreases-loop
 loop-less c = omega arith
 
 loop-again : tie.Need-loop-preserved invariant-loop decreases-loop
-loop-again c = (omega arith, fill-next _ _ _ c.before.before.loop.invariant.1 (without_is _ _ _ c.stays.ensures))
+loop-again c = (omega arith, fill_next _ _ _ c.before.before.loop.invariant.1 (without_is _ _ _ c.stays.ensures))
 
 returns : tie.Need-returns invariant-loop decreases-loop
 returns c = done (built (without _ _)) c.before.loop.invariant.1 c.before.loop.invariant.0 c.loop-test.false
 
-pub others-spec : {M : Type 1} → statement M
-others-spec =
+pub others_spec : {M : Type 1} → statement M
+others_spec =
     tie.close (tie.spec invariant-loop decreases-loop loop-holds (λ c. search rules) (λ c. search rules) (λ c. search rules)
     (λ c. search rules) add-k loop-less loop-again returns)

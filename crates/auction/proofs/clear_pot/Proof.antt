@@ -13,6 +13,6 @@ returns c =
     cleared _ _ reasoned.before.before.before.before.requires reasoned.before.before.before.ended.ensures reasoned.reasons.ensures
     c.before.before.before.automatics.ensures c.before.before.apps.ensures c.money.ensures
 
-pub clear-pot-spec : {M : Type 1} → statement M
-clear-pot-spec =
+pub clear_pot_spec : {M : Type 1} → statement M
+clear_pot_spec =
     tie.close (tie.spec (λ c κs. search rules) (λ c κs. search rules) (λ c κs. search rules) (λ c κs. search rules) money-requires returns)

@@ -1,7 +1,7 @@
 -- `branches::cut` meets its contract.
 use native.Mathlib.Omega.{arith}
-use Rattle.laws_pot.specs.Lists.{not-is-true}
-use Rattle.branches.proofs.Branch.{some_size, cut_low, cut-misfit}
+use Rattle.laws_pot.specs.Lists.{not_is_true}
+use Rattle.branches.proofs.Branch.{some_size, cut_low, cut_misfit}
 use Rattle.branches.proofs.cut.Statement.{statement}
 use Rattle.branches.proofs.cut.Tie as tie
 
@@ -21,7 +21,7 @@ fitting-requires : tie.Need-fitting-requires
 fitting-requires c κs = (c.before.before.requires.0, omega (arith, some_size c.before.before.requires.2, c.before.before.requires.2.room))
 
 returns-2 : tie.Need-returns-2
-returns-2 c = λ e. cut-misfit c.before.before.before.requires.2 _ _ c.before.before.before.requires.1 _ c.fitting.ensures (not-is-true _ e)
+returns-2 c = λ e. cut_misfit c.before.before.before.requires.2 _ _ c.before.before.before.requires.1 _ c.fitting.ensures (not_is_true _ e)
 
 pub cut_spec : {M : Type 1} → statement M
 cut_spec =

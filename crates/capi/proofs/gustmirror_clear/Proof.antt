@@ -11,6 +11,6 @@ returns c = record {
   bytes = c.before.before.before.clear.ensures.0.bytes;
 }
 
-pub gustmirror-clear-spec : {M : Type 1} → statement M
-gustmirror-clear-spec =
+pub gustmirror_clear_spec : {M : Type 1} → statement M
+gustmirror_clear_spec =
     tie.close (tie.spec (λ c κs. search rules) (λ c κs. search rules) (λ c. search rules) returns)

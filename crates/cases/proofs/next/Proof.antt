@@ -25,8 +25,8 @@ returns-4 : tie.Need-returns-4
 unfolding Within
 returns-4 c = omega arith
 
-pub next-spec : {M : Type 1} → statement M
-next-spec =
+pub next_spec : {M : Type 1} → statement M
+next_spec =
     tie.close (tie.spec (λ c. search rules) (λ c κs. search rules) returns (λ c. search rules) (λ c κs. search rules) (λ c. search rules)
     (λ c κs. search rules) (λ c. search rules) (λ c. search rules) returns-2 (λ c. search rules) slice-aggregate-read-full-2 (λ c κs. search rules)
     (λ c. search rules) returns-3 (λ c. search rules) returns-4)

@@ -10,7 +10,7 @@ returns c =
     let a = c.before.before.before.args in
     omega (arith, le_split 2 2 a.s.now a.at)
 
-pub le32-spec : {M : Type 1} → statement M
-le32-spec =
+pub le32_spec : {M : Type 1} → statement M
+le32_spec =
     tie.close
     (tie.spec (λ c κs. search rules) (λ c. search rules) (λ c κs. search rules) (λ c. search rules) (λ c. search rules) returns)

@@ -10,7 +10,7 @@ returns c =
     let a = c.before.before.before.args in
     omega (arith, le_split 4 4 a.s.now a.at)
 
-pub le64-spec : {M : Type 1} → statement M
-le64-spec =
+pub le64_spec : {M : Type 1} → statement M
+le64_spec =
     tie.close
     (tie.spec (λ c κs. search rules) (λ c. search rules) (λ c κs. search rules) (λ c. search rules) (λ c. search rules) returns)

@@ -1,6 +1,6 @@
 -- `file::ending` meets its contract: bytes after the last record, or rule 11 of the bids. Assumes nothing.
 use native.Mathlib.Omega.{arith}
-use Rattle.file.proofs.Laws.{whole, facts5, bytes_after, lowest-read}
+use Rattle.file.proofs.Laws.{whole, facts5, bytes_after_lem, lowest_read}
 use borrow.Author.Rules.{rules}
 use Rattle.file.proofs.ending.Statement.{statement}
 use Rattle.file.proofs.ending.Tie as tie
@@ -15,7 +15,7 @@ add-end : tie.Need-overflow-add-end
 add-end c = omega (arith, facts5 _ c.before.before.requires)
 
 returns : tie.Need-returns
-returns c = bytes_after _ c.before.before.before.before.requires (omega (arith, c.before.left.ensures, c.if1.true))
+returns c = bytes_after_lem _ c.before.before.before.before.requires (omega (arith, c.before.left.ensures, c.if1.true))
 
 records-after-requires : tie.Need-records-after-requires
 records-after-requires c κs = omega (arith, facts5 _ c.before.before.before.before.requires)
@@ -28,9 +28,9 @@ lowest-requires c κs =
 returns-2 : tie.Need-returns-2
 returns-2 c =
     let k = c.before.before in
-    lowest-read _ k.before.before.before.before.requires (omega (arith, k.before.left.ensures, k.if1.false))
+    lowest_read _ k.before.before.before.before.requires (omega (arith, k.before.left.ensures, k.if1.false))
     c.before.records-after.ensures.0 c.lowest.ensures
 
-pub ending-spec : {M : Type 1} → statement M
-ending-spec =
+pub ending_spec : {M : Type 1} → statement M
+ending_spec =
     tie.close (tie.spec add_start mul-end add-end (λ c κs. search rules) returns records-after-requires lowest-requires returns-2)

@@ -1,11 +1,11 @@
 -- `fill::fill` meets its contract: what its parts wrote shows the pot, and is ready to be cleared.
 use Prim.Native.Nat.{◌+◌}
 use borrow.Author.Rules.{rules}
-use Rattle.rules.specs.Names.{countWidth}
-use Rattle.rows.specs.Rows.{roundIn}
+use Rattle.rules.specs.Names.{count_width}
+use Rattle.rows.specs.Rows.{round_in}
 use native.Mathlib.Omega.{arith}
 use mathlib.Core.Path.{refl, ◌∙◌}
-use Rattle.fill.proofs.Laws.{part-byte}
+use Rattle.fill.proofs.Laws.{part_byte}
 use Rattle.fill.proofs.Shown.{written, shows, ready}
 use Rattle.fill.proofs.fill.Statement.{statement}
 use Rattle.fill.proofs.fill.Tie as tie
@@ -76,11 +76,11 @@ returns c =
     let drawn = c.before.before.fill-drawn.ensures in
     let s = a.file.now in
     let z = a.sections in
-    let R = roundIn s z in
+    let R = round_in s z in
     let S = pre.0.0.sound in
     let w = written S.years-most rows admins figures own limits cap drawn c.fill-entrants.ensures in
     let bytes = seen.before.before.shared-slice-known.given in
-    let byte = part-byte s (z.applications_at + countWidth) z.bids_at (λ i. omega (arith, bytes i)) in
+    let byte = part_byte s (z.applications_at + count_width) z.bids_at (λ i. omega (arith, bytes i)) in
     ((shows R S a.p w, ready R S a.p byte pre.0.1 w), refl)
 
 pub fill_spec : {M : Type 1} → statement M

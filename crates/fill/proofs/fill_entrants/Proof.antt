@@ -3,7 +3,7 @@ use borrow.Author.Rules.{rules}
 use Prim.Native.Nat.{◌≤◌, ◌-◌}
 use native.Mathlib.Omega.{arith}
 use mathlib.Core.Logic.{⊎_elim}
-use Rattle.fill.proofs.Laws.{Entering, entering-none, entering-hit, entering-miss, entering-done}
+use Rattle.fill.proofs.Laws.{Entering, entering_none, entering_hit, entering_miss, entering_done}
 use Rattle.fill.proofs.fill_entrants.Statement.{statement}
 use Rattle.fill.proofs.fill_entrants.Tie as tie
 
@@ -14,7 +14,7 @@ abbrev decreases-loop : tie.decreases-loop
 decreases-loop m sheet₀ n₀ k₀ sheet n k = m - k
 
 loop-holds : tie.Need-loop-init invariant-loop decreases-loop
-loop-holds c = (omega arith, omega arith, entering-none _ c.requires.1)
+loop-holds c = (omega arith, omega arith, entering_none _ c.requires.1)
 
 in-auction-requires : tie.Need-in-auction-requires invariant-loop decreases-loop
 in-auction-requires c κs = omega (arith, c.before.loop-test.true, c.before.before.before.requires.0)
@@ -41,15 +41,15 @@ loop-again c =
     let inv = loop.invariant in (
       omega (arith, loop-test.true),
       ⊎_elim (λ w. omega (arith, inv.1, w.2)) (λ w. omega (arith, inv.1, w.2)) c.if1.branch,
-      ⊎_elim (λ w. entering-hit _ _ _ inv.2 c.before.in-auction.ensures (omega (arith, loop-test.true, pre.0)) w.0.taken w.1 w.2)
-          (λ w. entering-miss _ _ _ inv.2 c.before.in-auction.ensures w.0.left w.1 w.2)
+      ⊎_elim (λ w. entering_hit _ _ _ inv.2 c.before.in-auction.ensures (omega (arith, loop-test.true, pre.0)) w.0.taken w.1 w.2)
+          (λ w. entering_miss _ _ _ inv.2 c.before.in-auction.ensures w.0.left w.1 w.2)
           c.if1.branch,
     )
 
 returns : tie.Need-returns invariant-loop decreases-loop
-returns c = let inv = c.before.loop.invariant in entering-done _ inv.0 c.loop-test.false inv.2
+returns c = let inv = c.before.loop.invariant in entering_done _ inv.0 c.loop-test.false inv.2
 
-pub fill-entrants-spec : {M : Type 1} → statement M
-fill-entrants-spec =
+pub fill_entrants_spec : {M : Type 1} → statement M
+fill_entrants_spec =
     tie.close (tie.spec invariant-loop decreases-loop loop-holds in-auction-requires add-sheet (λ c. search rules) element-write-sheet (λ c. search rules)
     (λ c. search rules) (λ c. search rules) loop-again returns)

@@ -5,7 +5,7 @@ use native.Mathlib.Omega.{arith}
 use mathlib.Core.Path.{◌≡◌}
 use lib.ListN.{length}
 use Rattle.fill.specs.Fill.{Put}
-use Rattle.fill.proofs.Laws.{put-none, put-more}
+use Rattle.fill.proofs.Laws.{put_none, put_more}
 use Rattle.fill.proofs.put.Statement.{statement}
 use Rattle.fill.proofs.put.Tie as tie
 
@@ -16,7 +16,7 @@ abbrev decreases-loop : tie.decreases-loop
 decreases-loop sheet₀ at v j₀ sheet j = length v - j
 
 loop-holds : tie.Need-loop-init invariant-loop decreases-loop
-loop-holds c = (omega arith, put-none _ _ _)
+loop-holds c = (omega arith, put_none _ _ _)
 
 element-write-sheet : tie.Need-element-write-sheet invariant-loop decreases-loop
 element-write-sheet c = omega (arith, c.before.loop-test.true, c.before.before.before.requires.0)
@@ -24,7 +24,7 @@ element-write-sheet c = omega (arith, c.before.loop-test.true, c.before.before.b
 loop-again : tie.Need-loop-preserved invariant-loop decreases-loop
 loop-again c =
     let pre = c.before.before.before.requires in
-    (omega arith, put-more _ _ _ c.before.before.loop.invariant.1 (omega (arith, c.before.loop-test.true, pre.0, pre.1)))
+    (omega arith, put_more _ _ _ c.before.before.loop.invariant.1 (omega (arith, c.before.loop-test.true, pre.0, pre.1)))
 
 returns : tie.Need-returns invariant-loop decreases-loop
 returns c = let e : c.before.loop.j ≡ length c.before.before.args.v.now = omega arith in rw (← e) c.before.loop.invariant.1

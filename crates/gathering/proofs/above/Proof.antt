@@ -6,7 +6,7 @@ use mathlib.Core.Path.{◌≡◌, ◌∙◌}
 use mathlib.Core.Logic.{⊎_elim}
 use Rattle.arrays.proofs.Laws.{done}
 use Rattle.combinations.specs.Combinations.{listed, above_of}
-use Rattle.combinations.proofs.Laws.{above_hit, above-miss}
+use Rattle.combinations.proofs.Laws.{above_hit, above_miss}
 use Rattle.gathering.proofs.above.Statement.{statement}
 use Rattle.gathering.proofs.above.Tie as tie
 
@@ -42,14 +42,14 @@ loop-again : tie.Need-loop-preserved invariant-loop decreases-loop
 loop-again c = let inv = c.before.before.before.before.loop.invariant in
     let e = c.before.draw.ensures in (
       omega arith,
-      ⊎_elim (λ w. w.1 ∙ above_hit _ _ _ _ inv.1 e w.0.taken) (λ w. w.1 ∙ above-miss _ _ _ _ inv.1 e w.0.left) c.if1.branch,
+      ⊎_elim (λ w. w.1 ∙ above_hit _ _ _ _ inv.1 e w.0.taken) (λ w. w.1 ∙ above_miss _ _ _ _ inv.1 e w.0.left) c.if1.branch,
       ⊎_elim (λ w. omega arith) (λ w. omega arith) c.if1.branch,
     )
 
 returns : tie.Need-returns invariant-loop decreases-loop
 returns c = done (above_of _ _ _) c.before.loop.invariant.1 c.before.loop.invariant.0 c.loop-test.false
 
-pub above-spec : {M : Type 1} → statement M
-above-spec =
+pub above_spec : {M : Type 1} → statement M
+above_spec =
     tie.close (tie.spec invariant-loop decreases-loop loop-holds mul-draw element-copy-out-draw draw-requires add-n (λ c. omega arith) (λ c. omega arith) loop-again
     returns)

@@ -18,6 +18,6 @@ starts-requires c κs =
 returns : tie.Need-returns
 returns c = tied_is _ _ _ _ c.before.before.before.before.compact.ensures c.before.before.ranks.ensures c.starts.ensures
 
-pub gathered-spec : {M : Type 1} → statement M
-gathered-spec =
+pub gathered_spec : {M : Type 1} → statement M
+gathered_spec =
     tie.close (tie.spec compact-requires ranks-requires starts-requires returns)

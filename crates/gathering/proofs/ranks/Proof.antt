@@ -3,21 +3,21 @@ use borrow.Author.Rules.{rules}
 use native.Mathlib.Omega.{arith}
 use Prim.Native.Nat.{◌≤◌, ◌-◌}
 use mathlib.Core.Path.{◌≡◌}
-use Rattle.arrays.proofs.Laws.{done, fill-next}
+use Rattle.arrays.proofs.Laws.{done, fill_next}
 use Rattle.arrays.specs.Sets.{fill}
-use Rattle.combinations.specs.Combinations.{noList, rank_of}
+use Rattle.combinations.specs.Combinations.{no_list, rank_of}
 use Rattle.combinations.proofs.Laws.{rank_is}
 use Rattle.gathering.proofs.ranks.Statement.{statement}
 use Rattle.gathering.proofs.ranks.Tie as tie
 
 abbrev invariant-loop : tie.invariant-loop
-invariant-loop sheet of list count out₀ j₀ out j = (j ≤ count) × (out ≡ fill noList (rank_of sheet list count) j)
+invariant-loop sheet of list count out₀ j₀ out j = (j ≤ count) × (out ≡ fill no_list (rank_of sheet list count) j)
 
 abbrev decreases-loop : tie.decreases-loop
 decreases-loop sheet of list count out₀ j₀ out j = count - j
 
 loop-holds : tie.Need-loop-init invariant-loop decreases-loop
-unfolding fill noList
+unfolding fill no_list
 loop-holds c = search rules
 
 mul-draw : tie.Need-overflow-mul-draw invariant-loop decreases-loop
@@ -39,12 +39,12 @@ array-write-out : tie.Need-array-write-out invariant-loop decreases-loop
 array-write-out c = omega (arith, c.before.before.before.loop-test.true, c.before.before.before.before.before.requires.1.few)
 
 loop-again : tie.Need-loop-preserved invariant-loop decreases-loop
-loop-again c = (omega arith, fill-next _ _ _ c.before.before.before.before.loop.invariant.1 (rank_is _ _ _ _ c.before.draw.ensures c.above.ensures))
+loop-again c = (omega arith, fill_next _ _ _ c.before.before.before.before.loop.invariant.1 (rank_is _ _ _ _ c.before.draw.ensures c.above.ensures))
 
 returns : tie.Need-returns invariant-loop decreases-loop
-returns c = done (fill noList (rank_of _ _ _)) c.before.loop.invariant.1 c.before.loop.invariant.0 c.loop-test.false
+returns c = done (fill no_list (rank_of _ _ _)) c.before.loop.invariant.1 c.before.loop.invariant.0 c.loop-test.false
 
-pub ranks-spec : {M : Type 1} → statement M
-ranks-spec =
+pub ranks_spec : {M : Type 1} → statement M
+ranks_spec =
     tie.close (tie.spec invariant-loop decreases-loop loop-holds mul-draw element-copy-out-draw draw-requires above-requires mul-out array-write-out
     (λ c. omega arith) (λ c. omega arith) loop-again returns)

@@ -3,21 +3,21 @@ use borrow.Author.Rules.{rules}
 use native.Mathlib.Omega.{arith}
 use Prim.Native.Nat.{◌≤◌, ◌-◌}
 use mathlib.Core.Path.{◌≡◌}
-use Rattle.arrays.proofs.Laws.{done, fill-next}
+use Rattle.arrays.proofs.Laws.{done, fill_next}
 use Rattle.arrays.specs.Sets.{fill}
-use Rattle.combinations.specs.Combinations.{noList, start_of}
+use Rattle.combinations.specs.Combinations.{no_list, start_of}
 use Rattle.combinations.proofs.Laws.{start_is}
 use Rattle.gathering.proofs.starts.Statement.{statement}
 use Rattle.gathering.proofs.starts.Tie as tie
 
 abbrev invariant-loop : tie.invariant-loop
-invariant-loop sheet list count out₀ j₀ out j = (j ≤ count) × (out ≡ fill noList (start_of sheet list) j)
+invariant-loop sheet list count out₀ j₀ out j = (j ≤ count) × (out ≡ fill no_list (start_of sheet list) j)
 
 abbrev decreases-loop : tie.decreases-loop
 decreases-loop sheet list count out₀ j₀ out j = count - j
 
 loop-holds : tie.Need-loop-init invariant-loop decreases-loop
-unfolding fill noList
+unfolding fill no_list
 loop-holds c = search rules
 
 mul-year : tie.Need-overflow-mul-year invariant-loop decreases-loop
@@ -44,12 +44,12 @@ array-write-out : tie.Need-array-write-out invariant-loop decreases-loop
 array-write-out c = omega (arith, c.before.before.loop-test.true, c.before.before.before.before.requires.1.few)
 
 loop-again : tie.Need-loop-preserved invariant-loop decreases-loop
-loop-again c = (omega arith, fill-next _ _ _ c.before.before.before.loop.invariant.1 (start_is _ _ _ c.year.ensures))
+loop-again c = (omega arith, fill_next _ _ _ c.before.before.before.loop.invariant.1 (start_is _ _ _ c.year.ensures))
 
 returns : tie.Need-returns invariant-loop decreases-loop
-returns c = done (fill noList (start_of _ _)) c.before.loop.invariant.1 c.before.loop.invariant.0 c.loop-test.false
+returns c = done (fill no_list (start_of _ _)) c.before.loop.invariant.1 c.before.loop.invariant.0 c.loop-test.false
 
-pub starts-spec : {M : Type 1} → statement M
-starts-spec =
+pub starts_spec : {M : Type 1} → statement M
+starts_spec =
     tie.close (tie.spec invariant-loop decreases-loop loop-holds mul-year element-copy-out-year year-requires cast-out mul-out array-write-out (λ c. omega arith)
     (λ c. omega arith) loop-again returns)

@@ -2,20 +2,20 @@
 use borrow.Author.Rules.{rules}
 use native.Mathlib.Omega.{arith}
 use borrow.Author.Tests.{eq-eqb, ne_eqb}
-use Rattle.rules.specs.Listing.{bidWord}
-use Rattle.lines.proofs.Laws.{printed-within}
+use Rattle.rules.specs.Listing.{bid_word}
+use Rattle.lines.proofs.Laws.{printed_within}
 use Rattle.lines.proofs.bid.Statement.{statement}
 use Rattle.lines.proofs.bid.Tie as tie
 
 returns : tie.Need-returns
-unfolding bidWord
-returns c = rw (eq-eqb _ _ c.before.before.before.before.before.if1.true) (printed-within 25 (omega arith) c.before.before.word.ensures)
+unfolding bid_word
+returns c = rw (eq-eqb _ _ c.before.before.before.before.before.if1.true) (printed_within 25 (omega arith) c.before.before.word.ensures)
 
 returns-2 : tie.Need-returns-2
-unfolding bidWord
+unfolding bid_word
 returns-2 c = rw (ne_eqb _ _ c.before.before.before.before.before.if1.false) c.before.before.field.ensures
 
-pub bid-spec : {M : Type 1} → statement M
-bid-spec =
+pub bid_spec : {M : Type 1} → statement M
+bid_spec =
     tie.close (tie.spec (λ c. search rules) (λ c κs. search rules) (λ c. search rules) returns (λ c. search rules) (λ c κs. search rules)
     (λ c. search rules) returns-2)

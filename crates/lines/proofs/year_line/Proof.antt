@@ -1,21 +1,21 @@
 -- `lines::year_line` meets its contract: its pieces follow each other. Assumes nothing.
 use borrow.Author.Rules.{rules}
-use Rattle.rules.specs.Listing.{yearLine}
-use Rattle.lines.proofs.Laws.{printed-then}
+use Rattle.rules.specs.Listing.{year_line}
+use Rattle.lines.proofs.Laws.{printed_then}
 use Rattle.lines.proofs.year_line.Statement.{statement}
 use Rattle.lines.proofs.year_line.Tie as tie
 
 returns : tie.Need-returns
-unfolding yearLine
-returns c = printed-then
-    (printed-then
-    (printed-then
+unfolding year_line
+returns c = printed_then
+    (printed_then
+    (printed_then
     c.before.before.before.before.before.before.before.before.before.before.before.before.before.before.before.before.field.ensures
     c.before.before.before.before.before.before.before.before.before.before.before.before.price.ensures)
     c.before.before.before.before.before.before.before.field2.ensures) c.before.before.word.ensures
 
-pub year-line-spec : {M : Type 1} → statement M
-year-line-spec =
+pub year_line_spec : {M : Type 1} → statement M
+year_line_spec =
     tie.close (tie.spec (λ c. search rules) (λ c κs. search rules) (λ c. search rules) (λ c. search rules) (λ c. search rules) (λ c κs. search rules)
     (λ c. search rules) (λ c. search rules) (λ c. search rules) (λ c. search rules) (λ c. search rules) (λ c κs. search rules) (λ c. search rules)
     (λ c. search rules) (λ c. search rules) (λ c. search rules) (λ c. search rules) (λ c κs. search rules) (λ c. search rules) (λ c. search rules)

@@ -2,18 +2,18 @@
 use borrow.Author.Rules.{rules}
 use native.Mathlib.Omega.{arith}
 use Rattle.listing.specs.ToldLines.{lines_told, longest}
-use Rattle.lines.proofs.Laws.{printed-then, printed-within}
-use Rattle.listing.proofs.Laws.{lines_are, is-listed}
+use Rattle.lines.proofs.Laws.{printed_then, printed_within}
+use Rattle.listing.proofs.Laws.{lines_are, is_listed}
 use Rattle.listing.proofs.write.Statement.{statement}
 use Rattle.listing.proofs.write.Tie as tie
 
 returns : tie.Need-returns
 unfolding lines_told
 returns c =
-    let f = printed-then (printed-then c.before.before.before.before.before.before.before.before.before.before.pots.ensures
+    let f = printed_then (printed_then c.before.before.before.before.before.before.before.before.before.before.pots.ensures
     c.before.before.before.before.before.before.applications.ensures) c.before.before.bids.ensures in (
-      printed-within longest (omega arith) f,
-      λ R C T. is-listed R f
+      printed_within longest (omega arith) f,
+      λ R C T. is_listed R f
           (lines_are c.before.before.before.before.before.before.before.before.before.before.before.before.before.requires.0 C T),
     )
 

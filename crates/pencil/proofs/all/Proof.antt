@@ -10,7 +10,7 @@ invariant-loop file sections k₀ k = k ≤ sections.bids
 abbrev decreases-loop : tie.decreases-loop
 decreases-loop file sections k₀ k = sections.bids - k
 
-pub all-spec : {M : Type 1} → statement M
-all-spec =
+pub all_spec : {M : Type 1} → statement M
+all_spec =
     tie.close (tie.spec invariant-loop decreases-loop (λ c. search rules) (λ c κs. search rules) (λ c. search rules) (λ c. search rules) (λ c. search rules)
     (λ c. search rules))

@@ -8,7 +8,7 @@ use Rattle.pencil.proofs.print.Tie as tie
 accepted-requires : tie.Need-accepted-requires
 accepted-requires c κs = (accepted _ (sym c.before.before.before.read.ensures ∙ c.before.got.given.1)).1
 
-pub print-spec : {M : Type 1} → statement M
-print-spec =
+pub print_spec : {M : Type 1} → statement M
+print_spec =
     tie.close (tie.spec (λ c κs. search rules) (λ c. search rules) accepted-requires (λ c. search rules) (λ c κs. search rules) (λ c. search rules)
     (λ c. search rules))

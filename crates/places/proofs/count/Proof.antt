@@ -1,7 +1,7 @@
 -- `places::count` meets its contract: the count, or that the file ends before. Assumes nothing.
 use native.Mathlib.Omega.{arith}
 use mathlib.Core.Path.{sym, ◌∙◌}
-use Rattle.laws_reading.specs.Walk.{given_yes, given-no}
+use Rattle.laws_reading.specs.Walk.{given_yes, given_no}
 use Rattle.places.specs.Places.{held}
 use borrow.Author.Rules.{rules}
 use Rattle.places.proofs.count.Statement.{statement}
@@ -9,11 +9,11 @@ use Rattle.places.proofs.count.Tie as tie
 
 returns : tie.Need-returns
 unfolding held
-returns c = (sym (given-no _ _ _ (λ h. omega arith)), omega arith)
+returns c = (sym (given_no _ _ _ (λ h. omega arith)), omega arith)
 
 returns-2 : tie.Need-returns-2
 unfolding held
-returns-2 c = (sym (given-no _ _ _ (λ h. omega arith)), omega arith)
+returns-2 c = (sym (given_no _ _ _ (λ h. omega arith)), omega arith)
 
 returns-3 : tie.Need-returns-3
 unfolding held

@@ -45,7 +45,7 @@ use denote.Triple.Table.{entered, cited}
 use denote.Triple.Walked.{says, needs, Stays, stay_none, walk_of, Goes-none, Walks, ends_at, walked, walk_Meets}
 use denote.Exit.{yes}
 use denote.Triple.Clauses.{ensured, lasts}
-use Rattle.rules.specs.Names.{countWidth}
+use Rattle.rules.specs.Names.{count_width}
 use Rattle.rules.specs.Bytes.{le}
 use Rattle.reader.specs.declared.Reader.{Reader}
 use Rattle.reader.specs.contracts.Reader as T
@@ -72,7 +72,7 @@ module _ {M : Type 1} {𝓤 : Ura M} (𝓛 : Logic 𝓤) (mem : Memory → SProp
   Le16 = triple_of 𝓛 step.signature (step.spec 𝓛 mem run)
 
 module _ {M : Type 1} {𝓤 : Ura M} (𝓛 : Logic 𝓤) (mem : Memory → SProp 𝓤) (run : Routine → Fun 𝓤) (κ : Lft)
-    (q : Share) (d : Reader) (whole-count : d.at + countWidth ≤ length d.file.now) where
+    (q : Share) (d : Reader) (whole-count : d.at + count_width ≤ length d.file.now) where
   open 𝓛 use {H}
 
   abbrev mach : Val
@@ -83,7 +83,7 @@ module _ {M : Type 1} {𝓤 : Ura M} (𝓛 : Logic 𝓤) (mem : Memory → SProp
   v = slice_val d.file.ref_ptr (length d.file.now)
 
   abbrev Found : ℕ → Type 0
-  Found n = (n ≡ le countWidth d.file.now d.at) × (n < 65536)
+  Found n = (n ≡ le count_width d.file.now d.at) × (n < 65536)
 
   abbrev Post : Val → SProp 𝓤
   Post = (walk_of 𝓛 count.ended stayed (count.clauses 𝓛 mem run)).post (((κ, tt), (q, tt), tt, (d, tt), (mach ∷ [], tt)), tt)

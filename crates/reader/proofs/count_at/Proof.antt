@@ -39,7 +39,7 @@ use denote.Triple.Table.{entered, cited}
 use denote.Triple.Walked.{says, needs, Stays, stay_none, stay_none_slice, walk_of, Goes-none, Goes-none_slice, Walks, ends_at, walked, walk_Meets}
 use denote.Exit.{yes}
 use denote.Triple.Clauses.{ensured, lasts}
-use Rattle.rules.specs.Names.{countWidth}
+use Rattle.rules.specs.Names.{count_width}
 use Rattle.rules.specs.Bytes.{le}
 use Rattle.reader.specs.declared.Reader.{Reader}
 use Rattle.reader.specs.contracts.Reader as T
@@ -73,7 +73,7 @@ module _ {M : Type 1} {𝓤 : Ura M} (𝓛 : Logic 𝓤) (mem : Memory → SProp
   Count = triple_of 𝓛 count.signature (count.spec 𝓛 mem run)
 
 module _ {M : Type 1} {𝓤 : Ura M} (𝓛 : Logic 𝓤) (mem : Memory → SProp 𝓤) (run : Routine → Fun 𝓤) (κ : Lft) (q : Share)
-    (s : Bor (List ℕ)) (n : ℕ) (n-fits : n < 2 ^ 64) (ok : n + countWidth ≤ length s.now) where
+    (s : Bor (List ℕ)) (n : ℕ) (n-fits : n < 2 ^ 64) (ok : n + count_width ≤ length s.now) where
   -- the machine value that s has
   open 𝓛 use {H}
 
@@ -81,7 +81,7 @@ module _ {M : Type 1} {𝓤 : Ura M} (𝓛 : Logic 𝓤) (mem : Memory → SProp
   v = slice_val s.ref_ptr (length s.now)
 
   abbrev Found : ℕ → Type 0
-  Found t = (t ≡ le countWidth s.now n) × (t < 65536)
+  Found t = (t ≡ le count_width s.now n) × (t < 65536)
 
   -- the struct's type as a local of a body has it
   abbrev αᵉ : NamedLft
@@ -94,46 +94,46 @@ module _ {M : Type 1} {𝓤 : Ura M} (𝓛 : Logic 𝓤) (mem : Memory → SProp
   Own = (ShrSlice (named 0) κ u8).own_val s (v ∷ [])
 
   -- the call of `placed`: what it is passed, what it asks, and what is known of its result
-  abbrev to-placed : (Placed 𝓛 mem run).Ghost
-  to-placed = (((κ, tt), (q, tt), tt, (s, (n, tt)), (v ∷ [], (vint w64 n ∷ [], tt))), tt)
+  abbrev to_placed : (Placed 𝓛 mem run).Ghost
+  to_placed = (((κ, tt), (q, tt), tt, (s, (n, tt)), (v ∷ [], (vint w64 n ∷ [], tt))), tt)
 
-  goes-placed : ent 𝓤 (on_entry 𝓛 from-it.signature (κ, tt) (q, tt) (s, (n, tt)) (v ∷ [], (vint w64 n ∷ [], tt)))
-      (sep 𝓤 ((Placed 𝓛 mem run).pre to-placed) (sem 𝓛 Own))
-  goes-placed =
+  goes_placed : ent 𝓤 (on_entry 𝓛 from-it.signature (κ, tt) (q, tt) (s, (n, tt)) (v ∷ [], (vint w64 n ∷ [], tt)))
+      (sep 𝓤 ((Placed 𝓛 mem run).pre to_placed) (sem 𝓛 Own))
+  goes_placed =
       qed 𝓛 ((‵ (flft κ q) ⊛ ‵ ftrue) ∷ ‵ (owns (ShrSlice (named 0) κ u8 ∷ usize ∷ []) (s, (n, tt)) (v ∷ [], (vint w64 n ∷ [], tt))) ∷ []) ∵
       move ! (1 ∷ []) $ fsplit ! $ move ! (1 ∷ []) $ drop ! $ nothing ! $ owned ! usize (Is usize) (uint_Makes 𝓛 w64) n _ (refl, n-fits) $ fjoin !
       $ move ! (1 ∷ 0 ∷ []) $ use1 𝓛 (‵ Own ⊛ ‵ Own) ((shr_slice_copy 𝓛 (named 0) κ u8).twice s (v ∷ [])) $ split ! $
       move ! (0 ∷ 2 ∷ []) $ fjoin ! $ move ! (2 ∷ 0 ∷ [])
-      $ use2 𝓛 (raw ((Placed 𝓛 mem run).pre to-placed))
+      $ use2 𝓛 (raw ((Placed 𝓛 mem run).pre to_placed))
       (qed 𝓛 ((‵ (flft κ q) ⊛ ‵ ftrue) ∷ ‵ (owns (ShrSlice (named 0) κ u8 ∷ usize ∷ []) (s, (n, tt)) (v ∷ [], (vint w64 n ∷ [], tt))) ∷ []) ∵ join !
       $ frame ! $ done !) $ frame ! $ done !
 
-  placed-said : (r : Reader)
+  placed_said : (r : Reader)
       → ent 𝓤 (ensured 𝓛 placed.ended (placed.clauses 𝓛 mem run) (κ, tt) (s, (n, tt)) tt r) (fact 𝓤 ((r.file ≡ s) × (r.at ≡ n)))
-  placed-said r = ex_e 𝓤 _ (λ ws. snd∗ 𝓤 (sem 𝓛 (lasts placed.ended (κ, tt) (s, (n, tt)) ws)) (fact 𝓤 ((r.file ≡ s) × (r.at ≡ n))))
+  placed_said r = ex_e 𝓤 _ (λ ws. snd∗ 𝓤 (sem 𝓛 (lasts placed.ended (κ, tt) (s, (n, tt)) ws)) (fact 𝓤 ((r.file ≡ s) × (r.at ≡ n))))
 
   -- the call of `count`, at the struct r with the machine value u
-  abbrev to-count : Reader → Val → (Count 𝓛 mem run).Ghost
-  to-count r u = (((κ, tt), (q, tt), tt, (r, tt), (u ∷ [], tt)), tt)
+  abbrev to_count : Reader → Val → (Count 𝓛 mem run).Ghost
+  to_count r u = (((κ, tt), (q, tt), tt, (r, tt), (u ∷ [], tt)), tt)
 
-  goes-count : (r : Reader) (u : Val) → r.at + countWidth ≤ length r.file.now
-      → ent 𝓤 (⋆ 𝓛 (‵ ((B (κ, tt)).own_val r (u ∷ [])) ∷ (‵ (flft κ q) ⊛ ‵ ftrue) ∷ [])) ((Count 𝓛 mem run).pre (to-count r u))
-  goes-count r u whole =
+  goes_count : (r : Reader) (u : Val) → r.at + count_width ≤ length r.file.now
+      → ent 𝓤 (⋆ 𝓛 (‵ ((B (κ, tt)).own_val r (u ∷ [])) ∷ (‵ (flft κ q) ⊛ ‵ ftrue) ∷ [])) ((Count 𝓛 mem run).pre (to_count r u))
+  goes_count r u whole =
       qed 𝓛 (‵ ((B (κ, tt)).own_val r (u ∷ [])) ∷ (‵ (flft κ q) ⊛ ‵ ftrue) ∷ []) ∵ says ! whole $ nothing !
       $ move ! (1 ∷ 0 ∷ []) $ fjoin ! $ move ! (1 ∷ 0 ∷ []) $ frame ! $ done !
 
   abbrev Says : Reader → ℕ → Type 0
-  Says r t = (t ≡ le countWidth r.file.now r.at) × (t < 65536)
+  Says r t = (t ≡ le count_width r.file.now r.at) × (t < 65536)
 
-  count-said : (r : Reader) (t : ℕ) → ent 𝓤 (ensured 𝓛 count.ended (count.clauses 𝓛 mem run) (κ, tt) (r, tt) tt t) (fact 𝓤 (Says r t))
-  count-said r t = ex_e 𝓤 _ (λ ws. snd∗ 𝓤 (sem 𝓛 (lasts count.ended (κ, tt) (r, tt) ws)) (fact 𝓤 (Says r t)))
+  count_said : (r : Reader) (t : ℕ) → ent 𝓤 (ensured 𝓛 count.ended (count.clauses 𝓛 mem run) (κ, tt) (r, tt) tt t) (fact 𝓤 (Says r t))
+  count_said r t = ex_e 𝓤 _ (λ ws. snd∗ 𝓤 (sem 𝓛 (lasts count.ended (κ, tt) (r, tt) ws)) (fact 𝓤 (Says r t)))
 
   -- what the two say together
-  whole : (r : Reader) → (r.file ≡ s) × (r.at ≡ n) → r.at + countWidth ≤ length r.file.now
+  whole : (r : Reader) → (r.file ≡ s) × (r.at ≡ n) → r.at + count_width ≤ length r.file.now
   whole r e = rw (e.0, e.1) ok
 
   found : (r : Reader) (t : ℕ) → (r.file ≡ s) × (r.at ≡ n) → Says r t → Found t
-  found r t e f = (f.0 ∙ (λ i. le countWidth (e.0 i).now (e.1 i)), f.1)
+  found r t e f = (f.0 ∙ (λ i. le count_width (e.0 i).now (e.1 i)), f.1)
 
   exits : (t : ℕ) (u : Val) → Found t → ent 𝓤 (⋆ 𝓛 (‵ (u64.own_val t (u ∷ [])) ∷ (‵ (flft κ q) ⊛ ‵ ftrue) ∷ ‵ Own ∷ [])) (Post u)
   exits t u e =
@@ -157,23 +157,23 @@ module _ {M : Type 1} {𝓤 : Ura M} (𝓛 : Logic 𝓤) (mem : Memory → SProp
         alloc1 ! (λ l₂.
         alloc1 ! (λ l₃. alloc0 ! $ params1 ! $ pass1 ! (init ! 4 refl ((shr_slice_Lawful 𝓛 (named 0) κ u8).typed s (v ∷ []) p).0)
         $ pass1 ! (init ! 2 refl (tt, record { fits = n-fits })) $ pass0 ! $
-        move ! (8 ∷ []) $ use1 𝓛 (raw ((Placed 𝓛 mem run).pre to-placed) ⊛ ‵ Own) goes-placed $ split ! $
-        calls_at ! fm (Placed 𝓛 mem run) known-placed to-placed
+        move ! (8 ∷ []) $ use1 𝓛 (raw ((Placed 𝓛 mem run).pre to_placed) ⊛ ‵ Own) goes_placed $ split ! $
+        calls_at ! fm (Placed 𝓛 mem run) known-placed to_placed
         (and_then ! (load ! (from ! (stop !)) (look ! 6 refl)) (and_then ! (load ! (from ! (stop !)) (look ! 4 refl)) (no_more !))) (λ u.
         use1 𝓛 (later
         (some (λ (r : Reader). ((‵ (flft κ q) ⊛ ‵ ftrue) ⊛ ‵ ((B (κ, tt)).own_val r (u ∷ []))) ⊛ raw
         (ensured 𝓛 placed.ended (placed.clauses 𝓛 mem run) (κ, tt) (s, (n, tt)) tt r)))) (id⊢ 𝓤 _) $ await ! tt $ pick ! (λ r.
-        split ! $ move ! (1 ∷ []) $ use1 𝓛 (raw (fact 𝓤 ((r.file ≡ s) × (r.at ≡ n)))) (placed-said r)
+        split ! $ move ! (1 ∷ []) $ use1 𝓛 (raw (fact 𝓤 ((r.file ≡ s) × (r.at ≡ n)))) (placed_said r)
         $ heard ! ((r.file ≡ s) × (r.at ≡ n)) (λ e. split ! $ move ! (1 ∷ []) $
         -- [what the struct owns; the token; what s owns; room for _3; …; _2; …; _1; …; room for _0; …]
         peeks ! (B (κ, tt)) (Is (B (κ, tt))) (shows 𝓛 (B (κ, tt))) r (u ∷ []) (λ is.
         land ! (from ! (stop !)) (init ! 3 refl ((LL.lawful (T.the_type αᵉ) (T'.the_laws αᵉ) 𝓛).typed r _ is).0) $
-        use2 𝓛 (raw ((Count 𝓛 mem run).pre (to-count r u))) (goes-count r u (whole r e)) $
-        calls_at ! fm (Count 𝓛 mem run) known-count (to-count r u) (and_then ! (load ! (from ! (stop !)) (look ! 2 refl)) (no_more !)) (λ u'.
+        use2 𝓛 (raw ((Count 𝓛 mem run).pre (to_count r u))) (goes_count r u (whole r e)) $
+        calls_at ! fm (Count 𝓛 mem run) known-count (to_count r u) (and_then ! (load ! (from ! (stop !)) (look ! 2 refl)) (no_more !)) (λ u'.
         use1 𝓛 (later
         (some (λ (t : ℕ). ((‵ (flft κ q) ⊛ ‵ ftrue) ⊛ ‵ (u64.own_val t (u' ∷ []))) ⊛ raw
         (ensured 𝓛 count.ended (count.clauses 𝓛 mem run) (κ, tt) (r, tt) tt t)))) (id⊢ 𝓤 _) $ await ! tt $ pick ! (λ t.
-        split ! $ move ! (1 ∷ []) $ use1 𝓛 (raw (fact 𝓤 (Says r t))) (count-said r t) $ heard ! (Says r t) (λ e'. split ! $ move ! (1 ∷ []) $
+        split ! $ move ! (1 ∷ []) $ use1 𝓛 (raw (fact 𝓤 (Says r t))) (count_said r t) $ heard ! (Says r t) (λ e'. split ! $ move ! (1 ∷ []) $
         -- [the result; the token; what s owns; _3; …; _2; …; _1; …; room for _0; …]
         peeks ! u64 (Is u64) (shows 𝓛 u64) t (u' ∷ []) (λ is'.
         land ! (from ! (stop !)) (init ! 9 refl ((uint_Lawful 𝓛 w64).typed t _ is').0) $
@@ -184,29 +184,29 @@ module _ {M : Type 1} {𝓤 : Ura M} (𝓛 : Logic 𝓤) (mem : Memory → SProp
 module _ {M : Type 1} {𝓤 : Ura M} (𝓛 : Logic 𝓤) (mem : Memory → SProp 𝓤) (run : Routine → Fun 𝓤) where
   open 𝓛 use {H}
 
-  count-at-walks : (C : Calls 𝓤 H) (Λ : Loops 𝓤 H) → FmC 𝓤 H 𝓛.laws C → Triple 𝓤 (C #reader·placed) (Placed 𝓛 mem run)
+  count_at_walks : (C : Calls 𝓤 H) (Λ : Loops 𝓤 H) → FmC 𝓤 H 𝓛.laws C → Triple 𝓤 (C #reader·placed) (Placed 𝓛 mem run)
       → Triple 𝓤 (C #reader·count) (Count 𝓛 mem run)
       → Walks 𝓛 from-it.ended stayed (WpFn 𝓤 H C Λ code.function) (from-it.clauses 𝓛 mem run)
-  count-at-walks C Λ fm known-placed known-count =
+  count_at_walks C Λ fm known-placed known-count =
       walked 𝓛 from-it.ended stayed (from-it.clauses 𝓛 mem run) (WpFn 𝓤 H C Λ code.function) (λ κs. (shr_slice_vals, (uint_vals w64, tt)))
       (λ κs. (shr_slice_Tells (named 0) κs.0 u8, (uint_Tells w64, tt)))
       (λ κs qs bounds a g are.
       needs 𝓤 _ _ (λ ok. walk 𝓛 mem run κs.0 qs.0 a.0 a.1.0 are.1.0.1 ok C Λ fm known-placed known-count are.0))
 
-count-at-meets : {M : Type 1} {𝓤 : Ura M} (𝓛 : Logic 𝓤) (mem : Memory → SProp 𝓤) (run : Routine → Fun 𝓤) (𝓣 : Tables 𝓤 𝓛.H)
+count_at_meets : {M : Type 1} {𝓤 : Ura M} (𝓛 : Logic 𝓤) (mem : Memory → SProp 𝓤) (run : Routine → Fun 𝓤) (𝓣 : Tables 𝓤 𝓛.H)
     → Triple 𝓤 (𝓣.C #reader·placed) (Placed 𝓛 mem run) → Triple 𝓤 (𝓣.C #reader·count) (Count 𝓛 mem run)
     → Meets 𝓛 from-it.signature (WpFn 𝓤 𝓛.H 𝓣.C 𝓣.Λ code.function) (from-it.spec 𝓛 mem run)
-count-at-meets {𝓤 = 𝓤} 𝓛 mem run 𝓣 known-placed known-count =
+count_at_meets {𝓤 = 𝓤} 𝓛 mem run 𝓣 known-placed known-count =
     walk_Meets 𝓛 from-it.ended stayed
     (Goes-none_slice 𝓛 1 (0 ∷ []) tt (plain (λ _. u8)) yes, (Goes-none 𝓛 1 (λ _. usize) yes (λ κs x f. refl), tt))
     (from-it.clauses 𝓛 mem run) (WpFn 𝓤 𝓛.H 𝓣.C 𝓣.Λ code.function) (WpFn-mono 𝓤 𝓛.H 𝓛.laws 𝓣 code.function)
-    (count-at-walks 𝓛 mem run 𝓣.C 𝓣.Λ (fm_of 𝓤 𝓛.H 𝓛.laws 𝓣) known-placed known-count)
+    (count_at_walks 𝓛 mem run 𝓣.C 𝓣.Λ (fm_of 𝓤 𝓛.H 𝓛.laws 𝓣) known-placed known-count)
 
 pub count-at-spec : {M : Type 1} → stated.statement M
 unfolding code.routine tables_of
 count-at-spec 𝓤 𝓛 𝓜 𝓡 =
     entered 𝓤 𝓛.H (triple_of 𝓛 from-it.signature (from-it.spec 𝓛 𝓜.mem 𝓡.run))
     (tables 𝓤 𝓛.H 𝓜 𝓡 code.env).C (tables 𝓤 𝓛.H 𝓜 𝓡 code.env).Λ #reader·count-at code.function (code.unfolded 𝓤 𝓛.H 𝓜 𝓡)
-    (count-at-meets 𝓛 𝓜.mem 𝓡.run (tables_of 𝓤 𝓛.H 𝓜 (tables 𝓤 𝓛.H 𝓜 𝓡 code.env))
+    (count_at_meets 𝓛 𝓜.mem 𝓡.run (tables_of 𝓤 𝓛.H 𝓜 (tables 𝓤 𝓛.H 𝓜 𝓡 code.env))
     (cited 𝓤 𝓛.H (Placed 𝓛 𝓜.mem 𝓡.run) 𝓜 𝓡 code.env #reader·placed placed-def.routine code.calls-reader::placed (placed-thm.met 𝓤 𝓛 𝓜 𝓡))
     (cited 𝓤 𝓛.H (Count 𝓛 𝓜.mem 𝓡.run) 𝓜 𝓡 code.env #reader·count count-def.routine code.calls-reader::count (count-thm.met 𝓤 𝓛 𝓜 𝓡)))

@@ -6,7 +6,7 @@ use native.Mathlib.Omega.{arith}
 use native.Mathlib.Decide.{dec_le}
 use lib.ListN.{length, length-take, length-drop, drop_of_length-le}
 use Rattle.rules.specs.Bytes.{part}
-use Rattle.fields.proofs.Le.{part-clipped}
+use Rattle.fields.proofs.Le.{part_clipped}
 use borrow.Author.Rules.{rules}
 use Rattle.reader.proofs.part_to.Statement.{statement}
 use Rattle.reader.proofs.part_to.Tie as tie
@@ -28,10 +28,10 @@ within s a e {start} {end} p q = go (dec_le end a) (dec_le e (length s))
     go (no h) (no l) =
         let x : start ≡ a = omega arith in
         let y : end ≡ length s = omega arith in
-        (λ i. part s (x i) (y i)) ∙ part-clipped s a e (omega arith)
+        (λ i. part s (x i) (y i)) ∙ part_clipped s a e (omega arith)
 
 returns : tie.Need-returns
 returns c = within _ _ _ c.before.before.lesser.ensures c.before.lesser2.ensures
 
-pub part-to-spec : {M : Type 1} → statement M
-part-to-spec = tie.close (tie.spec (λ c κs. search rules) (λ c κs. search rules) (λ c. search rules) (λ c. search rules) (λ c. search rules) returns)
+pub part_to_spec : {M : Type 1} → statement M
+part_to_spec = tie.close (tie.spec (λ c κs. search rules) (λ c κs. search rules) (λ c. search rules) (λ c. search rules) (λ c. search rules) returns)

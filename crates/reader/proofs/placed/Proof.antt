@@ -97,23 +97,23 @@ module _ {M : Type 1} {𝓤 : Ura M} (𝓛 : Logic 𝓤) (mem : Memory → SProp
 module _ {M : Type 1} {𝓤 : Ura M} (𝓛 : Logic 𝓤) (mem : Memory → SProp 𝓤) (run : Routine → Fun 𝓤) where
   open 𝓛 use {H}
 
-  placed-walks : (C : Calls 𝓤 H) (Λ : Loops 𝓤 H) → Walks 𝓛 placed.ended stayed (WpFn 𝓤 H C Λ code.function) (placed.clauses 𝓛 mem run)
-  placed-walks C Λ =
+  placed_walks : (C : Calls 𝓤 H) (Λ : Loops 𝓤 H) → Walks 𝓛 placed.ended stayed (WpFn 𝓤 H C Λ code.function) (placed.clauses 𝓛 mem run)
+  placed_walks C Λ =
       walked 𝓛 placed.ended stayed (placed.clauses 𝓛 mem run) (WpFn 𝓤 H C Λ code.function) (λ κs. (shr_slice_vals, (uint_vals w64, tt)))
       (λ κs. (shr_slice_Tells (named 0) κs.0 u8, (uint_Tells w64, tt)))
       (λ κs qs bounds a g are. via 𝓤 _ (fst∗ 𝓤 _ (emp 𝓤)) (walk 𝓛 mem run κs.0 qs.0 a.0 a.1.0 are.1.0.1 C Λ are.0))
 
-placed-meets : {M : Type 1} {𝓤 : Ura M} (𝓛 : Logic 𝓤) → (mem : Memory → SProp 𝓤) (run : Routine → Fun 𝓤) (𝓣 : Tables 𝓤 𝓛.H)
+placed_meets : {M : Type 1} {𝓤 : Ura M} (𝓛 : Logic 𝓤) → (mem : Memory → SProp 𝓤) (run : Routine → Fun 𝓤) (𝓣 : Tables 𝓤 𝓛.H)
     → Meets 𝓛 placed.signature (WpFn 𝓤 𝓛.H 𝓣.C 𝓣.Λ code.function) (placed.spec 𝓛 mem run)
-placed-meets {𝓤 = 𝓤} 𝓛 mem run 𝓣 =
+placed_meets {𝓤 = 𝓤} 𝓛 mem run 𝓣 =
     walk_Meets 𝓛 placed.ended stayed
     (Goes-none_slice 𝓛 1 (0 ∷ []) tt (plain (λ _. u8)) yes, (Goes-none 𝓛 1 (λ _. usize) yes (λ κs x f. refl), tt))
     (placed.clauses 𝓛 mem run) (WpFn 𝓤 𝓛.H 𝓣.C 𝓣.Λ code.function) (WpFn-mono 𝓤 𝓛.H 𝓛.laws 𝓣 code.function)
-    (placed-walks 𝓛 mem run 𝓣.C 𝓣.Λ)
+    (placed_walks 𝓛 mem run 𝓣.C 𝓣.Λ)
 
 pub placed-spec : {M : Type 1} → stated.statement M
 unfolding code.routine tables_of
 placed-spec 𝓤 𝓛 𝓜 𝓡 =
     entered 𝓤 𝓛.H (triple_of 𝓛 placed.signature (placed.spec 𝓛 𝓜.mem 𝓡.run))
     (tables 𝓤 𝓛.H 𝓜 𝓡 code.env).C (tables 𝓤 𝓛.H 𝓜 𝓡 code.env).Λ #reader·placed code.function (code.unfolded 𝓤 𝓛.H 𝓜 𝓡)
-    (placed-meets 𝓛 𝓜.mem 𝓡.run (tables_of 𝓤 𝓛.H 𝓜 (tables 𝓤 𝓛.H 𝓜 𝓡 code.env)))
+    (placed_meets 𝓛 𝓜.mem 𝓡.run (tables_of 𝓤 𝓛.H 𝓜 (tables 𝓤 𝓛.H 𝓜 𝓡 code.env)))

@@ -3,7 +3,7 @@ use borrow.Author.Rules.{rules}
 use Prim.Native.Nat.{ℕ, ◌+◌}
 use mathlib.Core.Path.{refl, ap, ◌∙◌}
 use mathlib.Core.List.{List}
-use Rattle.rules.specs.Names.{countWidth}
+use Rattle.rules.specs.Names.{count_width}
 use Rattle.rules.specs.Bytes.{onto}
 use Rattle.result.proofs.Laws.{round_filled, told_is}
 use Rattle.result.proofs.write.Statement.{statement}
@@ -13,7 +13,7 @@ returns : tie.Need-returns
 returns c =
     let a = c.before.before.before.before.before.before.before.before.before.before.before.before.before.before.before.before in
     let b = c.before.before.before.before.before.before.before.before.before.before.before.before.before.before in
-    let e = ap (λ (w : ℕ). countWidth + w) b.pots-size.ensures.0 in
+    let e = ap (λ (w : ℕ). count_width + w) b.pots-size.ensures.0 in
     let f = round_filled a.args.t a.args.sections _ _ _ e refl
     c.before.before.before.before.before.before.before.before.before.before.pots.ensures
     c.before.before.before.before.before.before.applications.ensures c.before.before.bids.ensures in

@@ -28,6 +28,6 @@ returns-2 c =
     c.before.before.before.before.before.if1.false
     (c.before.before.write.ensures.1 _ h.counted c.before.before.before.before.told.ensures)
 
-pub cleared-spec : {M : Type 1} → statement M
-cleared-spec =
+pub cleared_spec : {M : Type 1} → statement M
+cleared_spec =
     tie.close (tie.spec needed-requires returns (λ c κs. search rules) write-requires (λ c. search rules) returns-2)

@@ -3,9 +3,9 @@ use borrow.Author.Rules.{rules}
 use native.Mathlib.Omega.{arith}
 use mathlib.Core.Path.{ap}
 use lib.ListN.{length}
-use Rattle.rules.specs.File.{techAt}
-use Rattle.layout.proofs.Laws.{read-in}
-use Rattle.rows.proofs.Laws.{tech-room}
+use Rattle.rules.specs.File.{tech_at}
+use Rattle.layout.proofs.Laws.{read_in}
+use Rattle.rows.proofs.Laws.{tech_room}
 use Rattle.rows.proofs.admin_of.Statement.{statement}
 use Rattle.rows.proofs.admin_of.Tie as tie
 
@@ -13,7 +13,7 @@ admin-requires : tie.Need-admin-requires
 admin-requires c κs = (
   omega (
     arith,
-    tech-room _ c.before.before.requires.0.sound _ c.before.before.requires.1,
+    tech_room _ c.before.before.requires.0.sound _ c.before.before.requires.1,
     ap length
         c.technologies.ensures,
   ),
@@ -23,8 +23,8 @@ admin-requires c κs = (
 returns : tie.Need-returns
 returns c =
     let a = c.before.before.before.args in
-    read-in (λ l. (techAt a.sections.years l a.t).admin a.y) c.before.technologies.ensures c.admin.ensures.0
+    read_in (λ l. (tech_at a.sections.years l a.t).admin a.y) c.before.technologies.ensures c.admin.ensures.0
 
-pub admin-of-spec : {M : Type 1} → statement M
-admin-of-spec =
+pub admin_of_spec : {M : Type 1} → statement M
+admin_of_spec =
     tie.close (tie.spec (λ c κs. search rules) admin-requires returns)

@@ -5,7 +5,7 @@ use Prim.Native.Nat.{ℕ}
 use mathlib.Core.Path.{ap, ◌∙◌}
 use mathlib.Core.List.{List}
 use lib.ListN.{length}
-use Rattle.rules.specs.File.{bidAt}
+use Rattle.rules.specs.File.{bid_at}
 use Rattle.rows.proofs.bid_of.Statement.{statement}
 use Rattle.rows.proofs.bid_of.Tie as tie
 
@@ -15,8 +15,8 @@ read-requires c κs = omega (arith, c.before.before.requires.0.sound.bids-whole,
 returns : tie.Need-returns
 returns c =
     let a = c.before.before.before.args in
-    c.read.ensures ∙ ap (λ (l : List ℕ). bidAt l a.k) c.before.bids.ensures
+    c.read.ensures ∙ ap (λ (l : List ℕ). bid_at l a.k) c.before.bids.ensures
 
-pub bid-of-spec : {M : Type 1} → statement M
-bid-of-spec =
+pub bid_of_spec : {M : Type 1} → statement M
+bid_of_spec =
     tie.close (tie.spec (λ c κs. search rules) read-requires returns)

@@ -3,20 +3,20 @@ use borrow.Author.Rules.{rules}
 use native.Mathlib.Omega.{arith}
 use mathlib.Core.Path.{ap}
 use lib.ListN.{length}
-use Rattle.rules.specs.File.{techAt}
-use Rattle.layout.proofs.Laws.{read-in}
-use Rattle.rows.proofs.Laws.{tech-room}
+use Rattle.rules.specs.File.{tech_at}
+use Rattle.layout.proofs.Laws.{read_in}
+use Rattle.rows.proofs.Laws.{tech_room}
 use Rattle.rows.proofs.pot_of.Statement.{statement}
 use Rattle.rows.proofs.pot_of.Tie as tie
 
 pot-requires : tie.Need-pot-requires
-pot-requires c κs = omega (arith, tech-room _ c.before.before.requires.0.sound _ c.before.before.requires.1, ap length c.technologies.ensures)
+pot-requires c κs = omega (arith, tech_room _ c.before.before.requires.0.sound _ c.before.before.requires.1, ap length c.technologies.ensures)
 
 returns : tie.Need-returns
 returns c =
     let a = c.before.before.before.args in
-    read-in (λ l. (techAt a.sections.years l a.t).pot) c.before.technologies.ensures c.pot.ensures.0
+    read_in (λ l. (tech_at a.sections.years l a.t).pot) c.before.technologies.ensures c.pot.ensures.0
 
-pub pot-of-spec : {M : Type 1} → statement M
-pot-of-spec =
+pub pot_of_spec : {M : Type 1} → statement M
+pot_of_spec =
     tie.close (tie.spec (λ c κs. search rules) pot-requires returns)

@@ -17,6 +17,6 @@ returns c = absurd (c.if1.true (ap (λ (x : Answer). x.mask) (c.before.before.be
 returns-2 : tie.Need-returns-2
 returns-2 c = eq-eqb _ _ (ap (λ (x : Answer). x.ways) (c.before.before.before.before.before.before.listing.ensures ∙ sym c.before.before.before.before.before.search.ensures))
 
-pub agree-spec : {M : Type 1} → statement M
-agree-spec =
+pub agree_spec : {M : Type 1} → statement M
+agree_spec =
     tie.close (tie.spec listing-requires search-requires returns returns-2)

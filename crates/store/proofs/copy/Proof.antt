@@ -6,7 +6,7 @@ use borrow.Author.Rules.{rules}
 use lib.ListN.{length, take}
 use lib.Seq.{take_all}
 use Rattle.store.specs.Filled.{Filled}
-use Rattle.store.proofs.Laws.{filled_none, filled-length, copy-turn}
+use Rattle.store.proofs.Laws.{filled_none, filled_length, copy_turn}
 use Rattle.store.proofs.copy.Statement.{statement}
 use Rattle.store.proofs.copy.Tie as tie
 
@@ -20,15 +20,15 @@ loop-holds : tie.Need-loop-init invariant-loop decreases-loop
 loop-holds c = (omega arith, filled_none _)
 
 slice-write-s : tie.Need-slice-write-s invariant-loop decreases-loop
-slice-write-s c = omega (arith, filled-length c.before.before.loop.invariant.1)
+slice-write-s c = omega (arith, filled_length c.before.before.loop.invariant.1)
 
 loop-again : tie.Need-loop-preserved invariant-loop decreases-loop
 loop-again c =
     let l = c.before.before.loop in
-    (omega arith, copy-turn c.before.before.before.args.piece.now l.i (omega arith) (omega arith) l.invariant.1)
+    (omega arith, copy_turn c.before.before.before.args.piece.now l.i (omega arith) (omega arith) l.invariant.1)
 
 same_length : tie.Need-same-length invariant-loop decreases-loop
-same_length c = filled-length c.before.loop.invariant.1
+same_length c = filled_length c.before.loop.invariant.1
 
 returns : tie.Need-returns invariant-loop decreases-loop
 returns c =

@@ -5,7 +5,7 @@ use native.Mathlib.Omega.{arith}
 use borrow.Author.Rules.{rules}
 use Rattle.rules.specs.Bytes.{bytes}
 use Rattle.store.specs.Filled.{Filled}
-use Rattle.store.proofs.Laws.{above, above_more, filled_none, filled-length, put-turn}
+use Rattle.store.proofs.Laws.{above, above_more, filled_none, filled_length, put_turn}
 use Rattle.store.proofs.put.Statement.{statement}
 use Rattle.store.proofs.put.Tie as tie
 
@@ -20,15 +20,15 @@ unfolding bytes above
 loop-holds c = (omega arith, filled_none _, refl)
 
 slice-write-s : tie.Need-slice-write-s invariant-loop decreases-loop
-slice-write-s c = omega (arith, filled-length c.before.loop.invariant.1)
+slice-write-s c = omega (arith, filled_length c.before.loop.invariant.1)
 
 loop-again : tie.Need-loop-preserved invariant-loop decreases-loop
 loop-again c =
     let l = c.before.loop in
-    (omega arith, put-turn c.before.before.args.v l.i l.invariant.1 l.invariant.2 (omega arith), rw (l.invariant.2, above_more))
+    (omega arith, put_turn c.before.before.args.v l.i l.invariant.1 l.invariant.2 (omega arith), rw (l.invariant.2, above_more))
 
 same_length : tie.Need-same-length invariant-loop decreases-loop
-same_length c = filled-length c.before.loop.invariant.1
+same_length c = filled_length c.before.loop.invariant.1
 
 returns : tie.Need-returns invariant-loop decreases-loop
 returns c =

@@ -7,7 +7,7 @@ use borrow.Author.Rules.{rules}
 use lib.ListN.{length, get_or, length-take, length-drop}
 use Rattle.rules.specs.Bytes.{bytes, each}
 use Rattle.store.specs.Filled.{Filled, numbers}
-use Rattle.store.proofs.Laws.{filled_none, filled-length, each_turn, length-bytes, room, mul-more}
+use Rattle.store.proofs.Laws.{filled_none, filled_length, each_turn, length_bytes, room, mul_more}
 use Rattle.store.proofs.put_all.Statement.{statement}
 use Rattle.store.proofs.put_all.Tie as tie
 
@@ -44,9 +44,9 @@ loop-again c =
     let l = c.before.before.before.before.before.before.loop in
     let a = c.before.before.before.before.before.before.before.before.before.args in
     let f : Filled (each (λ k. bytes a.w (get_or a.xs.now (a.from + k) 0)) (l.i + 1)) a.s.now _ =
-    each_turn (λ k. bytes a.w (get_or a.xs.now (a.from + k) 0)) a.w l.i l.at (λ j. length-bytes _ _)
+    each_turn (λ k. bytes a.w (get_or a.xs.now (a.from + k) 0)) a.w l.i l.at (λ j. length_bytes _ _)
     l.invariant.1 l.invariant.3 c.before.before.put.ensures in
-    (omega arith, mul-more l.i a.w l.invariant.1, filled-length f, f)
+    (omega arith, mul_more l.i a.w l.invariant.1, filled_length f, f)
 
 returns : tie.Need-returns invariant-loop decreases-loop
 unfolding numbers
@@ -54,7 +54,7 @@ returns c =
     let e : c.before.loop.i ≡ c.before.before.before.before.args.n = omega arith in
     rw (← e) c.before.loop.invariant.3
 
-pub put-all-spec : {M : Type 1} → statement M
-put-all-spec =
+pub put_all_spec : {M : Type 1} → statement M
+put_all_spec =
     tie.close (tie.spec invariant-loop decreases-loop loop-holds sub-put part-put-start (λ c. search rules) (λ c. search rules) (λ c. search rules) (λ c. search rules)
     put-requires add_at (λ c. search rules) (λ c. search rules) loop-again (λ c. search rules) returns)

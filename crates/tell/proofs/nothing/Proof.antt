@@ -6,6 +6,6 @@ use Rattle.tell.proofs.nothing.Tie as tie
 returns : tie.Need-returns
 returns c = told_none
 
-pub nothing-spec : {M : Type 1} → statement M
-nothing-spec =
+pub nothing_spec : {M : Type 1} → statement M
+nothing_spec =
     tie.close (tie.spec returns)

@@ -2,14 +2,14 @@
 use borrow.Author.Rules.{rules}
 use Prim.Native.Nat.{◌-◌, ◌≤◌}
 use native.Mathlib.Omega.{arith}
-use Rattle.rows.specs.Rows.{roundIn}
+use Rattle.rows.specs.Rows.{round_in}
 use Rattle.tell.specs.ToldTo.{ToldTo}
-use Rattle.tell.proofs.Merge.{told-all}
+use Rattle.tell.proofs.Merge.{told_all}
 use Rattle.tell.proofs.tell.Statement.{statement}
 use Rattle.tell.proofs.tell.Tie as tie
 
 abbrev invariant-loop : tie.invariant-loop
-invariant-loop file sections t₀ n p₀ t p = (p ≤ sections.pots) × ToldTo (roundIn file sections) p t
+invariant-loop file sections t₀ n p₀ t p = (p ≤ sections.pots) × ToldTo (round_in file sections) p t
 
 abbrev decreases-loop : tie.decreases-loop
 decreases-loop file sections t₀ n p₀ t p = n - p
@@ -25,8 +25,8 @@ loop-again c = (omega arith, c.with-pot.ensures c.before.before.loop.invariant.1
 
 returns : tie.Need-returns invariant-loop decreases-loop
 returns c =
-    told-all _ c.before.before.before.before.requires.sound _ _ (omega (arith, c.before.loop.invariant.0, c.loop-test.false)) c.before.loop.invariant.1
+    told_all _ c.before.before.before.before.requires.sound _ _ (omega (arith, c.before.loop.invariant.0, c.loop-test.false)) c.before.loop.invariant.1
 
-pub tell-spec : {M : Type 1} → statement M
-tell-spec =
+pub tell_spec : {M : Type 1} → statement M
+tell_spec =
     tie.close (tie.spec invariant-loop decreases-loop (λ c κs. search rules) loop-holds with-pot-requires (λ c. search rules) (λ c. search rules) loop-again returns)

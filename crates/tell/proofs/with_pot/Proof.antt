@@ -1,7 +1,7 @@
 -- `tell::with_pot` meets its contract: its sheet shows the pot, which is cleared and told.
 use borrow.Author.Rules.{rules}
 use native.Mathlib.Omega.{arith}
-use Rattle.tell.proofs.Merge.{told-next}
+use Rattle.tell.proofs.Merge.{told_next}
 use Rattle.tell.proofs.with_pot.Statement.{statement}
 use Rattle.tell.proofs.with_pot.Tie as tie
 
@@ -23,10 +23,10 @@ with-cleared-requires c κs = (
 
 returns : tie.Need-returns
 returns c = λ T.
-    told-next _ _ _ _ c.before.before.before.before.fill.ensures.1 c.before.before.before.before.fill.ensures.0.0
+    told_next _ _ _ _ c.before.before.before.before.fill.ensures.1 c.before.before.before.before.fill.ensures.0.0
     c.before.before.before.before.before.before.before.before.requires.0.sound
     c.before.before.before.before.before.before.before.before.requires.1 _ c.before.before.clear-pot.ensures _ c.with-cleared.ensures T
 
-pub with-pot-spec : {M : Type 1} → statement M
-with-pot-spec =
+pub with_pot_spec : {M : Type 1} → statement M
+with_pot_spec =
     tie.close (tie.spec (λ c κs. search rules) fill-requires clear-pot-requires with-cleared-requires returns)

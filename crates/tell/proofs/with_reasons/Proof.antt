@@ -4,16 +4,16 @@ use Prim.Native.Nat.{◌-◌, ◌≤◌}
 use mathlib.Core.Logic.{⊎_elim}
 use mathlib.Core.Path.{◌≡◌, ◌∙◌}
 use native.Mathlib.Omega.{arith}
-use Rattle.rules.specs.Names.{noReason}
-use Rattle.sheet.specs.Sheet.{inAuction}
+use Rattle.rules.specs.Names.{no_reason}
+use Rattle.sheet.specs.Sheet.{in_auction}
 use Rattle.arrays.proofs.Laws.{done}
 use Rattle.tell.specs.ToldTo.{merged}
-use Rattle.tell.proofs.Laws.{merged-hit, merged-miss}
+use Rattle.tell.proofs.Laws.{merged_hit, merged_miss}
 use Rattle.tell.proofs.with_reasons.Statement.{statement}
 use Rattle.tell.proofs.with_reasons.Tie as tie
 
 abbrev invariant-loop : tie.invariant-loop
-invariant-loop sheet mine next₀ b k₀ next k = (k ≤ b) × (next ≡ merged (inAuction sheet) mine next₀ noReason k)
+invariant-loop sheet mine next₀ b k₀ next k = (k ≤ b) × (next ≡ merged (in_auction sheet) mine next₀ no_reason k)
 
 abbrev decreases-loop : tie.decreases-loop
 decreases-loop sheet mine next₀ b k₀ next k = b - k
@@ -26,12 +26,12 @@ loop-again : tie.Need-loop-preserved invariant-loop decreases-loop
 loop-again c =
     let inv = c.before.before.before.loop.invariant.1 in
     let q = c.before.in-auction.ensures in
-    (omega arith, ⊎_elim (λ w. w.1 ∙ merged-hit _ _ _ _ _ inv q w.0.taken) (λ w. w.1 ∙ merged-miss _ _ _ _ _ inv q w.0.left) c.if1.branch)
+    (omega arith, ⊎_elim (λ w. w.1 ∙ merged_hit _ _ _ _ _ inv q w.0.taken) (λ w. w.1 ∙ merged_miss _ _ _ _ _ inv q w.0.left) c.if1.branch)
 
 returns : tie.Need-returns invariant-loop decreases-loop
 returns c = done (merged _ _ _ _) c.before.loop.invariant.1 c.before.loop.invariant.0 c.loop-test.false
 
-pub with-reasons-spec : {M : Type 1} → statement M
-with-reasons-spec =
+pub with_reasons_spec : {M : Type 1} → statement M
+with_reasons_spec =
     tie.close (tie.spec invariant-loop decreases-loop loop-holds (λ c κs. search rules) (λ c. search rules) (λ c. search rules) (λ c. search rules)
     (λ c. search rules) (λ c. search rules) (λ c. search rules) loop-again returns)

@@ -6,19 +6,19 @@ use mathlib.Core.Logic.{⊎_elim}
 use Rattle.rules.specs.Lists.{sum}
 use Rattle.rules.specs.Value.{dearest}
 use Rattle.arrays.proofs.Laws.{done}
-use Rattle.totals.specs.Totals.{adminTotalOf}
-use Rattle.totals.proofs.Laws.{admin-hit, admin-miss}
+use Rattle.totals.specs.Totals.{admin_total_of}
+use Rattle.totals.proofs.Laws.{admin_hit, admin_miss}
 use Rattle.totals.proofs.admin_total.Statement.{statement}
 use Rattle.totals.proofs.admin_total.Tie as tie
 
 abbrev invariant-loop : tie.invariant-loop
-invariant-loop sheet of c sum₀ applications a₀ sum a = (a ≤ applications) × (sum ≡ adminTotalOf sheet of c a) × (sum ≤ dearest * a)
+invariant-loop sheet of c sum₀ applications a₀ sum a = (a ≤ applications) × (sum ≡ admin_total_of sheet of c a) × (sum ≤ dearest * a)
 
 abbrev decreases-loop : tie.decreases-loop
 decreases-loop sheet of c sum₀ applications a₀ sum a = applications - a
 
 loop-holds : tie.Need-loop-init invariant-loop decreases-loop
-unfolding adminTotalOf sum
+unfolding admin_total_of sum
 loop-holds c = (omega arith, refl, omega arith)
 
 in-test-requires : tie.Need-in-test-requires invariant-loop decreases-loop
@@ -55,16 +55,16 @@ loop-again c =
     let inv = c.before.before.before.loop.invariant in
     let tested = c.before.in-test.ensures in (
       omega arith,
-      ⊎_elim (λ w. w.3 ∙ admin-hit _ _ _ _ tested inv.1 w.0.taken w.1.ensures w.2.ensures.0)
-          (λ w. w.1 ∙ admin-miss _ _ _ _ tested inv.1 w.0.left)
+      ⊎_elim (λ w. w.3 ∙ admin_hit _ _ _ _ tested inv.1 w.0.taken w.1.ensures w.2.ensures.0)
+          (λ w. w.1 ∙ admin_miss _ _ _ _ tested inv.1 w.0.left)
           c.if1.branch,
       ⊎_elim (λ w. omega (arith, w.2.ensures.1)) (λ w. omega arith) c.if1.branch,
     )
 
 returns : tie.Need-returns invariant-loop decreases-loop
-returns c = done (adminTotalOf _ _ _) c.before.loop.invariant.1 c.before.loop.invariant.0 c.loop-test.false
+returns c = done (admin_total_of _ _ _) c.before.loop.invariant.1 c.before.loop.invariant.0 c.loop-test.false
 
-pub admin-total-spec : {M : Type 1} → statement M
-admin-total-spec =
+pub admin_total_spec : {M : Type 1} → statement M
+admin_total_spec =
     tie.close (tie.spec invariant-loop decreases-loop loop-holds in-test-requires add-valued admin-price-requires valued-requires add-sum (λ c. omega arith)
     (λ c. omega arith) loop-again returns)

@@ -5,19 +5,19 @@ use Prim.Native.Nat.{◌≤◌, ◌-◌}
 use mathlib.Core.Path.{◌≡◌, refl, ◌∙◌}
 use mathlib.Core.Logic.{⊎_elim}
 use Rattle.arrays.proofs.Laws.{done}
-use Rattle.totals.specs.Totals.{fitsTo, rowFits}
+use Rattle.totals.specs.Totals.{fits_to, row_fits}
 use Rattle.totals.proofs.Laws.{fits_not, fits_more}
 use Rattle.totals.proofs.within.Statement.{statement}
 use Rattle.totals.proofs.within.Tie as tie
 
 abbrev invariant-loop : tie.invariant-loop
-invariant-loop sheet row ok₀ limits c₀ ok c = (c ≤ limits) × (ok ≡ rowFits sheet row c)
+invariant-loop sheet row ok₀ limits c₀ ok c = (c ≤ limits) × (ok ≡ row_fits sheet row c)
 
 abbrev decreases-loop : tie.decreases-loop
 decreases-loop sheet row ok₀ limits c₀ ok c = limits - c
 
 loop-holds : tie.Need-loop-init invariant-loop decreases-loop
-unfolding fitsTo
+unfolding fits_to
 loop-holds c = search rules
 
 loop-again : tie.Need-loop-preserved invariant-loop decreases-loop
@@ -28,9 +28,9 @@ loop-again c = (
 )
 
 returns : tie.Need-returns invariant-loop decreases-loop
-returns c = done (fitsTo _ _) c.before.loop.invariant.1 c.before.loop.invariant.0 c.loop-test.false
+returns c = done (fits_to _ _) c.before.loop.invariant.1 c.before.loop.invariant.0 c.loop-test.false
 
-pub within-spec : {M : Type 1} → statement M
-within-spec =
+pub within_spec : {M : Type 1} → statement M
+within_spec =
     tie.close (tie.spec invariant-loop decreases-loop loop-holds (λ c. search rules) (λ c. search rules) (λ c κs. search rules) (λ c. omega arith)
     (λ c. omega arith) loop-again returns)

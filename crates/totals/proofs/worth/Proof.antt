@@ -1,7 +1,7 @@
 -- `totals::worth` meets its contract.
 use borrow.Author.Rules.{rules}
 use native.Mathlib.Omega.{arith}
-use Rattle.totals.proofs.Laws.{worth-is}
+use Rattle.totals.proofs.Laws.{worth_is}
 use Rattle.totals.proofs.worth.Statement.{statement}
 use Rattle.totals.proofs.worth.Tie as tie
 
@@ -17,10 +17,10 @@ valued-requires c κs =
 
 returns : tie.Need-returns
 returns c = record {
-  value = worth-is _ _ _ _ _ c.before.before.admin.ensures c.before.capped.ensures c.valued.ensures.0;
+  value = worth_is _ _ _ _ _ c.before.before.admin.ensures c.before.capped.ensures c.valued.ensures.0;
   small = c.valued.ensures.1;
 }
 
-pub worth-spec : {M : Type 1} → statement M
-worth-spec =
+pub worth_spec : {M : Type 1} → statement M
+worth_spec =
     tie.close (tie.spec (λ c κs. search rules) (λ c κs. search rules) valued-requires returns)

@@ -19,7 +19,7 @@ expect-requires-4 c κs = eq-eqb c.value4.result _ c.value4.ensures.0
 expect-requires-5 : tie.Need-expect-requires-5
 expect-requires-5 c κs = eq-eqb c.value5.result _ c.value5.ensures.0
 
-pub worked-spec : {M : Type 1} → statement M
-worked-spec =
+pub worked_spec : {M : Type 1} → statement M
+worked_spec =
     tie.close (tie.spec (λ c κs. search rules) expect-requires (λ c κs. search rules) expect-requires-2 (λ c κs. search rules) expect-requires-3
     (λ c κs. search rules) expect-requires-4 (λ c κs. search rules) expect-requires-5 (λ c. search rules))

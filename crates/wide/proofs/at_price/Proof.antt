@@ -26,6 +26,6 @@ add-k c = omega (arith, c.before.before.loop-test.true, c.before.before.before.b
 returns : tie.Need-returns invariant-loop decreases-loop
 returns c = tt
 
-pub at-price-spec : {M : Type 1} → statement M
-at-price-spec =
+pub at_price_spec : {M : Type 1} → statement M
+at_price_spec =
     tie.close (tie.spec invariant-loop decreases-loop (λ c. omega arith) in-auction-requires price-requires array-write-set add-k (λ c. search rules) (λ c. search rules) returns)

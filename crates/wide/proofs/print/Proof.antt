@@ -13,6 +13,6 @@ returns c = tt
 returns-2 : tie.Need-returns-2
 returns-2 c = tt
 
-pub print-spec : {M : Type 1} → statement M
-print-spec =
+pub print_spec : {M : Type 1} → statement M
+print_spec =
     tie.close (tie.spec (λ c κs. search rules) (λ c. search rules) tie-requires (λ c. search rules) (λ c κs. search rules) returns returns-2)

@@ -6,6 +6,6 @@ use Rattle.wide.proofs.told.Tie as tie
 returns : tie.Need-returns
 returns c = tt
 
-pub told-spec : {M : Type 1} → statement M
-told-spec =
+pub told_spec : {M : Type 1} → statement M
+told_spec =
     tie.close (tie.spec (λ c. search rules) (λ c κs. search rules) (λ c. search rules) (λ c κs. search rules) (λ c. search rules) (λ c κs. search rules) returns)

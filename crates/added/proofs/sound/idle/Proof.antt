@@ -4,13 +4,13 @@ use native.Mathlib.Omega.{arith}
 use Prim.Native.Nat.{ℕ, ◌-◌, ◌≤◌, ◌<◌}
 use mathlib.Core.Path.{refl}
 use Rattle.laws_pot.specs.Lists.{clash}
-use Rattle.added.specs.Added.{lastWorth}
-use Rattle.added.proofs.Rise.{busy-more}
+use Rattle.added.specs.Added.{last_worth}
+use Rattle.added.proofs.Rise.{busy_more}
 use Rattle.added.proofs.sound.idle.Statement.{statement}
 use Rattle.added.proofs.sound.idle.Tie as tie
 
 abbrev invariant-loop : tie.invariant-loop
-invariant-loop own count last j₀ j = (j ≤ count) × ((i : ℕ) → i < j → 0 < lastWorth own last i)
+invariant-loop own count last j₀ j = (j ≤ count) × ((i : ℕ) → i < j → 0 < last_worth own last i)
 
 abbrev decreases-loop : tie.decreases-loop
 decreases-loop own count last j₀ j = count - j
@@ -34,7 +34,7 @@ returns : tie.Need-returns invariant-loop decreases-loop
 returns c = λ e. clash refl e
 
 loop-again : tie.Need-loop-preserved invariant-loop decreases-loop
-loop-again c = (omega arith, busy-more _ _ c.before.before.before.loop.invariant.1 c.if1.false)
+loop-again c = (omega arith, busy_more _ _ c.before.before.before.loop.invariant.1 c.if1.false)
 
 returns-2 : tie.Need-returns-2 invariant-loop decreases-loop
 returns-2 c = λ e j h. c.before.loop.invariant.1 j (omega (arith, c.loop-test.false))

@@ -11,6 +11,6 @@ returns c = λ e. record { rising = c.rising.ensures e; onto = c.before.before.o
 returns-2 : tie.Need-returns-2
 returns-2 c = λ e. clash e refl
 
-pub sound-spec : {M : Type 1} → statement M
-sound-spec =
+pub sound_spec : {M : Type 1} → statement M
+sound_spec =
     tie.close (tie.spec (λ c κs. search rules) (λ c κs. search rules) returns returns-2)

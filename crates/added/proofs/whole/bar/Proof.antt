@@ -36,6 +36,6 @@ loop-again c = omega (arith, c.before.before.before.loop-test.true)
 returns-2 : tie.Need-returns-2 invariant-loop decreases-loop
 returns-2 c = inr refl
 
-pub bar-spec : {M : Type 1} → statement M
-bar-spec =
+pub bar_spec : {M : Type 1} → statement M
+bar_spec =
     tie.close (tie.spec invariant-loop decreases-loop loop-holds left-requires alone-requires returns add-column loop-less loop-again returns-2)

@@ -4,7 +4,7 @@ use Prim.Native.Nat.{◌-◌}
 use mathlib.Core.Path.{refl}
 use mathlib.Core.Logic.{⊎_elim}
 use Rattle.added.specs.Added.{Least}
-use Rattle.added.proofs.Asked.{least_first, least-less, least-same}
+use Rattle.added.proofs.Asked.{least_first, least_less, least_same}
 use Rattle.added.proofs.whole.least.Statement.{statement}
 use Rattle.added.proofs.whole.least.Tie as tie
 
@@ -30,11 +30,11 @@ loop-less : tie.Need-loop-smaller invariant-loop decreases-loop
 loop-less c = omega (arith, c.before.before.loop-test.true)
 
 loop-again : tie.Need-loop-preserved invariant-loop decreases-loop
-loop-again c = ⊎_elim (λ w. rw w.1 (least-less _ _ _ c.before.before.before.loop.invariant c.before.alone2.ensures.0 w.0.taken)) (λ w. rw w.1 (least-same _ _ _ c.before.before.before.loop.invariant c.before.alone2.ensures.0 w.0.left)) c.if1.branch
+loop-again c = ⊎_elim (λ w. rw w.1 (least_less _ _ _ c.before.before.before.loop.invariant c.before.alone2.ensures.0 w.0.taken)) (λ w. rw w.1 (least_same _ _ _ c.before.before.before.loop.invariant c.before.alone2.ensures.0 w.0.left)) c.if1.branch
 
 returns : tie.Need-returns invariant-loop decreases-loop
 returns c = (refl, λ place l. c.before.loop.invariant place (omega (arith, c.loop-test.false)))
 
-pub least-spec : {M : Type 1} → statement M
-least-spec =
+pub least_spec : {M : Type 1} → statement M
+least_spec =
     tie.close (tie.spec invariant-loop decreases-loop alone-requires loop-holds alone-requires-2 add-place loop-less loop-again returns)

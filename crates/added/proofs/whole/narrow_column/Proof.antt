@@ -2,9 +2,9 @@
 use native.Mathlib.Omega.{arith}
 use Prim.Native.Nat.{◌-◌, ◌≤◌}
 use lib.Pow.{pow_pos}
-use Rattle.sheet.proofs.Columns.{columns-few}
-use Rattle.ties.proofs.Laws.{power-low}
-use Rattle.added.proofs.Asked.{narrows-at}
+use Rattle.sheet.proofs.Columns.{columns_few}
+use Rattle.ties.proofs.Laws.{power_low}
+use Rattle.added.proofs.Asked.{narrows_at}
 use Rattle.added.proofs.whole.narrow_column.Statement.{statement}
 use Rattle.added.proofs.whole.narrow_column.Tie as tie
 
@@ -21,25 +21,25 @@ sub-all : tie.Need-overflow-sub-all invariant-loop decreases-loop
 sub-all c = omega (arith, c.power.ensures, pow_pos c.before.args.count)
 
 union-requires : tie.Need-union-requires invariant-loop decreases-loop
-union-requires c κs = (c.before.requires.0.tables, omega (arith, c.power.ensures, pow_pos c.before.args.count, power-low c.before.requires.1))
+union-requires c κs = (c.before.requires.0.tables, omega (arith, c.power.ensures, pow_pos c.before.args.count, power_low c.before.requires.1))
 
 loop-holds : tie.Need-loop-init invariant-loop decreases-loop
 loop-holds c = omega arith
 
 joint-requires : tie.Need-joint-requires invariant-loop decreases-loop
-joint-requires c κs = (record { tables = c.before.before.before.before.requires.0.tables; number = omega (arith, c.before.before.before.power.ensures, pow_pos c.before.before.before.before.args.count, power-low c.before.before.before.before.requires.1); years = c.before.before.union.ensures.1 }, omega (arith, c.loop-test.true, columns-few c.before.before.before.before.requires.0.ready))
+joint-requires c κs = (record { tables = c.before.before.before.before.requires.0.tables; number = omega (arith, c.before.before.before.power.ensures, pow_pos c.before.before.before.before.args.count, power_low c.before.before.before.before.requires.1); years = c.before.before.union.ensures.1 }, omega (arith, c.loop-test.true, columns_few c.before.before.before.before.requires.0.ready))
 
 limit-requires : tie.Need-limit-requires invariant-loop decreases-loop
-limit-requires c κs = omega (arith, c.before.loop-test.true, columns-few c.before.before.before.before.before.requires.0.ready)
+limit-requires c κs = omega (arith, c.before.loop-test.true, columns_few c.before.before.before.before.before.requires.0.ready)
 
 least-requires : tie.Need-least-requires invariant-loop decreases-loop
-least-requires c κs = (c.before.before.before.before.before.before.before.requires.0.tables, c.before.before.before.before.before.before.before.requires.1, omega (arith, c.before.before.before.loop-test.true, columns-few c.before.before.before.before.before.before.before.requires.0.ready))
+least-requires c κs = (c.before.before.before.before.before.before.before.requires.0.tables, c.before.before.before.before.before.before.before.requires.1, omega (arith, c.before.before.before.loop-test.true, columns_few c.before.before.before.before.before.before.before.requires.0.ready))
 
 returns : tie.Need-returns invariant-loop decreases-loop
-returns c = narrows-at _ _ c.before.before.before.before.loop-test.true c.least.ensures.0 c.least.ensures.1
+returns c = narrows_at _ _ c.before.before.before.before.loop-test.true c.least.ensures.0 c.least.ensures.1
 
 add-c : tie.Need-overflow-add-c invariant-loop decreases-loop
-add-c c = omega (arith, c.before.before.before.loop-test.true, columns-few c.before.before.before.before.before.before.before.requires.0.ready)
+add-c c = omega (arith, c.before.before.before.loop-test.true, columns_few c.before.before.before.before.before.before.before.requires.0.ready)
 
 loop-less : tie.Need-loop-smaller invariant-loop decreases-loop
 loop-less c = omega (arith, c.before.before.before.loop-test.true)
@@ -51,8 +51,8 @@ least-requires-2 : tie.Need-least-requires-2 invariant-loop decreases-loop
 least-requires-2 c κs = (c.before.before.before.before.requires.0.tables, c.before.before.before.before.requires.1, omega arith)
 
 returns-2 : tie.Need-returns-2 invariant-loop decreases-loop
-returns-2 c = narrows-at _ _ (omega (arith, c.before.before.before.before.before.requires.0.ready.some, c.before.before.before.before.before.requires.0.ready.columns-least)) c.least2.ensures.0 c.least2.ensures.1
+returns-2 c = narrows_at _ _ (omega (arith, c.before.before.before.before.before.requires.0.ready.some, c.before.before.before.before.before.requires.0.ready.columns-least)) c.least2.ensures.0 c.least2.ensures.1
 
-pub narrow-column-spec : {M : Type 1} → statement M
-narrow-column-spec =
+pub narrow_column_spec : {M : Type 1} → statement M
+narrow_column_spec =
     tie.close (tie.spec invariant-loop decreases-loop power-requires sub-all union-requires loop-holds joint-requires limit-requires least-requires returns add-c loop-less loop-again least-requires-2 returns-2)

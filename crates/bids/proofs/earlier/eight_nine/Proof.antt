@@ -1,7 +1,7 @@
 -- `bids::earlier::eight_nine` meets its contract: the bids from `left` on are walked. Assumes nothing.
 use borrow.Author.Rules.{rules}
 use native.Mathlib.Omega.{arith}
-use Rattle.bids.proofs.Chains.{Walked, walk_start, walk-on, eight-found, nine-counted}
+use Rattle.bids.proofs.Chains.{Walked, walk_start, walk_on, eight_found, nine_counted}
 use Rattle.bids.proofs.earlier.eight_nine.Statement.{statement}
 use Rattle.bids.proofs.earlier.eight_nine.Tie as tie
 
@@ -21,7 +21,7 @@ same-price-requires : tie.Need-same-price-requires invariant-loop decreases-loop
 same-price-requires c κs = (omega (arith, c.before.loop.invariant.within), omega arith)
 
 returns : tie.Need-returns invariant-loop decreases-loop
-returns c = eight-found _ _ _ (omega (arith, c.before.before.before.loop.invariant.within)) c.before.same-price.ensures c.if1.true
+returns c = eight_found _ _ _ (omega (arith, c.before.before.before.loop.invariant.within)) c.before.same-price.ensures c.if1.true
 
 same-app-requires : tie.Need-same-app-requires invariant-loop decreases-loop
 same-app-requires c κs = (omega (arith, c.before.before.before.loop.invariant.within), omega arith)
@@ -49,13 +49,13 @@ loop-again c =
     let if1 = c.before.before.before.if1 in
     let p = c.before.before.before.before in
     let l = p.before.before in
-    walk-on _ _ _ _ _ _ l.loop.invariant (omega arith) c.next.ensures p.same-price.ensures if1.false c.before.before.same-app.ensures
+    walk_on _ _ _ _ _ _ l.loop.invariant (omega arith) c.next.ensures p.same-price.ensures if1.false c.before.before.same-app.ensures
     c.before.same-year.ensures
 
 returns-2 : tie.Need-returns-2 invariant-loop decreases-loop
-returns-2 c = nine-counted _ _ _ _ _ c.before.before.loop.invariant c.before.loop-test.false c.nine.ensures
+returns-2 c = nine_counted _ _ _ _ _ c.before.before.loop.invariant c.before.loop-test.false c.nine.ensures
 
-pub eight-nine-spec : {M : Type 1} → statement M
-eight-nine-spec =
+pub eight_nine_spec : {M : Type 1} → statement M
+eight_nine_spec =
     tie.close (tie.spec invariant-loop decreases-loop start-requires loop-holds (λ c. search rules) same-price-requires returns same-app-requires add-of-app
     same-year-requires add-of-year next-requires loop-less loop-again (λ c κs. search rules) returns-2)

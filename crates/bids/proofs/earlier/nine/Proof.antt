@@ -1,19 +1,19 @@
 -- `bids::earlier::nine` meets its contract: one law for each way out. Assumes nothing.
 use native.Mathlib.Omega.{arith}
 use mathlib.Core.Path.{sym}
-use Rattle.laws_reading.specs.Walk.{given_yes, given-no}
+use Rattle.laws_reading.specs.Walk.{given_yes, given_no}
 use Rattle.bids.proofs.earlier.nine.Statement.{statement}
 use Rattle.bids.proofs.earlier.nine.Tie as tie
 
 returns : tie.Need-returns
-returns c = sym (given-no _ _ _ (λ h. omega arith))
+returns c = sym (given_no _ _ _ (λ h. omega arith))
 
 returns-2 : tie.Need-returns-2
-returns-2 c = sym (given-no _ _ _ (λ h. omega arith))
+returns-2 c = sym (given_no _ _ _ (λ h. omega arith))
 
 returns-3 : tie.Need-returns-3
 returns-3 c = sym (given_yes _ _ _ (omega arith))
 
-pub nine-spec : {M : Type 1} → statement M
-nine-spec =
+pub nine_spec : {M : Type 1} → statement M
+nine_spec =
     tie.close (tie.spec returns returns-2 returns-3)

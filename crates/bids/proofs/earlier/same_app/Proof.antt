@@ -1,7 +1,7 @@
 -- `bids::earlier::same_app` meets its contract: one law for each way out. Assumes nothing.
 use native.Mathlib.Omega.{arith}
 use mathlib.Core.Path.{sym}
-use Rattle.laws_reading.specs.Walk.{given_yes, given-no}
+use Rattle.laws_reading.specs.Walk.{given_yes, given_no}
 use borrow.Author.Rules.{rules}
 use Rattle.bids.proofs.earlier.same_app.Statement.{statement}
 use Rattle.bids.proofs.earlier.same_app.Tie as tie
@@ -10,8 +10,8 @@ returns : tie.Need-returns
 returns c = (sym (given_yes _ _ _ (omega arith)), omega arith)
 
 returns-2 : tie.Need-returns-2
-returns-2 c = (sym (given-no _ _ _ (λ h. omega arith)), omega arith)
+returns-2 c = (sym (given_no _ _ _ (λ h. omega arith)), omega arith)
 
-pub same-app-spec : {M : Type 1} → statement M
-same-app-spec =
+pub same_app_spec : {M : Type 1} → statement M
+same_app_spec =
     tie.close (tie.spec (λ c κs. search rules) (λ c κs. search rules) returns returns-2)

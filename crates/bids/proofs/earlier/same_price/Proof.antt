@@ -1,7 +1,7 @@
 -- `bids::earlier::same_price` meets its contract: one law for each way out. Assumes nothing.
 use native.Mathlib.Omega.{arith}
 use mathlib.Core.Path.{sym}
-use Rattle.laws_reading.specs.Walk.{given_yes, given-no}
+use Rattle.laws_reading.specs.Walk.{given_yes, given_no}
 use borrow.Author.Rules.{rules}
 use Rattle.bids.proofs.earlier.same_price.Statement.{statement}
 use Rattle.bids.proofs.earlier.same_price.Tie as tie
@@ -10,11 +10,11 @@ returns : tie.Need-returns
 returns c = sym (given_yes _ _ _ (omega arith))
 
 returns-2 : tie.Need-returns-2
-returns-2 c = sym (given-no _ _ _ (λ h. omega arith))
+returns-2 c = sym (given_no _ _ _ (λ h. omega arith))
 
 returns-3 : tie.Need-returns-3
-returns-3 c = sym (given-no _ _ _ (λ h. omega arith))
+returns-3 c = sym (given_no _ _ _ (λ h. omega arith))
 
-pub same-price-spec : {M : Type 1} → statement M
-same-price-spec =
+pub same_price_spec : {M : Type 1} → statement M
+same_price_spec =
     tie.close (tie.spec (λ c κs. search rules) (λ c κs. search rules) (λ c κs. search rules) (λ c κs. search rules) returns returns-2 returns-3)

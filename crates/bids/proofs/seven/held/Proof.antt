@@ -2,8 +2,8 @@
 use native.Mathlib.Omega.{arith}
 use mathlib.Core.Path.{ap}
 use lib.ListN.{length}
-use Rattle.rules.specs.Names.{techWidth}
-use Rattle.bids.proofs.Laws.{held-is, tech-known, record-whole}
+use Rattle.rules.specs.Names.{tech_width}
+use Rattle.bids.proofs.Laws.{held_is, tech_known, record_whole}
 use borrow.Author.Rules.{rules}
 use Rattle.bids.proofs.seven.held.Statement.{statement}
 use Rattle.bids.proofs.seven.held.Tie as tie
@@ -22,8 +22,8 @@ admin-requires c κs =
     let applications = c.before.before.before.before.applications in
     let read = c.before.before.before.read in
     let a = c.before.before.before.before.before.before.args in
-    let t = tech-known _ _ _ pre.0 applications.ensures read.ensures pre.1 in (
-      record-whole _ _ (techWidth a.done.years) t (omega (arith, pre.0.techs-whole, ap length c.technologies.ensures)),
+    let t = tech_known _ _ _ pre.0 applications.ensures read.ensures pre.1 in (
+      record_whole _ _ (tech_width a.done.years) t (omega (arith, pre.0.techs-whole, ap length c.technologies.ensures)),
       omega (arith, pre.0.few, pre.2),
     )
 
@@ -33,7 +33,7 @@ returns c =
     let applications = c.before.before.before.before.before.before.applications in
     let read = c.before.before.before.before.before.read in
     let days = c.before.before.before.days in
-    held-is _ _ _ years.ensures c.before.before.technologies.ensures applications.ensures c.judge.ensures read.ensures days.ensures.0
+    held_is _ _ _ years.ensures c.before.before.technologies.ensures applications.ensures c.judge.ensures read.ensures days.ensures.0
     c.before.admin.ensures.0
 
 pub held_spec : {M : Type 1} → statement M

@@ -1,7 +1,7 @@
 -- `branches::greatest::fall` meets its contract.
 use native.Mathlib.Omega.{arith}
 use mathlib.Core.Path.{refl}
-use Rattle.branches.proofs.Best.{lasting, fallen-short, fallen-all, over}
+use Rattle.branches.proofs.Best.{lasting, fallen_short, fallen_all, over}
 use Rattle.branches.proofs.greatest.fall.Statement.{statement}
 use Rattle.branches.proofs.greatest.fall.Tie as tie
 
@@ -15,10 +15,10 @@ shorts-requires : tie.Need-shorts-requires
 shorts-requires c κs = (lasting c.before.before.before.requires.0.0, c.before.before.before.requires.1.0, c.before.before.before.requires.1.1)
 
 returns : tie.Need-returns
-returns c = fallen-short _ _ _ c.before.before.before.before.requires.0.0.ready c.before.before.limit.ensures c.shorts.ensures
+returns c = fallen_short _ _ _ c.before.before.before.before.requires.0.0.ready c.before.before.limit.ensures c.shorts.ensures
 
 returns-2 : tie.Need-returns-2
-returns-2 c = fallen-all _ _ _ (λ m. over _ _ _ c.before.before.before.before.requires.0.0.ready c.before.before.limit.ensures c.if2.true m)
+returns-2 c = fallen_all _ _ _ (λ m. over _ _ _ c.before.before.before.before.requires.0.0.ready c.before.before.limit.ensures c.if2.true m)
 
 ends-requires : tie.Need-ends-requires
 ends-requires c κs = (c.before.before.before.before.requires.0, (c.before.before.before.before.requires.1.0, c.before.before.before.before.requires.1.1, record { places = 15; is = refl }))
@@ -42,8 +42,8 @@ shorts-requires-2 : tie.Need-shorts-requires-2
 shorts-requires-2 c κs = (lasting c.before.before.before.before.before.before.before.before.before.before.requires.0.0, c.before.before.before.before.before.before.before.before.before.before.requires.1.0, c.before.before.before.before.before.before.before.before.before.before.requires.1.1)
 
 returns-6 : tie.Need-returns-6
-returns-6 c = fallen-short _ _ _ c.before.before.before.before.before.before.before.before.before.before.before.requires.0.0.ready c.before.before.before.before.before.before.before.before.before.limit.ensures c.shorts2.ensures
+returns-6 c = fallen_short _ _ _ c.before.before.before.before.before.before.before.before.before.before.before.requires.0.0.ready c.before.before.before.before.before.before.before.before.before.limit.ensures c.shorts2.ensures
 
-pub fall-spec : {M : Type 1} → statement M
-fall-spec =
+pub fall_spec : {M : Type 1} → statement M
+fall_spec =
     tie.close (tie.spec sub-limit limit-requires shorts-requires returns returns-2 ends-requires returns-3 ends-requires-2 returns-4 ends-requires-3 returns-5 shorts-requires-2 returns-6)

@@ -1,6 +1,6 @@
 -- `branches::scan::above` meets its contract.
 use native.Mathlib.Omega.{arith}
-use Rattle.branches.proofs.Scans.{upper_is, years-low}
+use Rattle.branches.proofs.Scans.{upper_is, years_low}
 use Rattle.branches.proofs.scan.above.Statement.{statement}
 use Rattle.branches.proofs.scan.above.Tie as tie
 
@@ -36,11 +36,11 @@ returns c = (
   upper_is _ _ _ c.before.before.before.before.before.part-years.ensures.0 c.before.before.before.before.part-years2.ensures.0 c.before.before.before.part-years3.ensures.0 c.before.before.part-cost.ensures.0 c.before.part-cost2.ensures.0
       c.part-cost3.ensures.0,
   record {
-    years = years-low _ _ c.before.before.before.before.before.part-years.ensures.1 (years-low _ _ c.before.before.before.before.part-years2.ensures.1 c.before.before.before.part-years3.ensures.1);
+    years = years_low _ _ c.before.before.before.before.before.part-years.ensures.1 (years_low _ _ c.before.before.before.before.part-years2.ensures.1 c.before.before.before.part-years3.ensures.1);
     sum = omega (arith, c.before.before.part-cost.ensures.1, c.before.part-cost2.ensures.1, c.part-cost3.ensures.1);
   },
 )
 
-pub above-spec : {M : Type 1} → statement M
-above-spec =
+pub above_spec : {M : Type 1} → statement M
+above_spec =
     tie.close (tie.spec sub-c part-years-requires part-years-requires-2 part-years-requires-3 part-cost-requires part-cost-requires-2 part-cost-requires-3 add-t16 add-t17 returns)

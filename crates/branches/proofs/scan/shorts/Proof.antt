@@ -4,15 +4,15 @@ use native.Mathlib.Omega.{arith}
 use Prim.Native.Nat.{◌+◌, ◌*◌, ◌≤◌}
 use mathlib.Core.Path.{◌≡◌}
 use mathlib.Core.Logic.{inl, inr, ⊎_elim}
-use Rattle.combinations.specs.Combinations.{partSize}
+use Rattle.combinations.specs.Combinations.{part_size}
 use Rattle.ties.specs.Ties.{last_by}
-use Rattle.branches.specs.Branches.{upperOf, Upright}
-use Rattle.branches.proofs.Scans.{Passing, shorts-more, shorts-are, shorts-from}
+use Rattle.branches.specs.Branches.{upper_of, Upright}
+use Rattle.branches.proofs.Scans.{Passing, shorts_more, shorts_are, shorts_from}
 use Rattle.branches.proofs.scan.shorts.Statement.{statement}
 use Rattle.branches.proofs.scan.shorts.Tie as tie
 
 abbrev invariant-loop : tie.invariant-loop
-invariant-loop of table goal limit left head up from end₀ end = (head * partSize + end ≤ left) × (end ≤ partSize) × ((up ≡ upperOf of table head) × Upright up) × Passing (last_by of table) goal limit (head * partSize + end) left
+invariant-loop of table goal limit left head up from end₀ end = (head * part_size + end ≤ left) × (end ≤ part_size) × ((up ≡ upper_of of table head) × Upright up) × Passing (last_by of table) goal limit (head * part_size + end) left
 
 abbrev decreases-loop : tie.decreases-loop
 decreases-loop of table goal limit left head up from end₀ end = end
@@ -45,7 +45,7 @@ sub-result-2 : tie.Need-overflow-sub-result-2 invariant-loop decreases-loop
 sub-result-2 c = omega (arith, c.before.before.before.before.loop.invariant.0)
 
 returns : tie.Need-returns invariant-loop decreases-loop
-returns c = shorts-are _ _ _ c.before.before.before.before.loop.invariant.0 c.before.before.before.before.loop.invariant.3
+returns c = shorts_are _ _ _ c.before.before.before.before.loop.invariant.0 c.before.before.before.before.loop.invariant.3
 
 sub-end-2 : tie.Need-overflow-sub-end-2 invariant-loop decreases-loop
 sub-end-2 c = omega (arith, c.before.before.loop-test.true)
@@ -58,15 +58,15 @@ loop-again c = let inv = c.before.before.before.loop.invariant in (
   omega (arith, inv.0),
   omega (arith, inv.1),
   inv.2,
-  shorts-more _ _ _ inv.2.0 _ _ _ _ c.before.before.loop-test.true inv.1 c.before.total.ensures (⊎_elim (λ w. inr w.1.left) (λ w. inl w.left) c.if1.branch) inv.3,
+  shorts_more _ _ _ inv.2.0 _ _ _ _ c.before.before.loop-test.true inv.1 c.before.total.ensures (⊎_elim (λ w. inr w.1.left) (λ w. inl w.left) c.if1.branch) inv.3,
 )
 
 sub-result-3 : tie.Need-overflow-sub-result-3 invariant-loop decreases-loop
 sub-result-3 c = omega (arith, c.before.before.before.requires.1)
 
 returns-2 : tie.Need-returns-2 invariant-loop decreases-loop
-returns-2 c = shorts-from _ _ c.loop-test.false (omega (arith, c.before.before.before.requires.1)) c.before.loop.invariant.3
+returns-2 c = shorts_from _ _ c.loop-test.false (omega (arith, c.before.before.before.requires.1)) c.before.loop.invariant.3
 
-pub shorts-spec : {M : Type 1} → statement M
-shorts-spec =
+pub shorts_spec : {M : Type 1} → statement M
+shorts_spec =
     tie.close (tie.spec invariant-loop decreases-loop sub-head (λ c. search rules) above-requires mul-from sub-end loop-holds sub-total (λ c. search rules) total-requires sub-result sub-result-2 returns sub-end-2 loop-less loop-again sub-result-3 returns-2)

@@ -8,6 +8,6 @@ use Rattle.combinations.proofs.places.power.Tie as tie
 returns : tie.Need-returns
 returns c = simp one-mul (mod-eq_of_lt (pow-lt c.requires))
 
-pub power-spec : {M : Type 1} → statement M
-power-spec =
+pub power_spec : {M : Type 1} → statement M
+power_spec =
     tie.close (tie.spec (λ c. search rules) returns)

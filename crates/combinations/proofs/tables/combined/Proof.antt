@@ -6,19 +6,19 @@ use mathlib.Core.Logic.{⊎_elim}
 use Rattle.rules.specs.Value.{dearest}
 use Rattle.arrays.proofs.Laws.{done}
 use Rattle.sheet.specs.Sheet.{columns}
-use Rattle.combinations.specs.Combinations.{combinedOf}
-use Rattle.combinations.proofs.Laws.{combined-hit, combined-miss}
+use Rattle.combinations.specs.Combinations.{combined_of}
+use Rattle.combinations.proofs.Laws.{combined_hit, combined_miss}
 use Rattle.combinations.proofs.tables.combined.Statement.{statement}
 use Rattle.combinations.proofs.tables.combined.Tie as tie
 
 abbrev invariant-loop : tie.invariant-loop
-invariant-loop own mask c tied sum₀ count j₀ sum j = (j ≤ count) × (sum ≡ combinedOf own tied.ranks mask c j) × (sum ≤ dearest * j)
+invariant-loop own mask c tied sum₀ count j₀ sum j = (j ≤ count) × (sum ≡ combined_of own tied.ranks mask c j) × (sum ≤ dearest * j)
 
 abbrev decreases-loop : tie.decreases-loop
 decreases-loop own mask c tied sum₀ count j₀ sum j = count - j
 
 loop-holds : tie.Need-loop-init invariant-loop decreases-loop
-unfolding combinedOf
+unfolding combined_of
 loop-holds c = (omega arith, refl, omega arith)
 
 mul-member : tie.Need-overflow-mul-member invariant-loop decreases-loop
@@ -64,7 +64,7 @@ loop-again : tie.Need-loop-preserved invariant-loop decreases-loop
 loop-again c = let l = c.before.before.before.before.loop in
     let m = c.before.member.ensures in (
       omega arith,
-      ⊎_elim (λ w. w.2 ∙ combined-hit _ _ _ m _ _ l.invariant.1 w.0.taken) (λ w. w.1 ∙ combined-miss _ _ _ m _ _ l.invariant.1 w.0.left) c.if1.branch,
+      ⊎_elim (λ w. w.2 ∙ combined_hit _ _ _ m _ _ l.invariant.1 w.0.taken) (λ w. w.1 ∙ combined_miss _ _ _ m _ _ l.invariant.1 w.0.left) c.if1.branch,
       ⊎_elim (λ w. omega (
         arith,
         w.2,
@@ -74,9 +74,9 @@ loop-again c = let l = c.before.before.before.before.loop in
     )
 
 returns : tie.Need-returns invariant-loop decreases-loop
-returns c = done (combinedOf _ _ _ _) c.before.loop.invariant.1 c.before.loop.invariant.0 c.loop-test.false
+returns c = done (combined_of _ _ _ _) c.before.loop.invariant.1 c.before.loop.invariant.0 c.loop-test.false
 
-pub combined-spec : {M : Type 1} → statement M
-combined-spec =
+pub combined_spec : {M : Type 1} → statement M
+combined_spec =
     tie.close (tie.spec invariant-loop decreases-loop loop-holds mul-member element-copy-out-member member-requires mul-sum add-sum mul-sum-2 element-copy-out-sum
     add-sum-2 (λ c. omega arith) (λ c. omega arith) loop-again returns)

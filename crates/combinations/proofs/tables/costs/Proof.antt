@@ -5,16 +5,16 @@ use Prim.Native.Nat.{ℕ, ◌≤◌, ◌<◌, ◌-◌, ◌*◌}
 use mathlib.Core.Path.{◌≡◌, refl, ◌∙◌}
 use mathlib.Core.Logic.{⊎_elim}
 use mathlib.Core.List.{List}
-use Rattle.arrays.proofs.Laws.{fill-next}
+use Rattle.arrays.proofs.Laws.{fill_next}
 use Rattle.arrays.specs.Sets.{fill}
-use Rattle.combinations.specs.Combinations.{parts, partRows, onesOf, costAt, noCosts}
-use Rattle.combinations.proofs.Parts.{cost-stays, cost-next, cost-le, costs-end}
+use Rattle.combinations.specs.Combinations.{parts, part_rows, ones_of, cost_at, no_costs}
+use Rattle.combinations.proofs.Parts.{cost_stays, cost_next, cost_le, costs_end}
 use Rattle.combinations.proofs.tables.costs.Statement.{statement}
 use Rattle.combinations.proofs.tables.costs.Tie as tie
 
 abbrev invariant-loop : tie.invariant-loop
 invariant-loop own one out₀ end i₀ out i =
-    (i ≤ end) × (end ≤ parts * partRows) × ((ranks : List ℕ) (k : ℕ) → one ≡ onesOf own ranks k → out ≡ fill noCosts (costAt own ranks k) i)
+    (i ≤ end) × (end ≤ parts * part_rows) × ((ranks : List ℕ) (k : ℕ) → one ≡ ones_of own ranks k → out ≡ fill no_costs (cost_at own ranks k) i)
 
 abbrev decreases-loop : tie.decreases-loop
 decreases-loop own one out₀ end i₀ out i = end - i
@@ -26,7 +26,7 @@ mul-end : tie.Need-overflow-mul-end invariant-loop decreases-loop
 mul-end c = omega (arith, c.parts-of.ensures.1)
 
 loop-holds : tie.Need-loop-init invariant-loop decreases-loop
-unfolding fill noCosts
+unfolding fill no_costs
 loop-holds c = (omega arith, omega (arith, c.parts-of.ensures.1), λ ranks k e. refl)
 
 top-requires : tie.Need-top-requires invariant-loop decreases-loop
@@ -72,12 +72,12 @@ add-out : tie.Need-overflow-add-out invariant-loop decreases-loop
 add-out c = let g = c.before.before.before.before.before.before.before.requires in
     let e = c.before.before.before.before.before.before.ones.ensures in
     let inv = c.before.before.before.before.loop.invariant in
-    let n = cost-next _ _ _ _ _ (inv.2 _ _ e) e (omega (arith, c.before.before.before.loop-test.true, inv.1)) c.before.top.ensures.0
+    let n = cost_next _ _ _ _ _ (inv.2 _ _ e) e (omega (arith, c.before.before.before.loop-test.true, inv.1)) c.before.top.ensures.0
     c.before.top.ensures.1 c.before.top.ensures.2 c.power.ensures in
     omega (
       arith,
       n,
-      cost-le _ c.before.before.before.before.before.before.before.args.tied.ranks _ c.before.before.before.before.loop.i
+      cost_le _ c.before.before.before.before.before.before.before.args.tied.ranks _ c.before.before.before.before.loop.i
           g.placed.few g.bids,
     )
 
@@ -89,23 +89,23 @@ array-write-out c = omega (arith, c.before.before.before.loop-test.true, c.befor
 
 loop-again : tie.Need-loop-preserved invariant-loop decreases-loop
 loop-again c = let inv = c.before.before.loop.invariant in
-    let h : c.before.before.loop.i < parts * partRows = omega (arith, c.before.loop-test.true, inv.1) in (
+    let h : c.before.before.loop.i < parts * part_rows = omega (arith, c.before.loop-test.true, inv.1) in (
       omega arith,
       inv.1,
       λ ranks k e. ⊎_elim
-          (λ w. w.3 ∙ fill-next _ _ _ (inv.2 ranks k e)
-          (cost-next _ _ _ _ _ (inv.2 ranks k e) e h w.1.ensures.0 w.1.ensures.1 w.1.ensures.2 w.2.ensures))
-          (λ w. w.1 ∙ cost-stays _ _ _ _ (inv.2 ranks k e) h w.0.left) c.if1.branch,
+          (λ w. w.3 ∙ fill_next _ _ _ (inv.2 ranks k e)
+          (cost_next _ _ _ _ _ (inv.2 ranks k e) e h w.1.ensures.0 w.1.ensures.1 w.1.ensures.2 w.2.ensures))
+          (λ w. w.1 ∙ cost_stays _ _ _ _ (inv.2 ranks k e) h w.0.left) c.if1.branch,
     )
 
 returns : tie.Need-returns invariant-loop decreases-loop
 returns c = let inv = c.before.loop.invariant in
     let p = c.before.before.parts-of.ensures in
-    costs-end _ _ _ c.before.before.before.before.requires.placed.ranks (inv.2 _ _ c.before.before.before.ones.ensures) inv.0
+    costs_end _ _ _ c.before.before.before.before.requires.placed.ranks (inv.2 _ _ c.before.before.before.ones.ensures) inv.0
     c.loop-test.false p.0 p.1
 
-pub costs-spec : {M : Type 1} → statement M
-costs-spec =
+pub costs_spec : {M : Type 1} → statement M
+costs_spec =
     tie.close (tie.spec invariant-loop decreases-loop (λ c κs. search rules) parts-of-requires mul-end loop-holds top-requires (λ c. search rules) cast-power
     power-requires (λ c. search rules) mul-alone add-alone mul-alone-2 add-alone-2 mul-alone-3 array-read-alone mul-out sub_out mul-out-2
     array-read-out add-out mul-out-3 array-write-out (λ c. omega arith) (λ c. omega arith) loop-again returns)

@@ -3,7 +3,7 @@ use borrow.Author.Rules.{rules}
 use native.Mathlib.Omega.{arith}
 use Prim.Native.Nat.{◌+◌, ◌*◌}
 use Rattle.sheet.specs.Sheet.{columns}
-use Rattle.combinations.proofs.Laws.{joint-is}
+use Rattle.combinations.proofs.Laws.{joint_is}
 use Rattle.combinations.proofs.tables.joint.Statement.{statement}
 use Rattle.combinations.proofs.tables.joint.Tie as tie
 
@@ -51,10 +51,10 @@ add-result-5 c =
 
 returns : tie.Need-returns
 returns c =
-    joint-is _ _ _ _ c.before.before.before.before.part-cost.ensures.0 c.before.before.before.part-cost2.ensures.0
+    joint_is _ _ _ _ c.before.before.before.before.part-cost.ensures.0 c.before.before.before.part-cost2.ensures.0
     c.before.before.part-cost3.ensures.0 c.before.part-cost4.ensures.0
 
-pub joint-spec : {M : Type 1} → statement M
-joint-spec =
+pub joint_spec : {M : Type 1} → statement M
+joint_spec =
     tie.close (tie.spec (λ c κs. search rules) (λ c κs. search rules) (λ c κs. search rules) (λ c κs. search rules) (λ c. search rules)
     (λ c. search rules) (λ c. search rules) (λ c. search rules) add-result-2 add-result-3 add-result-4 add-result-5 returns)

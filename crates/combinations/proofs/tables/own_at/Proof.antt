@@ -13,6 +13,6 @@ returns c = own_in _ _ _ _ _ c.before.before.if1.true c.worth.ensures.value
 returns-2 : tie.Need-returns-2
 returns-2 c = own_out _ _ _ _ _ c.if1.false
 
-pub own-at-spec : {M : Type 1} → statement M
-own-at-spec =
+pub own_at_spec : {M : Type 1} → statement M
+own_at_spec =
     tie.close (tie.spec (λ c. search rules) (λ c. search rules) worth-requires returns returns-2)

@@ -3,13 +3,13 @@ use borrow.Author.Rules.{rules}
 use native.Mathlib.Omega.{arith}
 use Prim.Native.Nat.{◌+◌, ◌*◌}
 use mathlib.Core.Path.{refl}
-use Rattle.combinations.specs.Combinations.{datesAt, partSize}
+use Rattle.combinations.specs.Combinations.{dates_at, part_size}
 use Rattle.combinations.proofs.tables.part_years.Statement.{statement}
 use Rattle.combinations.proofs.tables.part_years.Tie as tie
 
 returns : tie.Need-returns
-returns c = let a = c.before.args in (refl, c.before.requires.tables.years (datesAt + a.part * partSize + a.v) (omega arith))
+returns c = let a = c.before.args in (refl, c.before.requires.tables.years (dates_at + a.part * part_size + a.v) (omega arith))
 
-pub part-years-spec : {M : Type 1} → statement M
-part-years-spec =
+pub part_years_spec : {M : Type 1} → statement M
+part_years_spec =
     tie.close (tie.spec (λ c. search rules) (λ c. search rules) (λ c. search rules) (λ c. search rules) (λ c. search rules) returns)

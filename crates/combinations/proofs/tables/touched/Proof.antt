@@ -5,19 +5,19 @@ use Prim.Native.Nat.{◌≤◌, ◌<◌, ◌-◌}
 use mathlib.Core.Path.{◌≡◌, ◌∙◌}
 use mathlib.Core.Logic.{⊎_elim}
 use Rattle.arrays.proofs.Laws.{done}
-use Rattle.combinations.specs.Combinations.{yearSets, touchedOf}
-use Rattle.combinations.proofs.Laws.{touched-hit, touched-miss}
+use Rattle.combinations.specs.Combinations.{year_sets, touched_of}
+use Rattle.combinations.proofs.Laws.{touched_hit, touched_miss}
 use Rattle.combinations.proofs.tables.touched.Statement.{statement}
 use Rattle.combinations.proofs.tables.touched.Tie as tie
 
 abbrev invariant-loop : tie.invariant-loop
-invariant-loop mask tied t₀ count j₀ t j = (j ≤ count) × (t ≡ touchedOf tied.ranks tied.starts mask j) × (t < yearSets)
+invariant-loop mask tied t₀ count j₀ t j = (j ≤ count) × (t ≡ touched_of tied.ranks tied.starts mask j) × (t < year_sets)
 
 abbrev decreases-loop : tie.decreases-loop
 decreases-loop mask tied t₀ count j₀ t j = count - j
 
 loop-holds : tie.Need-loop-init invariant-loop decreases-loop
-unfolding touchedOf
+unfolding touched_of
 loop-holds c = search rules
 
 mul-member : tie.Need-overflow-mul-member invariant-loop decreases-loop
@@ -46,15 +46,15 @@ loop-again : tie.Need-loop-preserved invariant-loop decreases-loop
 loop-again c =
     let inv = c.before.before.before.before.loop.invariant in (
       omega arith,
-      ⊎_elim (λ w. w.3 ∙ touched-hit _ _ _ c.before.member.ensures _ inv.1 w.0.taken w.2.ensures.0)
-          (λ w. w.1 ∙ touched-miss _ _ _ c.before.member.ensures _ inv.1 w.0.left) c.if1.branch,
+      ⊎_elim (λ w. w.3 ∙ touched_hit _ _ _ c.before.member.ensures _ inv.1 w.0.taken w.2.ensures.0)
+          (λ w. w.1 ∙ touched_miss _ _ _ c.before.member.ensures _ inv.1 w.0.left) c.if1.branch,
       ⊎_elim (λ w. omega (arith, w.3, w.2.ensures.1)) (λ w. omega (arith, w.1)) c.if1.branch,
     )
 
 returns : tie.Need-returns invariant-loop decreases-loop
-returns c = (done (touchedOf _ _ _) c.before.loop.invariant.1 c.before.loop.invariant.0 c.loop-test.false, c.before.loop.invariant.2)
+returns c = (done (touched_of _ _ _) c.before.loop.invariant.1 c.before.loop.invariant.0 c.loop-test.false, c.before.loop.invariant.2)
 
-pub touched-spec : {M : Type 1} → statement M
-touched-spec =
+pub touched_spec : {M : Type 1} → statement M
+touched_spec =
     tie.close (tie.spec invariant-loop decreases-loop loop-holds mul-member element-copy-out-member member-requires mul-touch element-copy-out-touch touch-requires
     (λ c. omega arith) (λ c. omega arith) loop-again returns)

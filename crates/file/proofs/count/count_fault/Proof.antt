@@ -1,15 +1,15 @@
 -- `file::count::count_fault` meets its contract: the file ends early, or the count is judged as it stands. Assumes nothing.
 use native.Mathlib.Omega.{arith}
 use borrow.Author.Rules.{rules}
-use Rattle.file.proofs.Laws.{count-short, count-whole}
+use Rattle.file.proofs.Laws.{count_short, count_whole}
 use Rattle.file.proofs.count.count_fault.Statement.{statement}
 use Rattle.file.proofs.count.count_fault.Tie as tie
 
 returns : tie.Need-returns
-returns c = count-short _ _ _ _ _ (omega arith)
+returns c = count_short _ _ _ _ _ (omega arith)
 
 returns-2 : tie.Need-returns-2
-returns-2 c = count-whole _ _ _ _ _ (omega arith) c.before.count_at.ensures.0 c.range-fault.ensures
+returns-2 c = count_whole _ _ _ _ _ (omega arith) c.before.count_at.ensures.0 c.range-fault.ensures
 
-pub count-fault-spec : {M : Type 1} → statement M
-count-fault-spec = tie.close (tie.spec (λ c κs. search rules) returns (λ c κs. search rules) (λ c κs. search rules) returns-2)
+pub count_fault_spec : {M : Type 1} → statement M
+count_fault_spec = tie.close (tie.spec (λ c κs. search rules) returns (λ c κs. search rules) (λ c κs. search rules) returns-2)

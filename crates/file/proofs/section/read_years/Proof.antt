@@ -3,16 +3,16 @@ use borrow.Author.Rules.{rules}
 use native.Mathlib.Omega.{arith}
 use Prim.Native.Nat.{◌≤◌}
 use lib.ListN.{length}
-use Rattle.rules.specs.Names.{countWidth}
-use Rattle.file.proofs.Laws.{counted, years-refused, years-read}
+use Rattle.rules.specs.Names.{count_width}
+use Rattle.file.proofs.Laws.{counted, years_refused, years_read}
 use Rattle.file.proofs.section.read_years.Statement.{statement}
 use Rattle.file.proofs.section.read_years.Tie as tie
 
 returns : tie.Need-returns
-returns c = years-refused _ c.before.count-fault.ensures c.if1.true
+returns c = years_refused _ c.before.count-fault.ensures c.if1.true
 
 -- once the count is accepted, it stands in the file
-room : (c : tie.Else1) → countWidth ≤ length c.before.before.before.args.file.now
+room : (c : tie.Else1) → count_width ≤ length c.before.before.before.args.file.now
 room c = (counted _ _ _ _ _ c.before.count-fault.ensures c.if1.false).0
 
 count-at-requires : tie.Need-count-at-requires
@@ -25,9 +25,9 @@ returns-2 : tie.Need-returns-2
 returns-2 c =
     let k = c.before.before in
     let o = k.before in
-    years-read _ o.before.count-fault.ensures o.if1.false k.count_at.ensures.0 c.before.records-after.ensures.0 c.years.ensures
+    years_read _ o.before.count-fault.ensures o.if1.false k.count_at.ensures.0 c.before.records-after.ensures.0 c.years.ensures
 
-pub read-years-spec : {M : Type 1} → statement M
-read-years-spec =
+pub read_years_spec : {M : Type 1} → statement M
+read_years_spec =
     tie.close (tie.spec (λ c κs. search rules) returns count-at-requires (λ c. search rules) (λ c. search rules) (λ c κs. search rules) years-requires
     returns-2)

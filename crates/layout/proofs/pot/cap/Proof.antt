@@ -7,5 +7,5 @@ use Rattle.layout.proofs.pot.cap.Tie as tie
 returns : tie.Need-returns
 returns c = (read_at 4 _ _ c.before.place.ensures c.le32.ensures.0, c.le32.ensures.1)
 
-pub cap-spec : {M : Type 1} → statement M
-cap-spec = tie.close (tie.spec (λ c κs. search rules) (λ c. search rules) (λ c. search rules) (λ c κs. search rules) returns)
+pub cap_spec : {M : Type 1} → statement M
+cap_spec = tie.close (tie.spec (λ c κs. search rules) (λ c. search rules) (λ c. search rules) (λ c κs. search rules) returns)

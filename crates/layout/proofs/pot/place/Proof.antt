@@ -11,5 +11,5 @@ mul-result c = omega (arith, times c.before.args.p c.width.ensures)
 returns : tie.Need-returns
 returns c = times _ c.width.ensures
 
-pub place-spec : {M : Type 1} → statement M
-place-spec = tie.close (tie.spec (λ c κs. search rules) mul-result returns)
+pub place_spec : {M : Type 1} → statement M
+place_spec = tie.close (tie.spec (λ c κs. search rules) mul-result returns)

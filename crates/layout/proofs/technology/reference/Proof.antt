@@ -7,7 +7,7 @@ use Rattle.layout.proofs.technology.reference.Tie as tie
 returns : tie.Need-returns
 returns c = (read_at 4 _ _ c.before.place.ensures c.le32.ensures.0, c.le32.ensures.1)
 
-pub reference-spec : {M : Type 1} → statement M
-reference-spec =
+pub reference_spec : {M : Type 1} → statement M
+reference_spec =
     tie.close (tie.spec (λ c κs. search rules) (λ c. search rules) (λ c. search rules) (λ c. search rules) (λ c κs. search rules)
     returns)

@@ -2,7 +2,7 @@
 use Prim.Native.Nat.{◌≤◌, ◌-◌}
 use native.Mathlib.Omega.{arith}
 use borrow.Author.Rules.{rules}
-use Rattle.rows.proofs.Laws.{good, its-tech}
+use Rattle.rows.proofs.Laws.{good, its_tech}
 use Rattle.pencil.proofs.valued.bid.Statement.{statement}
 use Rattle.pencil.proofs.valued.bid.Tie as tie
 
@@ -28,7 +28,7 @@ year-requires c κs =
     let g = good _ p.sound _ (omega (arith, pre.1)) at.before.bid-of.ensures in (
       record {
         held = p;
-        tech = its-tech _ p.sound _ g.app at.application-of.ensures;
+        tech = its_tech _ p.sound _ g.app at.application-of.ensures;
         days = g.days;
         capacity = g.capacity;
         price = g.price;
@@ -36,7 +36,7 @@ year-requires c κs =
       c.loop-test.true,
     )
 
-pub bid-spec : {M : Type 1} → statement M
-bid-spec =
+pub bid_spec : {M : Type 1} → statement M
+bid_spec =
     tie.close (tie.spec invariant-loop decreases-loop bid-of-requires application-of-requires (λ c. search rules) (λ c κs. search rules) (λ c. search rules)
     (λ c κs. search rules) (λ c. search rules) year-requires (λ c. search rules) (λ c. search rules) (λ c. search rules) (λ c. search rules))

@@ -6,10 +6,10 @@ use mathlib.Core.Path.{◌≡◌, ◌∙◌}
 use mathlib.Core.Logic.{⊎_elim}
 use Rattle.rules.specs.Lists.{sift}
 use Rattle.sheet.specs.Sheet.{entrants}
-use Rattle.sheet.proofs.Entrants.{entrant-small, entrants-few}
+use Rattle.sheet.proofs.Entrants.{entrant_small, entrants_few}
 use Rattle.pot.specs.Marks.{live_of, look_of}
-use Rattle.pot.proofs.Laws.{app-ok, year-ok, live-is}
-use Rattle.pot.proofs.Seen.{pass-hit, pass-miss, pass-few, pass-looked}
+use Rattle.pot.proofs.Laws.{app_ok, year_ok, live_is}
+use Rattle.pot.proofs.Seen.{pass_hit, pass_miss, pass_few, pass_looked}
 use Rattle.pot.proofs.PotState.look.Statement.{statement}
 use Rattle.pot.proofs.PotState.look.Tie as tie
 
@@ -24,14 +24,14 @@ unfolding look_of entrants
 loop-holds c = search rules
 
 entrant-requires : tie.Need-entrant-requires invariant-loop decreases-loop
-entrant-requires c κs = omega (arith, c.loop-test.true, entrants-few c.before.before.requires.ready, c.before.before.requires.ready.few)
+entrant-requires c κs = omega (arith, c.loop-test.true, entrants_few c.before.before.requires.ready, c.before.before.requires.ready.few)
 
 app-requires : tie.Need-app-requires invariant-loop decreases-loop
 app-requires c κs =
     omega (
       arith,
       c.entrant.ensures,
-      entrant-small c.before.before.before.requires.ready _ c.before.loop-test.true,
+      entrant_small c.before.before.before.requires.ready _ c.before.loop-test.true,
       c.before.before.before.requires.ready.few,
     )
 
@@ -40,7 +40,7 @@ year-requires c κs =
     omega (
       arith,
       c.before.entrant.ensures,
-      entrant-small c.before.before.before.before.requires.ready _ c.before.before.loop-test.true,
+      entrant_small c.before.before.before.before.requires.ready _ c.before.before.loop-test.true,
       c.before.before.before.before.requires.ready.few,
     )
 
@@ -49,7 +49,7 @@ mul-live c =
     omega (
       arith,
       c.before.before.entrant.ensures,
-      entrant-small c.before.before.before.before.before.requires.ready _ c.before.before.before.loop-test.true,
+      entrant_small c.before.before.before.before.before.requires.ready _ c.before.before.before.loop-test.true,
       c.before.before.before.before.before.requires.ready.few,
     )
 
@@ -58,27 +58,27 @@ element-copy-out-live c =
     omega (
       arith,
       c.before.before.entrant.ensures,
-      entrant-small c.before.before.before.before.before.requires.ready _ c.before.before.before.loop-test.true,
+      entrant_small c.before.before.before.before.before.requires.ready _ c.before.before.before.loop-test.true,
       c.before.before.before.before.before.requires.ready.few,
     )
 
 element-copy-out-live-2 : tie.Need-element-copy-out-live-2 invariant-loop decreases-loop
 element-copy-out-live-2 c =
-    app-ok _ c.before.before.before.before.before.before.requires.ready
+    app_ok _ c.before.before.before.before.before.before.requires.ready
     (omega (
       arith,
       c.before.before.before.entrant.ensures,
-      entrant-small c.before.before.before.before.before.before.requires.ready _ c.before.before.before.before.loop-test.true,
+      entrant_small c.before.before.before.before.before.before.requires.ready _ c.before.before.before.before.loop-test.true,
     ))
     c.before.before.app.ensures
 
 element-copy-out-live-3 : tie.Need-element-copy-out-live-3 invariant-loop decreases-loop
 element-copy-out-live-3 c =
-    year-ok _ c.before.before.before.before.before.before.before.requires.ready
+    year_ok _ c.before.before.before.before.before.before.before.requires.ready
     (omega (
       arith,
       c.before.before.before.before.entrant.ensures,
-      entrant-small c.before.before.before.before.before.before.before.requires.ready _ c.before.before.before.before.before.loop-test.true,
+      entrant_small c.before.before.before.before.before.before.before.requires.ready _ c.before.before.before.before.before.loop-test.true,
     ))
     c.before.before.year.ensures
 
@@ -87,7 +87,7 @@ price-requires c κs =
     omega (
       arith,
       c.before.before.before.before.before.before.before.entrant.ensures,
-      entrant-small c.before.before.before.before.before.before.before.before.before.before.requires.ready _
+      entrant_small c.before.before.before.before.before.before.before.before.before.before.requires.ready _
           c.before.before.before.before.before.before.before.before.loop-test.true,
       c.before.before.before.before.before.before.before.before.before.before.requires.ready.few,
     )
@@ -96,8 +96,8 @@ joined-requires : tie.Need-joined-requires invariant-loop decreases-loop
 joined-requires c κs =
     omega (
       arith,
-      pass-few _ _ _ c.before.before.before.before.before.before.before.before.before.before.loop.invariant.1,
-      entrants-few c.before.before.before.before.before.before.before.before.before.before.before.requires.ready,
+      pass_few _ _ _ c.before.before.before.before.before.before.before.before.before.before.loop.invariant.1,
+      entrants_few c.before.before.before.before.before.before.before.before.before.before.before.requires.ready,
       c.before.before.before.before.before.before.before.before.before.before.before.requires.ready.few,
     )
 
@@ -106,15 +106,15 @@ loop-again c = (
   omega arith,
   let inv = c.before.before.before.before.before.before.before.before.before.loop.invariant.1 in
       let k = c.before.before.before.before.before.before.before.entrant.ensures in
-      let alive = live-is _ _ _ c.before.before.before.before.before.before.app.ensures c.before.before.before.before.before.year.ensures
+      let alive = live_is _ _ _ c.before.before.before.before.before.before.app.ensures c.before.before.before.before.before.year.ensures
       c.before.live.ensures in
-      ⊎_elim (λ w. w.3 ∙ pass-hit _ _ _ inv k alive w.0.taken w.1.ensures w.2.ensures) (λ w. w.1 ∙ pass-miss _ _ _ inv k alive w.0.left)
+      ⊎_elim (λ w. w.3 ∙ pass_hit _ _ _ inv k alive w.0.taken w.1.ensures w.2.ensures) (λ w. w.1 ∙ pass_miss _ _ _ inv k alive w.0.left)
       c.if1.branch,
 )
 
 returns : tie.Need-returns invariant-loop decreases-loop
 returns c =
-    pass-looked _ _ _ c.before.before.requires.ready c.before.before.requires.others c.before.loop.invariant.1 c.before.loop.invariant.0
+    pass_looked _ _ _ c.before.before.requires.ready c.before.before.requires.others c.before.loop.invariant.1 c.before.loop.invariant.0
     c.loop-test.false
 
 pub look_spec : {M : Type 1} → statement M

@@ -8,6 +8,6 @@ returns : tie.Need-returns
 unfolding widened
 returns c = refl
 
-pub too-wide-spec : {M : Type 1} → statement M
-too-wide-spec =
+pub too_wide_spec : {M : Type 1} → statement M
+too_wide_spec =
     tie.close (tie.spec returns)

@@ -4,33 +4,33 @@ use native.Mathlib.Omega.{arith}
 use Prim.Native.Nat.{◌≤◌, ◌-◌}
 use mathlib.Core.Path.{◌≡◌, ◌∙◌}
 use mathlib.Core.Logic.{⊎_elim}
-use Rattle.arrays.proofs.Laws.{done-by}
+use Rattle.arrays.proofs.Laws.{done_by}
 use Rattle.arrays.specs.Sets.{members}
-use Rattle.pot.specs.Marks.{turnAll}
-use Rattle.pot.proofs.Laws.{turnAll-hit, turnAll-miss}
+use Rattle.pot.specs.Marks.{turn_all}
+use Rattle.pot.proofs.Laws.{turn_all_hit, turn_all_miss}
 use Rattle.pot.proofs.PotState.turn_all.Statement.{statement}
 use Rattle.pot.proofs.PotState.turn_all.Tie as tie
 
 abbrev invariant-loop : tie.invariant-loop
-invariant-loop sheet of v l t₀ m i₀ t i = (i ≤ m) × (t ≡ turnAll sheet v t₀ (members l i))
+invariant-loop sheet of v l t₀ m i₀ t i = (i ≤ m) × (t ≡ turn_all sheet v t₀ (members l i))
 
 abbrev decreases-loop : tie.decreases-loop
 decreases-loop sheet of v l t₀ m i₀ t i = m - i
 
 loop-holds : tie.Need-loop-init invariant-loop decreases-loop
-unfolding turnAll members
+unfolding turn_all members
 loop-holds c = search rules
 
 loop-again : tie.Need-loop-preserved invariant-loop decreases-loop
 loop-again c = (
   omega arith,
-  ⊎_elim (λ w. w.2 ∙ turnAll-hit _ _ _ _ _ w.0.taken c.before.before.loop.invariant.1 w.1.ensures)
-      (λ w. w.1 ∙ turnAll-miss _ _ _ _ _ w.0.left c.before.before.loop.invariant.1) c.if1.branch,
+  ⊎_elim (λ w. w.2 ∙ turn_all_hit _ _ _ _ _ w.0.taken c.before.before.loop.invariant.1 w.1.ensures)
+      (λ w. w.1 ∙ turn_all_miss _ _ _ _ _ w.0.left c.before.before.loop.invariant.1) c.if1.branch,
 )
 
 returns : tie.Need-returns invariant-loop decreases-loop
-returns c = done-by (turnAll _ _ _) (members _) c.before.loop.invariant.1 c.before.loop.invariant.0 c.loop-test.false
+returns c = done_by (turn_all _ _ _) (members _) c.before.loop.invariant.1 c.before.loop.invariant.0 c.loop-test.false
 
-pub turn-all-spec : {M : Type 1} → statement M
-turn-all-spec =
+pub turn_all_spec : {M : Type 1} → statement M
+turn_all_spec =
     tie.close (tie.spec invariant-loop decreases-loop loop-holds (λ c. search rules) (λ c κs. search rules) (λ c. omega arith) (λ c. omega arith) loop-again returns)

@@ -10,6 +10,6 @@ returns c = and_yes c.if1.true refl
 returns-2 : tie.Need-returns-2
 returns-2 c = and_no _ c.if1.false
 
-pub at-spec : {M : Type 1} → statement M
-at-spec =
+pub at_spec : {M : Type 1} → statement M
+at_spec =
     tie.close (tie.spec returns returns-2)

@@ -13,6 +13,6 @@ returns-2 c = and_yes (eq-eqb _ _ c.before.if1.false) (rw c.if2.true)
 returns-3 : tie.Need-returns-3
 returns-3 c = and_yes (eq-eqb _ _ c.before.if1.false) (rw c.if2.false)
 
-pub live-spec : {M : Type 1} → statement M
-live-spec =
+pub live_spec : {M : Type 1} → statement M
+live_spec =
     tie.close (tie.spec returns returns-2 returns-3)

@@ -10,7 +10,7 @@ invariant-loop recs years gained y₀ y = y ≤ years
 abbrev decreases-loop : tie.decreases-loop
 decreases-loop recs years gained y₀ y = years - y
 
-pub budget-high-spec : {M : Type 1} → statement M
-budget-high-spec =
+pub budget_high_spec : {M : Type 1} → statement M
+budget_high_spec =
     tie.close (tie.spec invariant-loop decreases-loop (λ c. search rules) (λ c κs. search rules) (λ c. search rules) (λ c. search rules) (λ c. search rules)
     (λ c. search rules) (λ c. search rules))

@@ -14,6 +14,6 @@ mul-on c = let a = c.before.args in omega (arith, few_bytes 65536 1000000 a.n a.
 returns : tie.Need-returns
 returns c = c.on2.ensures.0 ∙ ap (λ (x : ℕ). min (x + c.before.before.args.n * c.before.before.args.width) beyond) c.before.on.ensures.0
 
-pub after-spec : {M : Type 1} → statement M
-after-spec =
+pub after_spec : {M : Type 1} → statement M
+after_spec =
     tie.close (tie.spec (λ c κs. search rules) mul-on (λ c κs. search rules) returns)

@@ -2,7 +2,7 @@
 use native.Mathlib.Omega.{arith}
 use mathlib.Core.Path.{refl}
 use Rattle.branches.proofs.Best.{lasting}
-use Rattle.branches.proofs.Over.{passed-left, passed-others}
+use Rattle.branches.proofs.Over.{passed_left, passed_others}
 use Rattle.search.proofs.kept.rise.Statement.{statement}
 use Rattle.search.proofs.kept.rise.Tie as tie
 
@@ -34,11 +34,11 @@ others-requires : tie.Need-others-requires
 others-requires c κs = (lasting c.before.before.before.requires.0.0, omega (arith, c.before.before.before.requires.1))
 
 returns-5 : tie.Need-returns-5
-returns-5 c = passed-left c.before.before.others.ensures c.if6.true
+returns-5 c = passed_left c.before.before.others.ensures c.if6.true
 
 returns-6 : tie.Need-returns-6
-returns-6 c = passed-others c.before.before.others.ensures c.if6.false
+returns-6 c = passed_others c.before.before.others.ensures c.if6.false
 
-pub rise-spec : {M : Type 1} → statement M
-rise-spec =
+pub rise_spec : {M : Type 1} → statement M
+rise_spec =
     tie.close (tie.spec passed-requires returns passed-requires-2 returns-2 passed-requires-3 returns-3 passed-requires-4 returns-4 others-requires returns-5 returns-6)

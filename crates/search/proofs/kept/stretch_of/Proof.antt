@@ -40,6 +40,6 @@ loop-again c = (omega (arith, c.before.before.loop-test.true), below_more (λ j.
 returns-2 : tie.Need-returns-2 invariant-loop decreases-loop
 returns-2 c = record { few = omega arith; past = λ j l. c.before.loop.invariant.1 j (omega (arith, c.loop-test.false)); here = λ l. absurd (omega arith) }
 
-pub stretch-of-spec : {M : Type 1} → statement M
-stretch-of-spec =
+pub stretch_of_spec : {M : Type 1} → statement M
+stretch_of_spec =
     tie.close (tie.spec invariant-loop decreases-loop loop-holds add-if1 mul-if1 element-copy-out-if1 returns add-k loop-less loop-again returns-2)

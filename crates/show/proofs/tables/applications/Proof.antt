@@ -10,7 +10,7 @@ invariant-loop recs n a₀ a = a ≤ n
 abbrev decreases-loop : tie.decreases-loop
 decreases-loop recs n a₀ a = n - a
 
-pub applications-spec : {M : Type 1} → statement M
-applications-spec =
+pub applications_spec : {M : Type 1} → statement M
+applications_spec =
     tie.close (tie.spec invariant-loop decreases-loop (λ c. search rules) (λ c κs. search rules) (λ c. search rules) (λ c κs. search rules) (λ c. search rules)
     (λ c. search rules) (λ c. search rules) (λ c. search rules))

@@ -10,7 +10,7 @@ invariant-loop recs n k₀ k = k ≤ n
 abbrev decreases-loop : tie.decreases-loop
 decreases-loop recs n k₀ k = n - k
 
-pub bids-spec : {M : Type 1} → statement M
-bids-spec =
+pub bids_spec : {M : Type 1} → statement M
+bids_spec =
     tie.close (tie.spec invariant-loop decreases-loop (λ c. search rules) (λ c κs. search rules) (λ c. search rules) (λ c κs. search rules) (λ c. search rules)
     (λ c. search rules) (λ c. search rules) (λ c. search rules))

@@ -10,7 +10,7 @@ invariant-loop recs years gained p y₀ y = y ≤ years
 abbrev decreases-loop : tie.decreases-loop
 decreases-loop recs years gained p y₀ y = years - y
 
-pub budgets-spec : {M : Type 1} → statement M
-budgets-spec =
+pub budgets_spec : {M : Type 1} → statement M
+budgets_spec =
     tie.close (tie.spec invariant-loop decreases-loop (λ c. search rules) (λ c κs. search rules) (λ c. search rules) (λ c. search rules) (λ c. search rules)
     (λ c. search rules))

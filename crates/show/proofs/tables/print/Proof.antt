@@ -29,7 +29,7 @@ bids-requires-2 c κs =
     let pre = c.before.before.before.before.before.before.before.before.before.before.requires in
     omega (arith, pre.sound.bids-whole, ap length c.bids.ensures)
 
-pub print-spec : {M : Type 1} → statement M
-print-spec =
+pub print_spec : {M : Type 1} → statement M
+print_spec =
     tie.close (tie.spec (λ c κs. search rules) years-requires-2 (λ c κs. search rules) pots-requires-2 (λ c κs. search rules) technologies-requires-2
     (λ c κs. search rules) applications-requires-2 (λ c κs. search rules) bids-requires-2 (λ c. search rules))

@@ -10,7 +10,7 @@ invariant-loop recs years t y₀ y = y ≤ years
 abbrev decreases-loop : tie.decreases-loop
 decreases-loop recs years t y₀ y = years - y
 
-pub technology-years-spec : {M : Type 1} → statement M
-technology-years-spec =
+pub technology_years_spec : {M : Type 1} → statement M
+technology_years_spec =
     tie.close (tie.spec invariant-loop decreases-loop (λ c. search rules) (λ c κs. search rules) (λ c. search rules) (λ c. search rules) (λ c. search rules)
     (λ c. search rules))

@@ -10,7 +10,7 @@ invariant-loop recs n y₀ y = y ≤ n
 abbrev decreases-loop : tie.decreases-loop
 decreases-loop recs n y₀ y = n - y
 
-pub years-spec : {M : Type 1} → statement M
-years-spec =
+pub years_spec : {M : Type 1} → statement M
+years_spec =
     tie.close (tie.spec invariant-loop decreases-loop (λ c. search rules) (λ c κs. search rules) (λ c. search rules) (λ c κs. search rules) (λ c. search rules)
     (λ c. search rules) (λ c. search rules) (λ c. search rules))

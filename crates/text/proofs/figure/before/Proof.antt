@@ -6,23 +6,23 @@ use native.Mathlib.Omega.{arith}
 use borrow.Author.Rules.{rules}
 use mir.Facts.{Fits-below}
 use lib.ListN.{length, length-set}
-use Rattle.text.specs.Figure.{longest, mostPlaces}
+use Rattle.text.specs.Figure.{longest, most_places}
 use Rattle.text.proofs.figure.before.Statement.{statement}
 use Rattle.text.proofs.figure.before.Tie as tie
 
 -- the most that a tenth of a machine's number is
-abbrev mostTenth : ℕ
-mostTenth = 1844674407370955161
+abbrev most_tenth : ℕ
+most_tenth = 1844674407370955161
 
 abbrev invariant-loop : tie.invariant-loop
 invariant-loop places₀ at₀ tenth upper₀ lower₀ i₀ places at upper lower i =
-    (i ≤ 28) × (at + i + i / 3 ≡ at₀) × (lower < 2 ^ 64) × (tenth ≤ mostTenth) × (longest ≤ at₀) × (at₀ ≤ mostPlaces) × (length places ≡ mostPlaces)
+    (i ≤ 28) × (at + i + i / 3 ≡ at₀) × (lower < 2 ^ 64) × (tenth ≤ most_tenth) × (longest ≤ at₀) × (at₀ ≤ most_places) × (length places ≡ most_places)
 
 abbrev decreases-loop : tie.decreases-loop
 decreases-loop places₀ at₀ tenth upper₀ lower₀ i₀ places at upper lower i = 28 - i
 
 -- the lower column, over ten, with what the upper leaves over
-tenths : (u : ℕ) {t l : ℕ} → t ≤ mostTenth → l < 2 ^ 64 → u % 10 * t + l / 10 < 2 ^ 64
+tenths : (u : ℕ) {t l : ℕ} → t ≤ most_tenth → l < 2 ^ 64 → u % 10 * t + l / 10 < 2 ^ 64
 tenths u h k =
     let digit : u % 10 ≤ 9 = omega arith in
     omega (arith, mul-le-mul digit h)
@@ -53,8 +53,8 @@ returns-2 c =
     let inv = c.before.loop.invariant in
     (record { long = inv.6; starts = omega (arith, inv.1, inv.5) }, omega (arith, inv.0, inv.1))
 
-pub before-spec : {M : Type 1} → statement M
-before-spec =
+pub before_spec : {M : Type 1} → statement M
+before_spec =
     tie.close (tie.spec invariant-loop decreases-loop (λ c. search rules) (λ c. search rules) (λ c. search rules) (λ c. search rules) (λ c. search rules)
     mul-lower add-lower returns (λ c. search rules) (λ c. search rules) (λ c. search rules)
     (λ c. search rules) loop-again (λ c. search rules) loop-again-2 returns-2)

@@ -3,8 +3,8 @@ use borrow.Author.Rules.{rules}
 use native.Mathlib.Omega.{arith}
 use Prim.Native.Nat.{◌+◌, ◌*◌}
 use Rattle.sheet.specs.Sheet.{columns}
-use Rattle.sheet.proofs.Columns.{columns-few}
-use Rattle.ties.proofs.Laws.{pow-at, alone-is}
+use Rattle.sheet.proofs.Columns.{columns_few}
+use Rattle.ties.proofs.Laws.{pow_at, alone_is}
 use Rattle.ties.proofs.alone.alone_total.Statement.{statement}
 use Rattle.ties.proofs.alone.alone_total.Tie as tie
 
@@ -16,7 +16,7 @@ power-requires c κs = omega (arith, c.year.ensures, c.before.requires.0.ready.y
 
 element-copy-out-result : tie.Need-element-copy-out-result
 element-copy-out-result c = let g = c.before.before.requires.0 in
-    omega (arith, g.column, columns-few g.ready, pow-at _ c.before.year.ensures (g.ready.year _ g.bid) c.power.ensures)
+    omega (arith, g.column, columns_few g.ready, pow_at _ c.before.year.ensures (g.ready.year _ g.bid) c.power.ensures)
 
 add-result-2 : tie.Need-overflow-add-result-2
 add-result-2 c =
@@ -27,9 +27,9 @@ add-result-2 c =
     )
 
 returns : tie.Need-returns
-returns c = alone-is _ _ _ _ _ _ c.before.before.before.year.ensures c.before.before.power.ensures c.worth.ensures.value
+returns c = alone_is _ _ _ _ _ _ c.before.before.before.year.ensures c.before.before.power.ensures c.worth.ensures.value
 
-pub alone-total-spec : {M : Type 1} → statement M
-alone-total-spec =
+pub alone_total_spec : {M : Type 1} → statement M
+alone_total_spec =
     tie.close (tie.spec (λ c κs. search rules) cast-power power-requires (λ c. search rules) (λ c. search rules) (λ c. search rules)
     (λ c. search rules) element-copy-out-result (λ c κs. search rules) add-result-2 returns)

@@ -5,28 +5,28 @@ use Prim.Native.Nat.{◌≤◌, ◌-◌}
 use mathlib.Core.Path.{◌≡◌, ◌∙◌}
 use mathlib.Core.Logic.{⊎_elim}
 use Rattle.arrays.proofs.Laws.{done}
-use Rattle.sheet.proofs.Columns.{columns-few}
-use Rattle.totals.specs.Totals.{fitsTo}
+use Rattle.sheet.proofs.Columns.{columns_few}
+use Rattle.totals.specs.Totals.{fits_to}
 use Rattle.totals.proofs.Laws.{fits_not, fits_more}
-use Rattle.ties.specs.Ties.{aloneTotal}
+use Rattle.ties.specs.Ties.{alone_total}
 use Rattle.ties.proofs.alone.fits_alone.Statement.{statement}
 use Rattle.ties.proofs.alone.fits_alone.Tie as tie
 
 abbrev invariant-loop : tie.invariant-loop
-invariant-loop sheet of base price k ok₀ columns c₀ ok c = (c ≤ columns) × (ok ≡ fitsTo (aloneTotal sheet of base price k) sheet c)
+invariant-loop sheet of base price k ok₀ columns c₀ ok c = (c ≤ columns) × (ok ≡ fits_to (alone_total sheet of base price k) sheet c)
 
 abbrev decreases-loop : tie.decreases-loop
 decreases-loop sheet of base price k ok₀ columns c₀ ok c = columns - c
 
 loop-holds : tie.Need-loop-init invariant-loop decreases-loop
-unfolding fitsTo
+unfolding fits_to
 loop-holds c = search rules
 
 alone-total-requires : tie.Need-alone-total-requires invariant-loop decreases-loop
 alone-total-requires c κs = let g = c.before.before.requires in (record { ready = g.ready; bid = g.bid; column = c.loop-test.true }, g.winners)
 
 limit-requires : tie.Need-limit-requires invariant-loop decreases-loop
-limit-requires c κs = omega (arith, c.before.loop-test.true, columns-few c.before.before.before.requires.ready)
+limit-requires c κs = omega (arith, c.before.loop-test.true, columns_few c.before.before.before.requires.ready)
 
 loop-again : tie.Need-loop-preserved invariant-loop decreases-loop
 loop-again c = let a = c.before.before.alone-total.ensures in
@@ -37,8 +37,8 @@ loop-again c = let a = c.before.before.alone-total.ensures in
     )
 
 returns : tie.Need-returns invariant-loop decreases-loop
-returns c = done (fitsTo _ _) c.before.loop.invariant.1 c.before.loop.invariant.0 c.loop-test.false
+returns c = done (fits_to _ _) c.before.loop.invariant.1 c.before.loop.invariant.0 c.loop-test.false
 
-pub fits-alone-spec : {M : Type 1} → statement M
-fits-alone-spec =
+pub fits_alone_spec : {M : Type 1} → statement M
+fits_alone_spec =
     tie.close (tie.spec invariant-loop decreases-loop loop-holds alone-total-requires limit-requires (λ c. omega arith) (λ c. omega arith) loop-again returns)

@@ -4,13 +4,13 @@ use native.Mathlib.Omega.{arith}
 use Prim.Native.Nat.{◌≤◌, ◌-◌}
 use mathlib.Core.Path.{◌≡◌, ◌∙◌}
 use mathlib.Core.Logic.{⊎_elim}
-use Rattle.ties.specs.Ties.{okBy, last_by, bestOf}
-use Rattle.ties.proofs.Laws.{best_none, best-more, best-same, ends, mask_low}
+use Rattle.ties.specs.Ties.{ok_by, last_by, best_of}
+use Rattle.ties.proofs.Laws.{best_none, best_more, best_same, ends, mask_low}
 use Rattle.ties.proofs.best.top.Statement.{statement}
 use Rattle.ties.proofs.best.top.Tie as tie
 
 abbrev invariant-loop : tie.invariant-loop
-invariant-loop sheet of table count end b₀ mask₀ b mask = (mask ≤ end) × (b ≡ bestOf (okBy sheet of table) (last_by of table) mask)
+invariant-loop sheet of table count end b₀ mask₀ b mask = (mask ≤ end) × (b ≡ best_of (ok_by sheet of table) (last_by of table) mask)
 
 abbrev decreases-loop : tie.decreases-loop
 decreases-loop sheet of table count end b₀ mask₀ b mask = end - mask
@@ -48,14 +48,14 @@ loop-again c = (
   omega arith,
   let inv = c.before.before.before.loop.invariant.1 in
       let f = c.before.fitting.ensures in
-      ⊎_elim (λ w. w.3 ∙ best-more _ _ _ inv f w.0.taken w.1.ensures w.2.ensures) (λ w. w.1 ∙ best-same _ _ _ inv f w.0.left) c.if1.branch,
+      ⊎_elim (λ w. w.3 ∙ best_more _ _ _ inv f w.0.taken w.1.ensures w.2.ensures) (λ w. w.1 ∙ best_same _ _ _ inv f w.0.left) c.if1.branch,
 )
 
 returns : tie.Need-returns invariant-loop decreases-loop
 returns c =
-    ends (bestOf _ _) _ c.before.loop.invariant.1 c.before.loop.invariant.0 c.loop-test.false c.before.before.before.power.ensures
+    ends (best_of _ _) _ c.before.loop.invariant.1 c.before.loop.invariant.0 c.loop-test.false c.before.before.before.power.ensures
 
-pub top-spec : {M : Type 1} → statement M
-top-spec =
+pub top_spec : {M : Type 1} → statement M
+top_spec =
     tie.close (tie.spec invariant-loop decreases-loop cast-power power-requires last-requires loop-holds fitting-requires last-requires-2 better-requires
     (λ c. omega arith) (λ c. omega arith) loop-again returns)

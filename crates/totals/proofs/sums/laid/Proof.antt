@@ -4,7 +4,7 @@ use native.Mathlib.Omega.{arith}
 use Prim.Native.Nat.{◌*◌, ◌≤◌, ◌-◌}
 use mathlib.Core.Path.{◌≡◌, refl}
 use lib.ListN.{get_or}
-use Rattle.arrays.proofs.Laws.{done, place-next}
+use Rattle.arrays.proofs.Laws.{done, place_next}
 use Rattle.arrays.specs.Sets.{placed}
 use Rattle.sheet.specs.Sheet.{columns}
 use Rattle.totals.proofs.sums.laid.Statement.{statement}
@@ -21,12 +21,12 @@ unfolding placed
 loop-holds c = search rules
 
 loop-again : tie.Need-loop-preserved invariant-loop decreases-loop
-loop-again c = (omega arith, place-next _ _ _ _ c.before.loop.invariant.1 refl)
+loop-again c = (omega arith, place_next _ _ _ _ c.before.loop.invariant.1 refl)
 
 returns : tie.Need-returns invariant-loop decreases-loop
 returns c = done (placed _ _ _) c.before.loop.invariant.1 c.before.loop.invariant.0 c.loop-test.false
 
-pub laid-spec : {M : Type 1} → statement M
-laid-spec =
+pub laid_spec : {M : Type 1} → statement M
+laid_spec =
     tie.close (tie.spec invariant-loop decreases-loop loop-holds (λ c. search rules) (λ c. search rules) (λ c. search rules) (λ c. search rules) (λ c. search rules)
     (λ c. search rules) (λ c. omega arith) (λ c. omega arith) loop-again returns)

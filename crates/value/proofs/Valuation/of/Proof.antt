@@ -5,15 +5,15 @@ use Prim.Native.Nat.{ℕ, ◌-◌, ◌*◌, ◌≤◌}
 use native.Mathlib.Nat.{mul-le-mul}
 use native.Mathlib.Omega.{arith}
 use mir.Facts.{Fits-below}
-use Rattle.rules.specs.Names.{highestPrice}
-use Rattle.rules.specs.Value.{ceilDiv, penny, dearest}
-use Rattle.value.specs.Scales.{rqmScale, lined}
+use Rattle.rules.specs.Names.{highest_price}
+use Rattle.rules.specs.Value.{ceil_div, penny, dearest}
+use Rattle.value.specs.Scales.{rqm_scale, lined}
 use Rattle.value.specs.Wide.{number_of}
-use Rattle.value.specs.Laws.{at-most}
+use Rattle.value.specs.Laws.{at_most_lem}
 use Rattle.value.proofs.Valuation.of.Statement.{statement}
 use Rattle.value.proofs.Valuation.of.Tie as tie
 
-over-ok : (c : tie.After-margin) → c.margin.result ≤ highestPrice
+over-ok : (c : tie.After-margin) → c.margin.result ≤ highest_price
 over-ok c = omega (arith, c.before.requires.price-ok)
 
 mul-product : tie.Need-overflow-mul-product
@@ -59,13 +59,13 @@ module _ (c : tie.After-over4) where
       product ∙ ap (λ (x : ℕ). x * start.args.energy * start.args.share) c.before.before.before.before.before.margin.ensures
 
   -- the last line, below the number of the fourth
-  once : {rqm : ℕ} → rqm ≡ ceilDiv (number_of c.over4.result) rqmScale → rqm ≡ ceilDiv exact penny
+  once : {rqm : ℕ} → rqm ≡ ceil_div (number_of c.over4.result) rqm_scale → rqm ≡ ceil_div exact penny
   once r =
       rw (← product_is)
       (lined _ c.before.before.before.over.ensures.is c.before.before.over2.ensures.is c.before.over3.ensures.is c.over4.ensures.is r)
 
-  small : ceilDiv (number_of c.over4.result) rqmScale ≤ dearest
-  small = rw (once refl) (at-most _ _ _ _ start.pre)
+  small : ceil_div (number_of c.over4.result) rqm_scale ≤ dearest
+  small = rw (once refl) (at_most_lem _ _ _ _ start.pre)
 
 number-requires : tie.Need-number-requires
 number-requires c κs = omega (arith, small c)
@@ -77,16 +77,16 @@ returns : tie.Need-returns
 returns c =
     let number = c.before.number.ensures in
     let at = c.before.before in
-    let value = once at (c.over5.ensures ∙ ap (λ (x : ℕ). ceilDiv x rqmScale) number) in record {
-      margin-is = at.before.before.before.before.before.margin.ensures;
+    let value = once at (c.over5.ensures ∙ ap (λ (x : ℕ). ceil_div x rqm_scale) number) in record {
+      margin_is = at.before.before.before.before.before.margin.ensures;
       product_is = product_is at;
-      price-line = at.before.before.before.over.ensures.is;
+      price_line = at.before.before.before.over.ensures.is;
       load_line = at.before.before.over2.ensures.is;
-      capacity-line = at.before.over3.ensures.is;
-      tlm-line = number ∙ at.over4.ensures.is;
-      rqm-line = c.over5.ensures;
+      capacity_line = at.before.over3.ensures.is;
+      tlm_line = number ∙ at.over4.ensures.is;
+      rqm_line = c.over5.ensures;
       once = value;
-      small = rw value (at-most _ _ _ _ (start at).requires);
+      small = rw value (at_most_lem _ _ _ _ (start at).requires);
     }
 
 pub of_spec : {M : Type 1} → statement M

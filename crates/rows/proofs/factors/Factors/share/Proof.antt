@@ -11,5 +11,5 @@ mul-result c = omega (arith, mul-le-mul c.before.requires.kept-most c.before.req
 returns : tie.Need-returns
 returns c = (refl, mul-le-mul c.before.requires.kept-most c.before.requires.rqm-most)
 
-pub share-spec : {M : Type 1} → statement M
-share-spec = tie.close (tie.spec mul-result returns)
+pub share_spec : {M : Type 1} → statement M
+share_spec = tie.close (tie.spec mul-result returns)

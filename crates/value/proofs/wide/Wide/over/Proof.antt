@@ -3,7 +3,7 @@ use borrow.Author.Rules.{rules}
 use mathlib.Core.Path.{refl, ap, ◌∙◌}
 use Prim.Native.Nat.{ℕ, ◌+◌, ◌*◌, ◌/◌}
 use native.Mathlib.Omega.{arith}
-use Rattle.value.specs.Wide.{lower-alone, no_more}
+use Rattle.value.specs.Wide.{lower_alone, no_more}
 use Rattle.value.proofs.wide.Wide.over.Statement.{statement}
 use Rattle.value.proofs.wide.Wide.over.Tie as tie
 
@@ -15,10 +15,10 @@ returns c =
     let pre = c.before.before.requires in
     let w = c.before.before.args.self in
     let d = c.before.before.args.scale in record {
-      is = ap (λ (x : ℕ). w.upper * (w.column / d) + x) c.over.ensures ∙ lower-alone w.upper w.column w.lower pre.0 pre.2;
+      is = ap (λ (x : ℕ). w.upper * (w.column / d) + x) c.over.ensures ∙ lower_alone w.upper w.column w.lower pre.0 pre.2;
       columned = refl;
       low = rw c.over.ensures (no_more w.lower pre.0);
     }
 
-pub over-spec : {M : Type 1} → statement M
-over-spec = tie.close (tie.spec (λ c. search rules) over-requires returns)
+pub over_spec : {M : Type 1} → statement M
+over_spec = tie.close (tie.spec (λ c. search rules) over-requires returns)

@@ -3,19 +3,19 @@ use mathlib.Core.Path.{refl, ap}
 use Prim.Native.Nat.{ℕ, ◌*◌, ◌/◌, ◌%◌, ◌≤◌}
 use native.Mathlib.Nat.{div-add-mod', mul-le-mul}
 use native.Mathlib.Omega.{arith}
-use Rattle.rules.specs.Value.{mostShare}
-use Rattle.value.specs.Wide.{column, mostLower}
+use Rattle.rules.specs.Value.{most_share}
+use Rattle.value.specs.Wide.{column, most_lower}
 use Rattle.value.proofs.wide.Wide.product.Statement.{statement}
 use Rattle.value.proofs.wide.Wide.product.Tie as tie
 
 -- the most units of the upper column in 64 bits
-abbrev mostUpper : ℕ
-mostUpper = 184467440
+abbrev most_upper : ℕ
+most_upper = 184467440
 
-high : (c : tie.Start) → c.args.parts / column * c.args.share ≤ mostUpper * mostShare
-high c = mul-le-mul {n₂ = mostUpper} (omega arith) c.requires
+high : (c : tie.Start) → c.args.parts / column * c.args.share ≤ most_upper * most_share
+high c = mul-le-mul {n₂ = most_upper} (omega arith) c.requires
 
-low : (c : tie.Start) → c.args.parts % column * c.args.share ≤ mostLower
+low : (c : tie.Start) → c.args.parts % column * c.args.share ≤ most_lower
 low c = mul-le-mul {n₂ = column} (omega arith) c.requires
 
 mul-t4 : tie.Need-overflow-mul-t4
@@ -31,5 +31,5 @@ returns c = record {
   low = low c;
 }
 
-pub product-spec : {M : Type 1} → statement M
-product-spec = tie.close (tie.spec mul-t4 mul-t6 returns)
+pub product_spec : {M : Type 1} → statement M
+product_spec = tie.close (tie.spec mul-t4 mul-t6 returns)
