@@ -9,4 +9,4 @@ use Rattle.result.proofs.bids.Goals as goal
 pub returns : goal.returns
 unfolding bids_told
 returns c =
-    filled_rest 2 (length_bytes _ _) c.put.ensures c.put_all_lem.ensures
+    filled_rest 2 (length_bytes _ _) c.put.ensures c.put_all.ensures

@@ -13,4 +13,4 @@ returns c =
     let a = c in
     pot_filled a.args.sections a.args.told _ refl
     c.put.ensures
-    c.put_all_lem.ensures c.put_all-2.ensures
+    c.put_all.ensures c.put_all-2.ensures
