@@ -1,5 +1,7 @@
 // The clearing of one pot: the first test, the auction, and what is told of the pot, of its applications and of its bids. specs/Cleared.antt says what it is in
 // the words of the rules, specs/Numbers.antt what each function computes.
+#![tactic(auto)]
+
 ghost use Rattle.std.specs.Prelude.{◌≡◌, ◌≤◌, ◌<◌};
 ghost use Rattle.rules.specs.Names.{most_years};
 ghost use Rattle.sheet.specs.Sheet.{pot_in, Ready};

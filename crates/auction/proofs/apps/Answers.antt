@@ -1,0 +1,16 @@
+-- `auction::apps` meets its contract: the applications passed are told.
+use borrow.Author.Rules.{rules}
+use Prim.Native.Nat.{◌-◌, ◌≤◌}
+use mathlib.Core.Path.{◌≡◌}
+use native.Mathlib.Omega.{arith}
+use Rattle.arrays.specs.Sets.{fill}
+use Rattle.arrays.proofs.Laws.{done, fill_next}
+use Rattle.auction.specs.Numbers.{apps_of, no_apps}
+use Rattle.auction.proofs.apps.Goals as goal
+
+pub loop-a-init : goal.loop-a-init
+unfolding fill no_apps
+loop-a-init c = search rules
+
+pub loop-a-preserved : goal.loop-a-preserved
+loop-a-preserved c = (omega arith, fill_next _ _ _ c.loop-a.invariant.1 c.told-t.ensures)

@@ -1,0 +1,15 @@
+-- `auction::apps` meets its contract: the applications passed are told.
+use borrow.Author.Rules.{rules}
+use Prim.Native.Nat.{◌-◌, ◌≤◌}
+use mathlib.Core.Path.{◌≡◌}
+use native.Mathlib.Omega.{arith}
+use Rattle.arrays.specs.Sets.{fill}
+use Rattle.arrays.proofs.Laws.{done, fill_next}
+use Rattle.auction.specs.Numbers.{apps_of, no_apps}
+use Rattle.auction.proofs.apps.Given as goal
+
+abbrev pub invariant-loop-a : goal.invariant-loop-a
+invariant-loop-a l = (l.a ≤ l.n) × (l.out ≡ apps_of l.sheet l.of l.prices l.winning l.automatics l.a)
+
+abbrev pub decreases-loop-a : goal.decreases-loop-a
+decreases-loop-a l = l.n - l.a
