@@ -15,6 +15,12 @@ WORD = re.compile(r"[A-Za-zα-ωΑ-Ω_₀-₉][A-Za-z0-9_'?ᵉα-ωΑ-Ω₀-₉-
 DECLARED = re.compile(r"^\s*(?:(?:abbrev|unfoldable|pattern|pub|axiom)\s+)*(?:record\s+|data\s+|ruleset\s+)?([^\s:{(,\[]+)\s*(?:\{[^}]*\}\s*)?(?:\(.*?\)\s*)*:(?!=)")
 
 
+# modules that Rattle makes of a function
+MADE = ("Tie", "Statement", "Goals", "Given", "Code")
+# set for each file: a module of this repository stands before a dot
+OWNER = re.compile(r"(?!)")
+
+
 def files(suffixes):
     for folder, dirs, names in os.walk("crates"):
         dirs[:] = sorted(d for d in dirs if d != "out")
@@ -83,12 +89,29 @@ def turn_code(text, to, fields, walk):
         word = found.group(0)
         if word not in to:
             return word
-        before = text[found.start() - 1] if found.start() else " "
-        if before == "." and "-" in word and (walk or word not in fields):
+        before = text[: found.start()]
+        if before.endswith(".") and "-" in word and (walk or word not in fields) and not OWNER.search(before):
             return word
         return to[word]
 
     return WORD.sub(one, text)
+
+
+def of_others(text, to, own):
+    """The names that a file has from libraries, though a definition or a lemma of this repository has the same one."""
+    theirs = set()
+    for found in re.finditer(r"use ([\w.']+)\.\{([^}]*)\}", text):
+        path = found.group(1).split(".")
+        if path[0] != "Rattle" or path[1] not in own:
+            theirs |= {w.split(" as ")[0].strip() for w in found.group(2).split(",")} & set(to)
+    return theirs
+
+
+def modules(text, own):
+    """The names that a file gives to modules of this repository, but for those that Rattle makes of a function."""
+    for found in re.finditer(r"use Rattle\.(\w+)\.(?:specs|proofs)\.([\w.']+) as (\w+)", text):
+        if found.group(1) in own and found.group(2).split(".")[-1] not in MADE:
+            yield found.group(3)
 
 
 def turn_line(line, to, fields, walk, mark):
@@ -113,10 +136,16 @@ def named_spec(text, path):
 
 
 def main():
+    global OWNER
     names, fields = declared()
-    to = renamed(names)
+    all_to = renamed(names)
+    own = set(os.listdir("crates"))
     for path in files((".antt", ".rt")):
         text = read(path)
+        theirs = of_others(text, all_to, own)
+        to = {n: new for n, new in all_to.items() if n not in theirs}
+        owners = sorted(set(modules(text, own)))
+        OWNER = re.compile(r"(?<![\w.'-])(?:" + "|".join(owners) + r")\.$") if owners else re.compile(r"(?!)")
         if path.endswith(".rt"):
             new = in_rt(text, to, fields)
         else:
@@ -126,8 +155,8 @@ def main():
         if new != text:
             with open(path, "w", encoding="utf-8") as f:
                 f.write(new)
-    for n in sorted(to):
-        print(f"{n}\t{to[n]}")
+    for n in sorted(all_to):
+        print(f"{n}\t{all_to[n]}")
 
 
 if __name__ == "__main__":

@@ -5,7 +5,7 @@ use mathlib.Core.Path.{◌≡◌, sym, ap, ◌∙◌}
 use mathlib.Core.Bool.{Bool, true, false}
 use mathlib.Core.Logic.{⊎_elim}
 use mathlib.Core.List.{List}
-use native.Mathlib.Nat.{pow-suc, zero_add}
+use native.Mathlib.Nat.{pow-suc, zero-add}
 use native.Mathlib.Omega.{arith}
 use lib.Pow.{pow-add, pow-lt}
 use lib.ListN.{get_or}
@@ -137,7 +137,7 @@ combined_add own ranks m p c (suc k) f =
     (λ t. let q = eqb-true i p t in rw (q, f, add_adds m p f) (case (has (2 ^ p) p) (λ u. rw u (omega arith)) (λ u. rw u (omega arith))))
     (λ u.
     let n = eqb-false i p u in
-    let none : has (2 ^ p) i ≡ false = sym (ap (λ (x : ℕ). has x i) (zero_add (2 ^ p))) ∙ add_other 0 p i (has_none p) n ∙ has_none i in
+    let none : has (2 ^ p) i ≡ false = sym (ap (λ (x : ℕ). has x i) (zero-add (2 ^ p))) ∙ add_other 0 p i (has_none p) n ∙ has_none i in
     rw (none, add_other m p i f n) (case (has m i) (λ t. rw t (omega arith)) (λ g. rw g (omega arith))))
 
 touched_within : (ranks starts : List ℕ) (m n k : ℕ) → Within m n → Within (touched_of ranks starts m k) (touched_of ranks starts n k)

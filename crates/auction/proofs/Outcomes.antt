@@ -41,7 +41,7 @@ module _ (sheet : List ℕ) (of : Size) (ok : Ready sheet of) where
   bid = link.bid sheet of ok
 
   bid_lt : (k : ℕ) → In k P.bids → k < of.bids
-  bid_lt = link.bid-lt sheet of ok
+  bid_lt = link.bid_lt sheet of ok
 
   -- ---- outcome 1
   module _ (s : PotState) (R : Rep P (auction P) s) where
@@ -55,7 +55,7 @@ module _ (sheet : List ℕ) (of : Size) (ok : Ready sheet of) where
     marked_won a k h =
         case (in_auction sheet k)
         (λ t. rw (t, R.one k (bid k h t)))
-        (λ f. rw (f, R.other k (link.small sheet of ok k h) (link.not-bid sheet of ok k f)) (no (eqb (row_app sheet k) a)))
+        (λ f. rw (f, R.other k (link.small sheet of ok k h) (link.not_bid sheet of ok k f)) (no (eqb (row_app sheet k) a)))
       where
         no : (x : Bool) → (x && false) ≡ false
         no true = refl
@@ -125,13 +125,13 @@ module _ (sheet : List ℕ) (of : Size) (ok : Ready sheet of) where
     total_told Q y g =
         let c : y < of.columns = omega (arith, ok.columns_least) in
         ap (λ (l : List ℕ). get_or l y 0) Q.row ∙ link.row_at sheet of ok (column_sum s.sums) y c ∙ sum_total Q.parts y c ok others
-        ∙ held.total-is sheet of ok ws s (held.holds-rep R) y ∙ link.total-column P ws y (year g)
+        ∙ held.total_is sheet of ok ws s (held.holds_rep R) y ∙ link.total_column P ws y (year g)
       where
         year : {y : ℕ} → y < of.years → y < P.years
         year h = unfold pot_in in h
 
         others : (k : ℕ) → k < of.bids → in_auction sheet k ≡ false → eqb (get_or marks k 0) because_won ≡ false
-        others k h f = rw (R.other k (link.small sheet of ok k h) (link.not-bid sheet of ok k f))
+        others k h f = rw (R.other k (link.small sheet of ok k h) (link.not_bid sheet of ok k f))
 
     -- all of it
     sold : admin_fits P ≡ false → wide_end (auction P) ≡ false → Summed sheet of s → EndedAs sheet of (sold_of sheet of s)
@@ -174,7 +174,7 @@ module _ (sheet : List ℕ) (of : Size) (ok : Ready sheet of) where
     price = λ d h. at_start most_deliveries d no_price 0 h ∙ (unfold price_in in rw t);
     total = λ y g.
         ap (λ (l : List ℕ). get_or l y 0) e ∙ link.row_at sheet of ok (λ c. admin_total_of sheet of c of.applications) y (omega (arith, ok.columns_least))
-        ∙ link.admin-total-is sheet of ok y g ∙ (unfold total_in in rw t);
+        ∙ link.admin_total_is sheet of ok y g ∙ (unfold total_in in rw t);
     reason = λ k i. flat_reason because_administrative k (λ e. omega arith) i ∙ (unfold reason in rw t);
     app = λ a h.
         ap (λ (w : ℕ). told_by sheet of none a w (automatic_reason P a)) (at_start most_apps a at_admin 0 (omega (arith, ok.apps)))
@@ -201,7 +201,7 @@ module _ (sheet : List ℕ) (of : Size) (ok : Ready sheet of) where
   module _ {first : List ℕ} {t : Bool} (ef : first ≡ filled (λ c. admin_total_of sheet of c of.applications) of.columns)
       (et : t ≡ row_fits sheet first of.columns) where
     fits_first : t ≡ admin_fits P
-    fits_first = link.admin-fits sheet of ok ef et
+    fits_first = link.admin_fits_lem sheet of ok ef et
 
     pub ended_admin : {r : End} → t ≡ true → r ≡ flat_of 0 first because_administrative at_admin → EndedAs sheet of r
     ended_admin h e = rw e (admin (sym fits_first ∙ h) ef)

@@ -2,7 +2,7 @@
 use Prim.Native.Nat.{ℕ, zero, suc, ◌+◌, ◌-◌, ◌*◌, ◌^◌, ◌≤◌}
 use mathlib.Core.Path.{◌≡◌, refl, sym, ap, ◌∙◌}
 use mathlib.Core.List.{List}
-use native.Mathlib.Nat.{zero_add, suc-add, add-zero, pow-succ', mul_assoc}
+use native.Mathlib.Nat.{zero-add, suc-add, add-zero, pow-succ', mul_assoc}
 use native.Mathlib.Omega.{arith}
 use lib.ListN.{length, take, drop, length-take, length-drop}
 use lib.Seq.{get_or-take, get_or-drop, take_all}
@@ -11,7 +11,7 @@ use Rattle.rules.specs.Bytes.{le, part}
 -- j bytes and k more are the j bytes' number and 256 ^ j times the number of the k bytes after them
 pub le_split : (j k : ℕ) (s : List ℕ) (at : ℕ) → le (j + k) s at ≡ le j s at + 256 ^ j * le k s (at + j)
 unfolding le
-le_split zero k s at = rw (zero_add k, add-zero at) (omega arith)
+le_split zero k s at = rw (zero-add k, add-zero at) (omega arith)
 le_split (suc j) k s at =
     let p : at + suc j ≡ at + 1 + j = omega arith in
     rw (suc-add, pow-succ', mul_assoc, p) (omega (arith, le_split j k s (at + 1)))

@@ -324,7 +324,7 @@ module _ (R : Round) (S : Sound R) (p : ℕ) (bytes : (i : ℕ) → get_or R.app
         capacity = g.capacity;
         price = g.price;
         draw = two_bytes R.apps _ bytes;
-        admin = r.admin-most R S _ x.year t g.year;
+        admin = r.admin_most R S _ x.year t g.year;
         rqm = (S.tech _ t).rqm;
         reference = λ z l. rw (lt-ltb z R.y l) ((S.tech _ t).reference z l);
         load = λ z l. rw (lt-ltb z R.y l) ((S.tech _ t).load z l);

@@ -3,7 +3,7 @@
 use Prim.Native.Nat.{ℕ, zero, suc, ◌%◌, ◌^◌, ◌≤◌, ◌<◌}
 use Rattle.std.specs.Prelude.{◌≡◌, refl, Bool, true, false, ◌&&◌, ◌||◌, ◌⊎◌, eqb, ltb}
 use Rattle.std.proofs.Common.{sym, ◌∙◌, inl, inr, arith, mod-lt, mod-eq_of_lt}
-use Rattle.std.proofs.Math.Path.{ap}
+use Rattle.std.proofs.Math.Path.{ap, subst}
 use Rattle.std.proofs.Math.Bool.{not}
 use Rattle.std.proofs.Math.Logic.{⊎_elim}
 use mathlib.Core.List.{List, [], ◌∷◌, ◌++◌}
@@ -58,6 +58,7 @@ at_place_or k (x ∷ l) =
 
 place_of : (m : ℕ) (l : List ℕ) → In m l → (k : ℕ) × (k < length l) × (at_place k l ≡ m)
 unfolding at_place
+place_of m [] i = elim i [ ]
 place_of m (x ∷ l) (here e) = (length l, omega arith, rw (eq-eqb (length l) (length l) refl) (sym e))
 place_of m (x ∷ l) (there i) =
     let z = place_of m l i in
@@ -76,17 +77,27 @@ module _ (f : ℕ → Bool) where
       sift_all [] = refl
       sift_all (x ∷ l) = ap (λ (s : List ℕ). x ∷ s) (sift_all l)
 
-  pub in_order : (k n : ℕ) → k < length (sift f (below n)) → length (sift (λ j. ltb j (at_place k (sift f (below n)))) (sift f (below n))) ≡ k
+  -- the one at a place of a list: the first one where as many stand behind it
+  at_place_hit : (k x : ℕ) (l : List ℕ) → eqb (length l) k ≡ true → at_place k (x ∷ l) ≡ x
   unfolding at_place
+  at_place_hit k x l e = rw e refl
+
+  at_place_miss : (k x : ℕ) (l : List ℕ) → eqb (length l) k ≡ false → at_place k (x ∷ l) ≡ at_place k l
+  unfolding at_place
+  at_place_miss k x l e = rw e refl
+
+  pub in_order : (k n : ℕ) → k < length (sift f (below n)) → length (sift (λ j. ltb j (at_place k (sift f (below n)))) (sift f (below n))) ≡ k
   in_order k zero h = absurd (omega arith)
   in_order k (suc n) h =
       let l = sift f (below n) in
       case (f n)
       (λ t. rw t (case (eqb (length l) k)
-      (λ e. rw (e, le-ltb n n (omega arith), all_smaller n n (omega arith)) (eqb-true (length l) k e))
+      (λ e. subst (λ (x : ℕ). length (sift (λ j. ltb j x) (n ∷ l)) ≡ k) (sym (at_place_hit k n l e))
+      (rw (le-ltb n n (omega arith), all_smaller n n (omega arith)) (eqb-true (length l) k e)))
       (λ u.
       let low : k < length l = omega (arith, eqb-false (length l) k u, rw t at h) in
-      rw (u, le-ltb n (at_place k l) (omega (arith, at_place_low k n low))) (in_order k n low))))
+      subst (λ (x : ℕ). length (sift (λ j. ltb j x) (n ∷ l)) ≡ k) (sym (at_place_miss k n l u))
+      (rw (le-ltb n (at_place k l) (omega (arith, at_place_low k n low))) (in_order k n low)))))
       (λ u. rw u (in_order k n (rw u at h)))
 
 -- ---- what is kept of the bids r that remain beside the winners ws

@@ -283,7 +283,7 @@ module _ (s : List ℕ) where
   sections_pass q none = refl
   sections_pass q (also {T} {Ts} r rs) = section_passes T (judges_all s Ts q) r ∙ sections_pass q rs
 
-  sections_fault : {Ts : List Table} (q : Reading) {m x : ℕ} → FirstIn s m x Ts → judges_all s Ts q ≡ Refused m x
+  sections_fault : {m x : ℕ} {Ts : List Table} (q : Reading) → FirstIn s m x Ts → judges_all s Ts q ≡ Refused m x
   sections_fault q (here {T} {Ts} f) = section_faults T (judges_all s Ts q) f
   sections_fault q (later {T} {Ts} r f) = section_passes T (judges_all s Ts q) r ∙ sections_fault q f
 

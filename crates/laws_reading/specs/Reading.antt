@@ -29,7 +29,8 @@ all_passed f w base i (suc k) r e =
     let p = or_passed _ _ _ e in
     let h = all_passed f w base (i + 1) k r p.1 in
     let z : i + 0 ≡ i = omega arith in (
-      λ j. elim j [ zero ↦ (λ l. ap f z ∙ p.0) | suc j ↦ (λ l. let q : i + suc j ≡ i + 1 + j = omega arith in ap f q ∙ h.0 j (omega arith)) ],
+      λ j. elim j as (λ (j : ℕ). j < suc k → f (i + j) ≡ 0)
+          [ zero ↦ (λ l. ap f z ∙ p.0) | suc j ↦ (λ l. let q : i + suc j ≡ i + 1 + j = omega arith in ap f q ∙ h.0 j (omega arith)) ],
       h.1,
     )
 

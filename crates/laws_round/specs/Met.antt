@@ -32,7 +32,7 @@ module _ (R : Round) (p : ℕ) (S : Sound R) (A : Auctioned (pot_of R p)) where
   P = pot_of R p
 
   demand : d.Meets P (auction P)
-  demand = d.demand-3 P (lawful R p S) A.not_wide
+  demand = d.demand_3 P (lawful R p S) A.not_wide
 
   down_in : (c : ℕ) → In c (downs (auction P)) → In c P.bids
   down_in c i = seen_mine P (lawful R p S) c (down_seen c (auction P) i)

@@ -1,7 +1,7 @@
 -- The result's bytes, read back. Assumes nothing.
 use Rattle.std.specs.Prelude.{ℕ, ◌+◌, ◌*◌, ◌≤◌, ◌<◌, ◌≡◌, List, ◌++◌, length}
 use native.Mathlib.Omega.{arith}
-use Rattle.std.proofs.Common.{zero_add}
+use Rattle.std.proofs.Common.{zero-add}
 use Rattle.rules.specs.Names.{count_width, highest_price, no_bid, because_silent}
 use Rattle.rules.specs.Bytes.{le, bytes, each}
 use Rattle.rules.specs.File.{Round}
@@ -168,11 +168,11 @@ module _ (R : Round) where
 
     apps_at_lem : At s (apps_from R) (apps_part R)
     unfolding result_bytes
-    apps_at_lem = rw⁻¹ (zero_add (apps_from R)) (at_right (pots_part R) (apps_part R) (apps_from R) pots_length (at_left (pots_part R ++ apps_part R) (bids_part R) A))
+    apps_at_lem = rw⁻¹ (zero-add (apps_from R)) (at_right (pots_part R) (apps_part R) (apps_from R) pots_length (at_left (pots_part R ++ apps_part R) (bids_part R) A))
 
     bids_at_lem : At s (bids_from R) (bids_part R)
     unfolding result_bytes
-    bids_at_lem = rw⁻¹ (zero_add (bids_from R)) (at_right (pots_part R ++ apps_part R) (bids_part R) (bids_from R) both_length A)
+    bids_at_lem = rw⁻¹ (zero-add (bids_from R)) (at_right (pots_part R ++ apps_part R) (bids_part R) (bids_from R) both_length A)
 
     module _ (p : ℕ) (h : p < R.p) where
       pot_at_lem : At s (count_width + p * pot_record R) (front (pot_of R p) ++ each (totals (pot_of R p)) R.y)

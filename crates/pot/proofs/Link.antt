@@ -102,10 +102,10 @@ module _ (sheet : List ℕ) (of : Size) (ok : Ready sheet of) where
   bid = link.bid sheet of ok
 
   pub bid_lt : (i : ℕ) → In i P.bids → i < of.bids
-  bid_lt = link.bid-lt sheet of ok
+  bid_lt = link.bid_lt sheet of ok
 
   pub bid_in : (i : ℕ) → In i P.bids → in_auction sheet i ≡ true
-  bid_in = link.bid-in sheet of ok
+  bid_in = link.bid_in sheet of ok
 
   pub small : (i : ℕ) → i < of.bids → i < most_bids
   small = link.small sheet of ok
@@ -130,7 +130,7 @@ module _ (sheet : List ℕ) (of : Size) (ok : Ready sheet of) where
     live_is i h =
         case (in_auction sheet i)
         (λ e. rw (e, R.fresh i (bid i h e), R.has (row_app sheet i) (ok.app i h), R.free (row_year sheet i) (ok.year i h)) (same i))
-        (λ f. rw (f, R.other i (small i h) (link.not-bid sheet of ok i f)))
+        (λ f. rw (f, R.other i (small i h) (link.not_bid sheet of ok i f)))
       where
         same : (i : ℕ) → (not (memb i (seen t)) && (not (memb (row_app sheet i) (map P.app (winners t))) && not (memb (row_year sheet i) (closed t))))
             ≡ (not (memb i (seen t)) && (not (memb (P.app i) (map P.app (winners t))) && not (memb (P.yr i) (closed t))))
@@ -194,7 +194,7 @@ module _ (sheet : List ℕ) (of : Size) (ok : Ready sheet of) where
   -- ---- what fits
   module _ (ws : List ℕ) (s : PotState) (H : Holds P ws s) where
     pub total_is : (c : ℕ) → total_of sheet of s.marks s.prices c of.bids ≡ column_total P ws c
-    total_is c = link.total-at sheet of ok ws s.marks s.prices H.marked (clearing P ws) same c
+    total_is c = link.total_at_lem sheet of ok ws s.marks s.prices H.marked (clearing P ws) same c
       where
         same : (i : ℕ) → In i P.bids → memb i ws ≡ true → get_or s.prices (row_year sheet i) 0 ≡ clearing P ws (row_year sheet i)
         same i j w = H.price (row_year sheet i) (ok.year i (bid_lt i j)) ∙ opened (price_won P no_price i ws (memb_in i ws w))
@@ -204,7 +204,7 @@ module _ (sheet : List ℕ) (of : Size) (ok : Ready sheet of) where
 
     pub fits_is : (f : ℕ → ℕ) → ((c : ℕ) → c < of.columns → f c ≡ total_of sheet of s.marks s.prices c of.bids)
         → fits_to f sheet of.columns ≡ fits P ws
-    fits_is f e = link.fits-is sheet of ok f ws (λ c h. e c h ∙ total_is c)
+    fits_is f e = link.fits_is sheet of ok f ws (λ c h. e c h ∙ total_is c)
 
   -- ---- winning
   module _ (ws : List ℕ) (s : PotState) (S : Sizes s) (p : ℕ) where

@@ -35,7 +35,7 @@ follows_is P i (c ∷ d ∷ l) = rw (ne_eqb (Prim.Native.Nat.suc (Prim.Native.Na
 
 -- what is live has not won
 pub not_won : (P : Pot) (t : Trace) (b : ℕ) → live P t b ≡ true → memb b (winners t) ≡ false
-not_won P t b v = case (memb b (winners t)) (λ u. clash (in_memb (won_seen b t (memb_in b (winners t) u))) (taken.live-is P t b v).fresh) (λ f. f)
+not_won P t b v = case (memb b (winners t)) (λ u. clash (in_memb (won_seen b t (memb_in b (winners t) u))) (taken.live_is P t b v).fresh) (λ f. f)
 
 module _ (sheet : List ℕ) (of : Size) (ok : Ready sheet of) where
   abbrev P : Pot
@@ -52,7 +52,7 @@ module _ (sheet : List ℕ) (of : Size) (ok : Ready sheet of) where
     a = taken_of sheet of s
 
     pub sound : (i : ℕ) → In i l → (i < of.bids) × (live P t i ≡ true) × (row_price sheet i ≡ p) × In i P.bids
-    sound = link.taken-sound sheet of ok t s R refl
+    sound = link.taken_sound sheet of ok t s R refl
 
     pub of_set : members a of.bids ≡ l
     unfolding taken_of
@@ -69,7 +69,7 @@ module _ (sheet : List ℕ) (of : Size) (ok : Ready sheet of) where
     su = win_sizes sheet p s R.sizes l
 
     won_by : Holds P (l ++ winners t) u
-    won_by = link.holds-win sheet of ok (winners t) s R.sizes p l (λ i j. let f = sound i j in (f.0, f.2, f.3)) (holds_rep R)
+    won_by = link.holds_win sheet of ok (winners t) s R.sizes p l (λ i j. let f = sound i j in (f.0, f.2, f.3)) (holds_rep R)
 
     -- the winners are all of the pot
     pub trial_others : (i : ℕ) → i < of.bids → in_auction sheet i ≡ false → eqb (get_or u.marks i 0) because_won ≡ false
@@ -77,7 +77,7 @@ module _ (sheet : List ℕ) (of : Size) (ok : Ready sheet of) where
 
     pub trial_fits : (f : ℕ → ℕ) → ((c : ℕ) → c < of.columns → f c ≡ total_of sheet of u.marks u.prices c of.bids)
         → fits_to f sheet of.columns ≡ fits P (l ++ winners t)
-    trial_fits = link.fits-is sheet of ok (l ++ winners t) u won_by
+    trial_fits = link.fits_is sheet of ok (l ++ winners t) u won_by
 
     -- all win, and the year that hangs closes
     won_with : (r : PotState) → r.marks ≡ u.marks → r.won ≡ u.won → r.prices ≡ u.prices → r.drawn ≡ u.drawn → Sizes r
@@ -89,7 +89,7 @@ module _ (sheet : List ℕ) (of : Size) (ok : Ready sheet of) where
       won = λ y j. ap (λ (x : List Bool). get_or x y false) ew ∙ win_won sheet p s R.sizes l y (λ i h. ok.app i (sound i h).0);
       opened = λ d j. op d j ∙ ap (λ (x : List ℕ). not (memb d x) && get_or s.opened d false) (sym R.hang);
       prices =
-          λ d j. ap (λ (x : List ℕ). get_or x d 0) eq ∙ link.win-prices sheet of ok (winners t) s R.sizes p l d (λ i h. let f = sound i h in (f.0, f.2));
+          λ d j. ap (λ (x : List ℕ). get_or x d 0) eq ∙ link.win_prices sheet of ok (winners t) s R.sizes p l d (λ i h. let f = sound i h in (f.0, f.2));
       hang = rw hg;
       drawn = same_number (ed ∙ win_drawn sheet p s R.sizes l);
     }

@@ -65,7 +65,7 @@ module _ (sheet : List ℕ) (of : Size) (ok : Ready sheet of) where
   P = pot_in sheet of
 
   lives_is : (t : Trace) (s : PotState) → Rep P t s → length (sift (live_of sheet s) (below of.bids)) ≡ lives P t
-  lives_is t s R = ap length (link.live-list sheet of ok t s R)
+  lives_is t s R = ap length (link.live_list sheet of ok t s R)
 
   -- some price is below none where a bid is live
   some_live : (l : List ℕ) → least_or sheet l < no_price → (x : ℕ) × In x l
@@ -97,7 +97,7 @@ module _ (sheet : List ℕ) (of : Size) (ok : Ready sheet of) where
       unfolding lowest_of
       found =
           let f = some_live (sift (live_of sheet s) (below of.bids)) (rw ep at e) in
-          (f.0, rw (sym (link.live-list sheet of ok t s R)) f.1)
+          (f.0, rw (sym (link.live_list sheet of ok t s R)) f.1)
 
       held : In found.0 P.bids × (live P t found.0 ≡ true)
       held = sift_in found.0 (live P t) P.bids found.1
@@ -156,7 +156,7 @@ module _ (sheet : List ℕ) (of : Size) (ok : Ready sheet of) where
 
         empty : sift (live P t) P.bids ≡ []
         empty =
-            sym (link.live-list sheet of ok t s R)
+            sym (link.live_list sheet of ok t s R)
             ∙ none_live (sift (live_of sheet s) (below of.bids))
             (λ k i. ok.price k (below_in k of.bids (sift_in k (live_of sheet s) (below of.bids) i).0)) (opened (rw ep at f))
           where
@@ -207,7 +207,7 @@ module _ (sheet : List ℕ) (of : Size) (ok : Ready sheet of) where
       number = unfold goes_on pot_in in refl
 
       own : (i : ℕ) → In i P.bids → get_or (started_of sheet of).marks i 0 ≡ no_reason
-      own i j = started_at i (link.bid-lt sheet of ok i j) ∙ rw (link.bid-in sheet of ok i j)
+      own i j = started_at i (link.bid_lt sheet of ok i j) ∙ rw (link.bid_in sheet of ok i j)
 
       others : (i : ℕ) → i < most_bids → memb i P.bids ≡ false → get_or (started_of sheet of).marks i 0 ≡ not_here
       others i h f =

@@ -76,19 +76,19 @@ module _ (sheet : List ℕ) (of : Size) (ok : Ready sheet of) (s : PotState) {p 
     P = pot_in sheet of
 
     of_set : Rep P t s → members (taken_of sheet of s) of.bids ≡ taken P t
-    of_set R = looks.of-set sheet of ok t s R
+    of_set R = looks.of_set sheet of ok t s R
 
     tried : Rep P t s → v ≡ with_sums k q (win_all sheet (lowest_of sheet s of.bids) s (taken P t))
     tried R = ev ∙ ap (λ (l : List ℕ). with_sums k q (win_all sheet p s l)) (of_set R) ∙ ap (λ (x : ℕ). with_sums k q (win_all sheet x s (taken P t))) ep
 
     others : Rep P t s → (i : ℕ) → i < of.bids → in_auction sheet i ≡ false → eqb (get_or v.marks i 0) because_won ≡ false
     unfolding with_sums
-    others R i g e = ap (λ (u : PotState). eqb (get_or u.marks i 0) because_won) (tried R) ∙ looks.trial-others sheet of ok t s R i g e
+    others R i g e = ap (λ (u : PotState). eqb (get_or u.marks i 0) because_won) (tried R) ∙ looks.trial_others sheet of ok t s R i g e
 
     fits_is : Rep P t s → f ≡ fits P (taken P t ++ winners t)
     unfolding with_sums
     fits_is R =
-        row_fits_lem (column_sum v.sums) sheet of.columns (columns_few ok) Sv.row ef ∙ looks.trial-fits sheet of ok t s R (column_sum v.sums)
+        row_fits_lem (column_sum v.sums) sheet of.columns (columns_few ok) Sv.row ef ∙ looks.trial_fits sheet of ok t s R (column_sum v.sums)
         (λ c h. sum_total Sv.parts c h ok (others R) ∙ ap (λ (u : PotState). total_of sheet of u.marks u.prices c of.bids) (tried R))
 
   -- all that were taken fit
@@ -98,8 +98,8 @@ module _ (sheet : List ℕ) (of : Size) (ok : Ready sheet of) (s : PotState) {p 
       let R = S.rep n in
       rw (sym (fits_is t R) ∙ g, e, tried t R, settled_sums k q (win_all sheet (lowest_of sheet s of.bids) s (taken (pot_in sheet of) t)))
       (stands_sums k q (record {
-        wide = looks.won-wide sheet of ok t s R ∙ S.wide ∙ n;
-        rep = λ q. looks.won-rep sheet of ok t s R;
+        wide = looks.won_wide sheet of ok t s R ∙ S.wide ∙ n;
+        rep = λ q. looks.won_rep sheet of ok t s R;
       }))
 
   module _ (g : f ≡ false) where
@@ -116,8 +116,8 @@ module _ (sheet : List ℕ) (of : Size) (ok : Ready sheet of) (s : PotState) {p 
         let f : taken P t ≡ i ∷ [] = sym (of_set t R) ∙ q in
         let w : In i (taken P t) = rw f (here refl) in
         rw (look_lost t R ∙ ap (lost P t) f ∙ lost_one P t i, e) (record {
-          wide = looks.alone-wide sheet of ok t s R i ∙ S.wide ∙ n ∙ sym (not_wide P t i);
-          rep = λ u. looks.alone-rep sheet of ok t s R i w;
+          wide = looks.alone_wide sheet of ok t s R i ∙ S.wide ∙ n ∙ sym (not_wide P t i);
+          rep = λ u. looks.alone_rep sheet of ok t s R i w;
         })
       where
         not_wide : (P : Pot) (t : Trace) (i : ℕ) → (alone P t i).wide ≡ false
@@ -130,4 +130,4 @@ module _ (sheet : List ℕ) (of : Size) (ok : Ready sheet of) (s : PotState) {p 
         let P = pot_in sheet of in
         let R = S.rep n in
         rw (look_lost t R ∙ several P t (taken P t) (ap length (of_set t R)) q j, e, ea, ep)
-        (ties.tied-stands sheet of ok t s R (S.wide ∙ n))
+        (ties.tied_stands sheet of ok t s R (S.wide ∙ n))

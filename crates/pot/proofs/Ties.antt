@@ -61,7 +61,7 @@ module _ (sheet : List ℕ) (of : Size) (ok : Ready sheet of) where
     few = looks.few sheet of ok t s R
 
     of_set : members a of.bids ≡ l
-    of_set = looks.of-set sheet of ok t s R
+    of_set = looks.of_set sheet of ok t s R
 
     at_price : (i : ℕ) → In i l → P.price i ≡ p
     unfolding pot_in
@@ -76,8 +76,8 @@ module _ (sheet : List ℕ) (of : Size) (ok : Ready sheet of) where
 
     pub of_rest : members rest of.bids ≡ remaining P ws l
     of_rest =
-        tie.of-rest sheet of ok ws s.marks s.prices (holds_rep R).marked R.sizes.prices R.price p refl a l (of_set)
-        (link.taken-part sheet of ok t) at_price new rest rest_is
+        tie.of_rest sheet of ok ws s.marks s.prices (holds_rep R).marked R.sizes.prices R.price p refl a l (of_set)
+        (link.taken_part sheet of ok t) at_price new rest rest_is
 
     module _ (h : k ≤ widest_tie) where
       abbrev ch : List ℕ
@@ -95,23 +95,23 @@ module _ (sheet : List ℕ) (of : Size) (ok : Ready sheet of) where
 
       of_choice : members w of.bids ≡ ch
       of_choice =
-          tie.of-choice sheet of ok ws s.marks s.prices (holds_rep R).marked R.sizes.prices R.price p refl a l (of_set)
-          (link.taken-part sheet of ok t) at_price new rest rest_is refl h s.drawn R.drawn choice_is
+          tie.of_choice sheet of ok ws s.marks s.prices (holds_rep R).marked R.sizes.prices R.price p refl a l (of_set)
+          (link.taken_part sheet of ok t) at_price new rest rest_is refl h s.drawn R.drawn choice_is
 
       number_left : number_in choice.drawn ≡ divided (number_in s.drawn) (ways_of P ws l)
       number_left =
-          tie.number-left sheet of ok ws s.marks s.prices (holds_rep R).marked R.sizes.prices R.price p refl a l (of_set)
-          (link.taken-part sheet of ok t) at_price new rest rest_is refl h s.drawn refl choice_is
+          tie.number_left sheet of ok ws s.marks s.prices (holds_rep R).marked R.sizes.prices R.price p refl a l (of_set)
+          (link.taken_part sheet of ok t) at_price new rest rest_is refl h s.drawn refl choice_is
 
       in_w : (i : ℕ) → In i l → get_or w i false ≡ memb i ch
       in_w i j =
-          tie.choice-at sheet of ok ws s.marks s.prices (holds_rep R).marked R.sizes.prices R.price p refl a l (of_set)
-          (link.taken-part sheet of ok t) at_price new rest rest_is refl h s.drawn R.drawn choice_is i (sound i j).0
+          tie.choice_at sheet of ok ws s.marks s.prices (holds_rep R).marked R.sizes.prices R.price p refl a l (of_set)
+          (link.taken_part sheet of ok t) at_price new rest rest_is refl h s.drawn R.drawn choice_is i (sound i j).0
 
       in_choice : (i : ℕ) → In i ch → In i l
       in_choice =
-          tie.chosen-among sheet of ok ws s.marks s.prices (holds_rep R).marked R.sizes.prices R.price p refl a l (of_set)
-          (link.taken-part sheet of ok t) at_price new rest rest_is refl h (drawn_after P t)
+          tie.chosen_among sheet of ok ws s.marks s.prices (holds_rep R).marked R.sizes.prices R.price p refl a l (of_set)
+          (link.taken_part sheet of ok t) at_price new rest rest_is refl h (drawn_after P t)
 
       abbrev out : List ℕ
       out = others P l ch
@@ -155,7 +155,7 @@ module _ (sheet : List ℕ) (of : Size) (ok : Ready sheet of) where
             ∙ ap (λ (q : List Bool). not (memb d (map (row_year sheet) out)) && get_or q d false) (win_opened sheet p s R.sizes ch);
         prices = λ d j.
             ap (λ (q : List ℕ). get_or q d 0) (turn_prices sheet down_tied v sv out)
-            ∙ link.win-prices sheet of ok ws s R.sizes p ch d (λ c g. let f = sound c (in_choice c g) in (f.0, f.2));
+            ∙ link.win_prices sheet of ok ws s R.sizes p ch d (λ c g. let f = sound c (in_choice c g) in (f.0, f.2));
         hang = refl;
         drawn = number_left;
       }

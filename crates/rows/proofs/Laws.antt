@@ -72,7 +72,7 @@ module _ (R : Round) (S : Sound R) where
         year = b.year;
         days = omega (arith, b.days_most, (S.year (bid_at R.bids k).year (omega (arith, b.year, S.few))).days_most);
         capacity = omega (arith, b.capacity_most, (S.app (bid_at R.bids k).app b.app).capacity_most);
-        price = omega (arith, b.price, r.admin-most R S _ (bid_at R.bids k).year (S.app (bid_at R.bids k).app b.app).tech b.year);
+        price = omega (arith, b.price, r.admin_most R S _ (bid_at R.bids k).year (S.app (bid_at R.bids k).app b.app).tech b.year);
       }
 
   good_app : (a : ℕ) → a < R.n → Good R (at_admin_price R a)
@@ -84,7 +84,7 @@ module _ (R : Round) (S : Sound R) where
         year = x.year;
         days = omega (arith, x.days_most, (S.year (app_at R.apps a).year (omega (arith, x.year, S.few))).days_most);
         capacity = x.capacity_most;
-        price = r.admin-most R S _ (app_at R.apps a).year x.tech x.year;
+        price = r.admin_most R S _ (app_at R.apps a).year x.tech x.year;
       }
 
   -- of one that was read

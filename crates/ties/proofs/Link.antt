@@ -95,14 +95,14 @@ module _ (sheet : List ℕ) (of : Size) (ok : Ready sheet of) where
     part =
         opened
         ∙ sift_same (λ k. in_auction sheet k && memb k (i ∷ [])) (λ k. eqb k i) (below of.bids) (λ k j. alike k)
-        ∙ one of.bids (link.bid-lt sheet of ok i h);
+        ∙ one of.bids (link.bid_lt sheet of ok i h);
   }
     where
       opened : sift (λ k. memb k (i ∷ [])) P.bids ≡ sift (λ k. in_auction sheet k && memb k (i ∷ [])) (below of.bids)
       opened = unfold pot_in in sift_both (λ k. memb k (i ∷ [])) (in_auction sheet) (below of.bids)
 
       alike : (k : ℕ) → (in_auction sheet k && memb k (i ∷ [])) ≡ eqb k i
-      alike k = case (eqb k i) (λ t. rw (t, eqb-true k i t, link.bid-in sheet of ok i h)) (λ f. rw f (no (in_auction sheet k)))
+      alike k = case (eqb k i) (λ t. rw (t, eqb-true k i t, link.bid_in sheet of ok i h)) (λ f. rw f (no (in_auction sheet k)))
         where
           no : (t : Bool) → (t && false) ≡ false
           no true = refl
@@ -133,7 +133,7 @@ module _ (sheet : List ℕ) (of : Size) (ok : Ready sheet of) where
       closed = unfold pot_in in Q.part
 
       alike : (i : ℕ) → memb i bs ≡ (in_auction sheet i && memb i bs)
-      alike i = case (memb i bs) (λ t. rw (t, link.bid-in sheet of ok i (part_in P i Q (memb_in i bs t)))) (λ f. rw f (no (in_auction sheet i)))
+      alike i = case (memb i bs) (λ t. rw (t, link.bid_in sheet of ok i (part_in P i Q (memb_in i bs t)))) (λ f. rw f (no (in_auction sheet i)))
         where
           no : (t : Bool) → false ≡ (t && false)
           no true = refl
@@ -147,7 +147,7 @@ module _ (sheet : List ℕ) (of : Size) (ok : Ready sheet of) where
     over t d = pick (has t d) p (clearing P ws d)
 
     start : (i : ℕ) → In i P.bids → row_year sheet i < 4
-    start i h = ok.year i (link.bid-lt sheet of ok i h)
+    start i h = ok.year i (link.bid_lt sheet of ok i h)
 
     row_at : (t c : ℕ) → t < 16 → c < of.columns → get_or base (t * columns + c) 0 ≡ total_of sheet of marks (repriced_to prices p t 4) c of.bids
     unfolding no_base base_at
@@ -165,7 +165,7 @@ module _ (sheet : List ℕ) (of : Size) (ok : Ready sheet of) where
     base_is : (t c : ℕ) → t < 16 → c < of.columns → get_or base (t * columns + c) 0 ≡ tally P (column_of P) (λ i. memb i ws) (over t) c P.bids
     base_is t c h g =
         row_at t c h g
-        ∙ link.total-at sheet of ok ws marks (repriced_to prices p t 4) M (over t) same c
+        ∙ link.total_at_lem sheet of ok ws marks (repriced_to prices p t 4) M (over t) same c
       where
         same : (i : ℕ) → In i P.bids → memb i ws ≡ true → get_or (repriced_to prices p t 4) (row_year sheet i) 0 ≡ over t (row_year sheet i)
         same i j w =
@@ -206,7 +206,7 @@ module _ (sheet : List ℕ) (of : Size) (ok : Ready sheet of) where
         own : (i : ℕ) → In i bs → column_of P i (over t (P.yr i)) c ≡ worth_of sheet of i p c
         own i j =
             let k = part_in P i T.part j in
-            rw (years i k, in_memb (in_map P.yr j)) (link.column-is sheet of ok i p c (link.bid-in sheet of ok i k))
+            rw (years i k, in_memb (in_map P.yr j)) (link.column_is sheet of ok i p c (link.bid_in sheet of ok i k))
 
     -- ---- what fits alone
     module _ (a : List Bool) (l : List ℕ) (of_set : members a of.bids ≡ l) (Q : Part P l) (pl : (i : ℕ) → In i l → P.price i ≡ p)
@@ -231,7 +231,7 @@ module _ (sheet : List ℕ) (of : Size) (ok : Ready sheet of) where
               opened d = unfold pot_in in refl
 
       alone_fits_lem : (i : ℕ) → In i l → alone_fits sheet of base p i ≡ fits P (i ∷ ws)
-      alone_fits_lem i j = link.fits-is sheet of ok (alone_total sheet of base p i) (i ∷ ws) (λ c h. alone_is i c j h)
+      alone_fits_lem i j = link.fits_is sheet of ok (alone_total sheet of base p i) (i ∷ ws) (λ c h. alone_is i c j h)
 
       module _ (s : List Bool) (es : s ≡ built (keeps_of sheet of base p a) of.bids) where
         abbrev r : List ℕ
@@ -392,11 +392,11 @@ module _ (sheet : List ℕ) (of : Size) (ok : Ready sheet of) where
 
               ok_is : ok_by sheet of table mask ≡ fits_at P ws r mask
               unfolding ok_by
-              ok_is = link.fits-is sheet of ok (joint_of table mask (union_of table mask)) (cs ++ ws) total_is
+              ok_is = link.fits_is sheet of ok (joint_of table mask (union_of table mask)) (cs ++ ws) total_is
 
               last_is : last_by of table mask ≡ last_at P ws r mask
               unfolding last_by
-              last_is = total_is (of.years - 1) (omega (arith, ok.some, ok.columns_least)) ∙ opened ∙ link.total-column P (cs ++ ws) (P.years - 1) year
+              last_is = total_is (of.years - 1) (omega (arith, ok.some, ok.columns_least)) ∙ opened ∙ link.total_column P (cs ++ ws) (P.years - 1) year
                 where
                   opened : column_total P (cs ++ ws) (of.years - 1) ≡ column_total P (cs ++ ws) (P.years - 1)
                   opened = unfold pot_in in refl
@@ -419,8 +419,8 @@ module _ (sheet : List ℕ) (of : Size) (ok : Ready sheet of) where
 
           apart : (c d : ℕ) → In c r → In d r → P.draw c ≡ P.draw d → c ≡ d
           apart c d i j e =
-              ok.apart c d (link.bid-lt sheet of ok c (of_pot_lem c i)) (link.bid-lt sheet of ok d (of_pot_lem d j)) (link.bid-in sheet of ok c (of_pot_lem c i))
-              (link.bid-in sheet of ok d (of_pot_lem d j)) (one_price (price_is c i ∙ sym (price_is d j))) (one_draw e)
+              ok.apart c d (link.bid_lt sheet of ok c (of_pot_lem c i)) (link.bid_lt sheet of ok d (of_pot_lem d j)) (link.bid_in sheet of ok c (of_pot_lem c i))
+              (link.bid_in sheet of ok d (of_pot_lem d j)) (one_price (price_is c i ∙ sym (price_is d j))) (one_draw e)
             where
               of_pot_lem : (x : ℕ) → In x r → In x P.bids
               of_pot_lem x h = part_in P x Q (among x h)
