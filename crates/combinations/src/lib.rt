@@ -8,7 +8,7 @@ pub mod tables;
 use names::WIDEST_TIE;
 
 // So many bids; their numbers, in the order of the file; the binary place and the start year of each.
-#[derive(Drop)]
+#[derive(Clone, Copy)]
 pub struct Tied {
     pub count: usize,
     pub bids: [usize; WIDEST_TIE],

@@ -24,7 +24,7 @@ pub const RQM_SCALE: u64 = 10000;
 
 // A valuation line by line: price less reference, the product, and a line for each scale, of which the last is the value. From the fourth the
 // numbers fit one column.
-#[derive(Drop)]
+#[derive(Clone, Copy)]
 pub struct Valuation {
     pub margin: u64,
     pub product: Wide,
