@@ -1,6 +1,8 @@
 // Money, in whole pence: a budget, and the value of one bid in one year, as a bookkeeper works it by pencil: the whole product, 10^15 parts to
 // the penny, and below it a line for each scale, which divides the line above and rounds up. That this rounds the exact cost up once is
 // `Scales.lined`.
+#![tactic(auto)]
+
 pub mod wide;
 
 ghost use Rattle.std.specs.Prelude.{◌≡◌, ◌-◌, ◌*◌, ◌≤◌, min};

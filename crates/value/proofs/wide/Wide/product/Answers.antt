@@ -5,31 +5,21 @@ use native.Mathlib.Nat.{div-add-mod', mul-le-mul}
 use native.Mathlib.Omega.{arith}
 use Rattle.rules.specs.Value.{most_share}
 use Rattle.value.specs.Wide.{column, most_lower}
-use Rattle.value.proofs.wide.Wide.product.Statement.{statement}
-use Rattle.value.proofs.wide.Wide.product.Tie as tie
+use Rattle.value.proofs.wide.Wide.product.Goals as goal
 
 -- the most units of the upper column in 64 bits
 abbrev most_upper : ℕ
 most_upper = 184467440
 
-high : (c : tie.Start) → c.args.parts / column * c.args.share ≤ most_upper * most_share
+high : (c : goal.Start) → c.args.parts / column * c.args.share ≤ most_upper * most_share
 high c = mul-le-mul {n₂ = most_upper} (omega arith) c.requires
 
-low : (c : tie.Start) → c.args.parts % column * c.args.share ≤ most_lower
+low : (c : goal.Start) → c.args.parts % column * c.args.share ≤ most_lower
 low c = mul-le-mul {n₂ = column} (omega arith) c.requires
 
-mul-t4 : tie.Need-overflow-mul-t4
-mul-t4 c = omega (arith, high c)
-
-mul-t6 : tie.Need-overflow-mul-t6
-mul-t6 c = omega (arith, low c)
-
-returns : tie.Need-returns
+pub returns : goal.returns
 returns c = record {
   is = omega (arith, ap (λ (x : ℕ). x * c.args.share) (div-add-mod' c.args.parts column));
   columned = refl;
   low = low c;
 }
-
-pub product_spec : {M : Type 1} → statement M
-product_spec = tie.close (tie.spec mul-t4 mul-t6 returns)
