@@ -1,4 +1,6 @@
 // "A reader holds the file and its place in it." Thin functions take it apart and call covered ones on slice and number.
+#![tactic(auto)]
+
 ghost use Rattle.std.specs.Prelude.{◌≡◌, ◌+◌, ◌-◌, ◌≤◌, ◌<◌, ◌^◌, min, length};
 ghost use Rattle.rules.specs.Names.{count_width};
 ghost use Rattle.rules.specs.Bytes.{le, part};
