@@ -2,6 +2,8 @@
 // present winners count; and what the bids count. A trial of some of them changes the clearing price of the years in which these start, and of no other; so
 // the totals of the winners are taken once for each set of delivery years, and a combination adds what its own bids cost, which a table has for each part of
 // its number. specs/Combinations.antt says what each function computes.
+#![tactic(auto)]
+
 pub mod places;
 pub mod tables;
 
