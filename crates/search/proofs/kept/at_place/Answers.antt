@@ -21,7 +21,7 @@ walk-found-requires c = let k = c.stretch_of-k.result in
     let from = stretch_same k c.power-all.ensures c.stretch_end-mask.ensures in
     let to = stretch_same (k + 1) c.power-all.ensures c.stretch_end-end.ensures in
     let up = stretch_up (2 ^ c.args.tied.count) k in
-    ((c.requires.0, omega (arith, from, to, up.0), omega (arith, to, up.1)), stretch_list _ _ c.requires.1 _ _ c.stretch_of-k.ensures ∙ ap (listed_of _ _) (sym from))
+    record { seeking = (c.requires.0, omega (arith, from, to, up.0), omega (arith, to, up.1)); list_value = stretch_list _ _ c.requires.1 _ _ c.stretch_of-k.ensures ∙ ap (listed_of _ _) (sym from) }
 
 pub returns : goal.returns
 returns c = stretch_place _ _ c.requires.1 _ _ c.stretch_of-k.ensures (c.walk-found.ensures ∙ ap (listed_of _ _) (stretch_same (c.stretch_of-k.result + 1) c.power-all.ensures c.stretch_end-end.ensures)) c.if-k-ge-STRETCHES.false

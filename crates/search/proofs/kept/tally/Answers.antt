@@ -21,7 +21,7 @@ pub walk-list-requires : goal.walk-list-requires
 walk-list-requires c = let from = stretch_same c.loop-k.k c.power-all.ensures c.stretch_end-mask.ensures in
     let to = stretch_same (c.loop-k.k + 1) c.power-all.ensures c.stretch_end-end.ensures in
     let up = stretch_up (2 ^ c.args.tied.count) c.loop-k.k in
-    ((c.requires, omega (arith, from, to, up.0), omega (arith, to, up.1)), c.loop-k.invariant.1 ∙ ap (listed_of _ _) (sym from))
+    record { seeking = (c.requires, omega (arith, from, to, up.0), omega (arith, to, up.1)); list_value = c.loop-k.invariant.1 ∙ ap (listed_of _ _) (sym from) }
 
 pub loop-k-preserved : goal.loop-k-preserved
 loop-k-preserved c = let list = c.walk-list.ensures ∙ ap (listed_of _ _) (stretch_same (c.loop-k.k + 1) c.power-all.ensures c.stretch_end-end.ensures) in
