@@ -1,8 +1,12 @@
-// Round files on standard input, one after the other: for each, two bytes that say how long it is, then the file.
-ghost use Rattle.std.specs.Prelude.{◌≡◌, ◌<◌, length};
+// Round files from a reader, one after the other: for each, two bytes that say how long it is, then the file.
+#![tactic(auto)]
+
+ghost use Rattle.std.specs.Prelude.{◌≡◌, ◌<◌, length, IfOk};
+ghost use Rattle.std.specs.Io.{ReadsAtMost};
 ghost use Rattle.cases.specs.Cases.{room, Within};
 
-use libc::STDIN_FILENO;
+use std::io;
+use std::io::Read;
 
 // Room for the longest round file and bytes after it.
 pub const ROOM: usize = 8192;
@@ -25,23 +29,40 @@ pub fn blank() -> [u8; ROOM]
     [0; ROOM]
 }
 
-// The next file is read into `file`: how long it is, or that there is none.
-pub fn next(file: &mut [u8]) -> Got
+// Reads until `buf` is full or the input ends, and answers how many bytes it put at the start of `buf`. On an empty `buf` it makes no call. Where a read fails,
+// what the reads before it gave stands at the start of `buf`, and the reader stands after it.
+pub fn read_full<R: Read>(reader: &mut R, buf: &mut [u8]) -> io::Result<usize>
+    ensures { ReadsAtMost result buf.new }
+{
+    let mut done: usize = 0;
+    while done < buf.len() {
+        let n = reader.read(&mut buf[done..])?;
+        if n == 0 {
+            break;
+        }
+        done += n;
+    }
+    Ok(done)
+}
+
+// The next file is read into `file`: how long it is, or that there is none. Where a read fails, the bytes before the failure are read, and some of them may stand
+// in `file`.
+pub fn next<R: Read>(reader: &mut R, file: &mut [u8]) -> io::Result<Got>
     requires { room ≡ length file.old }
-    ensures { Within result }
+    ensures { IfOk result Within }
 {
     let mut head = [0u8; names::COUNT_WIDTH];
-    let got = io::read_full(STDIN_FILENO, &mut head);
+    let got = read_full(reader, &mut head)?;
     if got < names::COUNT_WIDTH {
-        return Got::End;
+        return Ok(Got::End);
     }
     let length = wide(head[0]) + 256 * wide(head[1]);
     if length > ROOM {
-        return Got::End;
+        return Ok(Got::End);
     }
-    let n = io::read_full(STDIN_FILENO, &mut file[..length]);
+    let n = read_full(reader, &mut file[..length])?;
     if n < length {
-        return Got::End;
+        return Ok(Got::End);
     }
-    Got::File { length }
+    Ok(Got::File { length })
 }

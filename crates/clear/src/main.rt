@@ -1,12 +1,15 @@
 // Prints the listing of the round file on standard input.
-use libc::{STDIN_FILENO, STDOUT_FILENO};
+#![tactic(auto)]
 
-fn main() {
+use std::io;
+
+fn main(rt: HostRuntime) -> io::Result<()> {
     let mut file = layout::blank_file();
-    let n = io::read_full(STDIN_FILENO, &mut file);
+    let n = cases::read_full(&mut rt.reader(), &mut file)?;
     let mut text = listing::blank();
     let m = round::list(&file[..n], &mut text);
     if m <= text.len() {
-        io::write_all(STDOUT_FILENO, &text[..m]);
+        rt.write_all(&text[..m])?;
     }
+    Ok(())
 }

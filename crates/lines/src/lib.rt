@@ -1,4 +1,6 @@
 // The lines of the listing, each put over the start of a lent part, with its length for an answer.
+#![tactic(auto)]
+
 ghost use Rattle.std.specs.Prelude.{◌++◌, ◌+◌, ◌≤◌, length};
 ghost use Rattle.rules.specs.Listing.{ascii, decimal, outcome_word, price_word, bid_word, pot_line, year_line, won_line, lost_line, app_line, bid_line, refusal_line};
 ghost use Rattle.lines.specs.Printed.{Printed};

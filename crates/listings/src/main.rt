@@ -1,25 +1,30 @@
 // Prints the listing of each file on standard input.
+#![tactic(auto)]
+
 use cases::Got;
-use libc::STDOUT_FILENO;
+use std::io;
 
 // Prints the listing of a file.
-fn print(file: &[u8]) {
+fn print(out: &impl Print, file: &[u8]) -> io::Result<()> {
     let mut text = listing::blank();
     let m = round::list(file, &mut text);
     if m <= text.len() {
-        io::write_all(STDOUT_FILENO, &text[..m]);
+        out.write_all(&text[..m])?;
     }
+    Ok(())
 }
 
-fn main() {
+fn main(rt: HostRuntime) -> io::Result<()> {
+    let mut reader = rt.reader();
     let mut file = cases::blank();
     let mut turns: u64 = 1000000;
     while turns > 0 {
-        let got = cases::next(&mut file);
+        let got = cases::next(&mut reader, &mut file)?;
         let Got::File { length } = got else {
-            return;
+            return Ok(());
         };
-        print(&file[..length]);
+        print(&rt, &file[..length])?;
         turns -= 1;
     }
+    Ok(())
 }

@@ -5,6 +5,7 @@ ghost use Rattle.layout.specs.Layout.{Room};
 use super::whose::after;
 use layout::pot;
 use places::{count, on};
+use std::io;
 use text::word;
 
 // Does the count at `at` tell of 1 to 4 pots, with "16,384 added without 32,768"? No count but the pots' has anything added.
@@ -35,17 +36,17 @@ fn budget_high(recs: &[u8], years: usize, gained: usize) -> bool
 
 // The pot whose record starts at `at`. It stands whole in the file, since rule 1 comes before rule 4; if its budgets are right, it is the cap that is not, as
 // every drawn number is right.
-pub fn of_pot(file: &[u8], at: usize) {
+pub fn of_pot(out: &impl Print, file: &[u8], at: usize) -> io::Result<()> {
     let years = count(file, 0);
     let pots_at = after(0, years, names::YEAR_WIDTH);
     let gained = pot::gained_told(count(file, pots_at) as u64);
     let width = pot::width(years, gained);
     let recs = reader::part_to(file, at, on(at, width));
     if recs.len() < width {
-        return;
+        return Ok(());
     }
     if budget_high(recs, years, gained) {
-        return word(b": a budget above \xC2\xA31,000,000,000,000");
+        return word(out, b": a budget above \xC2\xA31,000,000,000,000");
     }
-    word(b": a cap above 200,000 MW");
+    word(out, b": a cap above 200,000 MW")
 }

@@ -1,34 +1,36 @@
 // Says in one line which record of the round file on standard input broke which rule; prints nothing where the file is accepted.
+#![tactic(auto)]
+
 mod broken;
 mod rule;
 mod whose;
 
-use libc::STDIN_FILENO;
 use rules::Reading;
+use std::io;
 use text::{field, word};
 
-fn refused(file: &[u8], number: u64, at: usize) {
-    word(b"refused: ");
+fn refused(out: &impl Print, file: &[u8], number: u64, at: usize) -> io::Result<()> {
+    word(out, b"refused: ")?;
     if number == names::BYTES_AFTER {
-        word(b"the file");
+        word(out, b"the file")?;
     } else {
-        whose::record(file, at);
+        whose::record(out, file, at)?;
     }
-    field(b" breaks rule ", number);
-    rule::words(file, number, at);
-    word(b"\n");
+    field(out, b" breaks rule ", number)?;
+    rule::words(out, file, number, at)?;
+    word(out, b"\n")
 }
 
-fn explain(file: &[u8]) {
+fn explain(out: &impl Print, file: &[u8]) -> io::Result<()> {
     let got = file::read(file);
     match got {
-        Reading::Accepted { sections: _ } => {}
-        Reading::Refused { number, at } => refused(file, number, at),
+        Reading::Accepted { sections: _ } => Ok(()),
+        Reading::Refused { number, at } => refused(out, file, number, at),
     }
 }
 
-fn main() {
+fn main(rt: HostRuntime) -> io::Result<()> {
     let mut file = layout::blank_file();
-    let n = io::read_full(STDIN_FILENO, &mut file);
-    explain(&file[..n]);
+    let n = cases::read_full(&mut rt.reader(), &mut file)?;
+    explain(&rt, &file[..n])
 }

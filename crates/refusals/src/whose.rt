@@ -6,6 +6,7 @@ ghost use Rattle.layout.specs.Layout.{beyond};
 
 use layout::{pot, technology};
 use places::{count, on};
+use std::io;
 use text::{number, word};
 
 // The place after a section of n records, whose count is at `at`.
@@ -18,22 +19,29 @@ pub fn after(at: usize, n: usize, width: usize) -> usize
 
 // `bid 6`, or `the count of bids`: the record that starts at `at`, of a section whose count is at `start`. No width is 0 where a record is
 // at fault, since the file then has a year.
-fn told(start: usize, at: usize, width: usize, one: &[u8], many: &[u8]) {
+fn told(
+    out: &impl Print,
+    start: usize,
+    at: usize,
+    width: usize,
+    one: &[u8],
+    many: &[u8],
+) -> io::Result<()> {
     let first = on(start, names::COUNT_WIDTH);
     if at < first {
-        word(b"the count of ");
-        word(many);
-        return;
+        word(out, b"the count of ")?;
+        return word(out, many);
     }
-    word(one);
-    word(b" ");
+    word(out, one)?;
+    word(out, b" ")?;
     if width > 0 {
-        number(((at - first) / width) as u64);
+        number(out, ((at - first) / width) as u64)?;
     }
+    Ok(())
 }
 
 // An application or a bid, where the applications' count is at `applications_at`.
-fn of_offers(file: &[u8], applications_at: usize, at: usize) {
+fn of_offers(out: &impl Print, file: &[u8], applications_at: usize, at: usize) -> io::Result<()> {
     let bids_at = after(
         applications_at,
         count(file, applications_at),
@@ -41,6 +49,7 @@ fn of_offers(file: &[u8], applications_at: usize, at: usize) {
     );
     if at < bids_at {
         return told(
+            out,
             applications_at,
             at,
             names::APP_WIDTH,
@@ -48,11 +57,11 @@ fn of_offers(file: &[u8], applications_at: usize, at: usize) {
             b"applications",
         );
     }
-    told(bids_at, at, names::BID_WIDTH, b"bid", b"bids");
+    told(out, bids_at, at, names::BID_WIDTH, b"bid", b"bids")
 }
 
 // A pot, or what follows, in a file of so many years whose count of pots is at `pots_at`.
-fn of_pots(file: &[u8], years: usize, pots_at: usize, at: usize)
+fn of_pots(out: &impl Print, file: &[u8], years: usize, pots_at: usize, at: usize) -> io::Result<()>
     requires { years < 65536 }
 {
     let counted = count(file, pots_at) as u64;
@@ -60,7 +69,7 @@ fn of_pots(file: &[u8], years: usize, pots_at: usize, at: usize)
     let pots = pot::pots_told(counted) as usize;
     let technologies_at = after(pots_at, pots, pot_width);
     if at < technologies_at {
-        return told(pots_at, at, pot_width, b"pot", b"pots");
+        return told(out, pots_at, at, pot_width, b"pot", b"pots");
     }
     let technology_width = technology::width(years);
     let applications_at = after(
@@ -70,6 +79,7 @@ fn of_pots(file: &[u8], years: usize, pots_at: usize, at: usize)
     );
     if at < applications_at {
         return told(
+            out,
             technologies_at,
             at,
             technology_width,
@@ -77,14 +87,14 @@ fn of_pots(file: &[u8], years: usize, pots_at: usize, at: usize)
             b"technologies",
         );
     }
-    of_offers(file, applications_at, at);
+    of_offers(out, file, applications_at, at)
 }
 
-pub fn record(file: &[u8], at: usize) {
+pub fn record(out: &impl Print, file: &[u8], at: usize) -> io::Result<()> {
     let years = count(file, 0);
     let pots_at = after(0, years, names::YEAR_WIDTH);
     if at < pots_at {
-        return told(0, at, names::YEAR_WIDTH, b"year", b"years");
+        return told(out, 0, at, names::YEAR_WIDTH, b"year", b"years");
     }
-    of_pots(file, years, pots_at, at);
+    of_pots(out, file, years, pots_at, at)
 }

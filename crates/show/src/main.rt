@@ -1,20 +1,22 @@
 // Prints the tables of the round file on standard input as a person reads them, or the line of its refusal. Pounds a MWh stand with three
 // decimals, MW with two and factors with four; budgets and declared costs stand in pounds and pence, though the file has whole pounds.
+#![tactic(auto)]
+
 mod tables;
 
-use libc::STDIN_FILENO;
 use rules::Reading;
+use std::io;
 
-fn show(file: &[u8]) {
+fn show(out: &impl Print, file: &[u8]) -> io::Result<()> {
     let got = file::read(file);
     match got {
-        Reading::Accepted { sections } => tables::print(file, sections),
-        Reading::Refused { number, at } => text::refused(number, at),
+        Reading::Accepted { sections } => tables::print(out, file, sections),
+        Reading::Refused { number, at } => text::refused(out, number, at),
     }
 }
 
-fn main() {
+fn main(rt: HostRuntime) -> io::Result<()> {
     let mut file = layout::blank_file();
-    let n = io::read_full(STDIN_FILENO, &mut file);
-    show(&file[..n]);
+    let n = cases::read_full(&mut rt.reader(), &mut file)?;
+    show(&rt, &file[..n])
 }

@@ -7,203 +7,237 @@ ghost use Rattle.rows.specs.Rows.{Held};
 
 use layout::{application, bid, parts, pot, technology, year};
 use rules::Sections;
+use std::io;
 use text::{factor, field, hundredths, money, thousandths, word};
 
-fn year_line(recs: &[u8], y: usize)
+fn year_line(out: &impl Print, recs: &[u8], y: usize) -> io::Result<()>
     requires { Room recs.now year_width y }
 {
-    field(b"  ", y as u64);
-    field(b"     ", year::days(recs, y));
+    field(out, b"  ", y as u64)?;
+    field(out, b"     ", year::days(recs, y))?;
     if year::kind(recs, y) == names::DELIVERY {
-        word(b"   delivery   ");
+        word(out, b"   delivery   ")?;
     } else {
-        word(b"   valuation  ");
+        word(out, b"   valuation  ")?;
     }
-    factor(b"", year::tlm(recs, y));
-    word(b"\n");
+    factor(out, b"", year::tlm(recs, y))?;
+    word(out, b"\n")
 }
 
-fn years(recs: &[u8], n: usize)
+fn years(out: &impl Print, recs: &[u8], n: usize) -> io::Result<()>
     requires { n * year_width ≤ length recs.now }
 {
-    word(b"years\n  year  days  kind       TLM\n");
+    word(out, b"years\n  year  days  kind       TLM\n")?;
     let mut y: usize = 0;
     while y < n {
-        year_line(recs, y);
+        year_line(out, recs, y)?;
         y += 1;
     }
+    Ok(())
 }
 
 // The budget of pot p in year y, after a comma but for the first.
-fn budget(recs: &[u8], years: usize, gained: usize, p: usize, y: usize)
+fn budget(
+    out: &impl Print,
+    recs: &[u8],
+    years: usize,
+    gained: usize,
+    p: usize,
+    y: usize,
+) -> io::Result<()>
     requires { Room recs.now (pot_width years gained) p × (y < years) }
 {
     if y > 0 {
-        word(b",");
+        word(out, b",")?;
     }
-    money(b" ", pot::budget(recs, years, gained, p, y), 0);
+    money(out, b" ", pot::budget(recs, years, gained, p, y), 0)
 }
 
-fn budgets(recs: &[u8], years: usize, gained: usize, p: usize)
+fn budgets(out: &impl Print, recs: &[u8], years: usize, gained: usize, p: usize) -> io::Result<()>
     requires { Room recs.now (pot_width years gained) p }
 {
     let mut y: usize = 0;
     while y < years {
-        budget(recs, years, gained, p, y);
+        budget(out, recs, years, gained, p, y)?;
         y += 1;
     }
+    Ok(())
 }
 
 // The cap of pot p, in a file with caps.
-fn cap(recs: &[u8], years: usize, gained: usize, p: usize)
+fn cap(out: &impl Print, recs: &[u8], years: usize, gained: usize, p: usize) -> io::Result<()>
     requires { Room recs.now (pot_width years gained) p × (cap_width ≤ gained) }
 {
     let cap = pot::cap(recs, years, gained, p);
     if cap == names::NO_CAP {
-        return word(b"; cap none");
+        return word(out, b"; cap none");
     }
-    hundredths(b"; cap ", cap);
-    word(b" MW");
+    hundredths(out, b"; cap ", cap)?;
+    word(out, b" MW")
 }
 
 // What the record of pot p has gained: its cap, and after that its drawn number, in a file with drawn numbers.
-fn gains(recs: &[u8], years: usize, gained: usize, p: usize)
+fn gains(out: &impl Print, recs: &[u8], years: usize, gained: usize, p: usize) -> io::Result<()>
     requires { Room recs.now (pot_width years gained) p × GainedTold gained }
 {
     if gained == 0 {
-        return;
+        return Ok(());
     }
-    cap(recs, years, gained, p);
+    cap(out, recs, years, gained, p)?;
     if gained <= names::CAP_WIDTH {
-        return;
+        return Ok(());
     }
-    field(b"; drawn number ", pot::drawn(recs, years, gained, p));
+    field(out, b"; drawn number ", pot::drawn(recs, years, gained, p))
 }
 
-fn pot_line(recs: &[u8], years: usize, gained: usize, p: usize)
+fn pot_line(out: &impl Print, recs: &[u8], years: usize, gained: usize, p: usize) -> io::Result<()>
     requires { Room recs.now (pot_width years gained) p × GainedTold gained }
 {
-    field(b"  pot ", p as u64);
-    word(b": budgets");
-    budgets(recs, years, gained, p);
-    gains(recs, years, gained, p);
-    word(b"\n");
+    field(out, b"  pot ", p as u64)?;
+    word(out, b": budgets")?;
+    budgets(out, recs, years, gained, p)?;
+    gains(out, recs, years, gained, p)?;
+    word(out, b"\n")
 }
 
-fn pots(recs: &[u8], years: usize, gained: usize, n: usize)
+fn pots(out: &impl Print, recs: &[u8], years: usize, gained: usize, n: usize) -> io::Result<()>
     requires { (n * pot_width years gained ≤ length recs.now) × GainedTold gained }
 {
-    word(b"pots\n");
+    word(out, b"pots\n")?;
     let mut p: usize = 0;
     while p < n {
-        pot_line(recs, years, gained, p);
+        pot_line(out, recs, years, gained, p)?;
         p += 1;
     }
+    Ok(())
 }
 
 // Technology t in year y.
-fn technology_year(recs: &[u8], years: usize, t: usize, y: usize)
+fn technology_year(
+    out: &impl Print,
+    recs: &[u8],
+    years: usize,
+    t: usize,
+    y: usize,
+) -> io::Result<()>
     requires { Room recs.now (tech_width years) t × (y < years) }
 {
-    field(b"    year ", y as u64);
-    thousandths(b": administrative ", technology::admin(recs, years, t, y));
-    thousandths(b", reference ", technology::reference(recs, years, t, y));
-    factor(b", load factor ", technology::load(recs, years, t, y));
-    word(b"\n");
+    field(out, b"    year ", y as u64)?;
+    thousandths(
+        out,
+        b": administrative ",
+        technology::admin(recs, years, t, y),
+    )?;
+    thousandths(
+        out,
+        b", reference ",
+        technology::reference(recs, years, t, y),
+    )?;
+    factor(out, b", load factor ", technology::load(recs, years, t, y))?;
+    word(out, b"\n")
 }
 
-fn technology_years(recs: &[u8], years: usize, t: usize)
+fn technology_years(out: &impl Print, recs: &[u8], years: usize, t: usize) -> io::Result<()>
     requires { Room recs.now (tech_width years) t }
 {
     let mut y: usize = 0;
     while y < years {
-        technology_year(recs, years, t, y);
+        technology_year(out, recs, years, t, y)?;
         y += 1;
     }
+    Ok(())
 }
 
-fn technology_lines(recs: &[u8], years: usize, t: usize)
+fn technology_lines(out: &impl Print, recs: &[u8], years: usize, t: usize) -> io::Result<()>
     requires { Room recs.now (tech_width years) t }
 {
-    field(b"  technology ", t as u64);
-    field(b": pot ", technology::pot(recs, years, t) as u64);
-    factor(b", RQM ", technology::rqm(recs, years, t));
-    word(b"\n");
-    technology_years(recs, years, t);
+    field(out, b"  technology ", t as u64)?;
+    field(out, b": pot ", technology::pot(recs, years, t) as u64)?;
+    factor(out, b", RQM ", technology::rqm(recs, years, t))?;
+    word(out, b"\n")?;
+    technology_years(out, recs, years, t)
 }
 
-fn technologies(recs: &[u8], years: usize, n: usize)
+fn technologies(out: &impl Print, recs: &[u8], years: usize, n: usize) -> io::Result<()>
     requires { n * tech_width years ≤ length recs.now }
 {
-    word(b"technologies\n");
+    word(out, b"technologies\n")?;
     let mut t: usize = 0;
     while t < n {
-        technology_lines(recs, years, t);
+        technology_lines(out, recs, years, t)?;
         t += 1;
     }
+    Ok(())
 }
 
-fn application_line(recs: &[u8], a: usize)
+fn application_line(out: &impl Print, recs: &[u8], a: usize) -> io::Result<()>
     requires { Room recs.now app_width a }
 {
     let x = application::read(recs, a);
-    field(b"  application ", a as u64);
-    field(b": technology ", x.technology as u64);
-    field(b", year ", x.year as u64);
-    field(b", first-year days ", x.days);
-    field(b", draw ", x.draw);
-    hundredths(b", ", x.capacity);
+    field(out, b"  application ", a as u64)?;
+    field(out, b": technology ", x.technology as u64)?;
+    field(out, b", year ", x.year as u64)?;
+    field(out, b", first-year days ", x.days)?;
+    field(out, b", draw ", x.draw)?;
+    hundredths(out, b", ", x.capacity)?;
     money(
+        out,
         b" MW, declared cost ",
         application::declared_cost(recs, a),
         0,
-    );
-    word(b"\n");
+    )?;
+    word(out, b"\n")
 }
 
-fn applications(recs: &[u8], n: usize)
+fn applications(out: &impl Print, recs: &[u8], n: usize) -> io::Result<()>
     requires { n * app_width ≤ length recs.now }
 {
-    word(b"applications\n");
+    word(out, b"applications\n")?;
     let mut a: usize = 0;
     while a < n {
-        application_line(recs, a);
+        application_line(out, recs, a)?;
         a += 1;
     }
+    Ok(())
 }
 
-fn bid_line(recs: &[u8], k: usize)
+fn bid_line(out: &impl Print, recs: &[u8], k: usize) -> io::Result<()>
     requires { Room recs.now bid_width k }
 {
     let x = bid::read(recs, k);
-    field(b"  bid ", k as u64);
-    field(b": application ", x.application as u64);
-    field(b", year ", x.year as u64);
-    field(b", first-year days ", x.days);
-    hundredths(b", ", x.capacity);
-    thousandths(b" MW, at ", x.price);
-    word(b"\n");
+    field(out, b"  bid ", k as u64)?;
+    field(out, b": application ", x.application as u64)?;
+    field(out, b", year ", x.year as u64)?;
+    field(out, b", first-year days ", x.days)?;
+    hundredths(out, b", ", x.capacity)?;
+    thousandths(out, b" MW, at ", x.price)?;
+    word(out, b"\n")
 }
 
-fn bids(recs: &[u8], n: usize)
+fn bids(out: &impl Print, recs: &[u8], n: usize) -> io::Result<()>
     requires { n * bid_width ≤ length recs.now }
 {
-    word(b"bids\n");
+    word(out, b"bids\n")?;
     let mut k: usize = 0;
     while k < n {
-        bid_line(recs, k);
+        bid_line(out, recs, k)?;
         k += 1;
     }
+    Ok(())
 }
 
-pub fn print(file: &[u8], sections: Sections)
+pub fn print(out: &impl Print, file: &[u8], sections: Sections) -> io::Result<()>
     requires { Held file.now sections }
 {
-    years(parts::years(file, sections), sections.years);
+    years(out, parts::years(file, sections), sections.years)?;
     let recs = parts::pots(file, sections);
-    pots(recs, sections.years, sections.gained, sections.pots);
+    pots(out, recs, sections.years, sections.gained, sections.pots)?;
     let techs = parts::technologies(file, sections);
-    technologies(techs, sections.years, sections.technologies);
-    applications(parts::applications(file, sections), sections.applications);
-    bids(parts::bids(file, sections), sections.bids);
+    technologies(out, techs, sections.years, sections.technologies)?;
+    applications(
+        out,
+        parts::applications(file, sections),
+        sections.applications,
+    )?;
+    bids(out, parts::bids(file, sections), sections.bids)
 }

@@ -1,59 +1,61 @@
-// Words and numbers on standard output, as the programs for people write them.
+// Words and numbers on standard output, as the programs for people write them. Where a write fails, what stands before it is written.
+#![tactic(auto)]
+
 pub mod figure;
 
 use figure::Figure;
-use libc::STDOUT_FILENO;
+use std::io;
 
-pub fn word(w: &[u8]) {
-    io::write_all(STDOUT_FILENO, w);
+pub fn word(out: &impl Print, w: &[u8]) -> io::Result<()> {
+    out.write_all(w)
 }
 
-pub fn number(n: u64) {
-    io::print_decimal(STDOUT_FILENO, n);
+pub fn number(out: &impl Print, n: u64) -> io::Result<()> {
+    out.print(n)
 }
 
 // A word, and a number after it.
-pub fn field(w: &[u8], n: u64) {
-    word(w);
-    number(n);
+pub fn field(out: &impl Print, w: &[u8], n: u64) -> io::Result<()> {
+    word(out, w)?;
+    number(out, n)
 }
 
 // A word, and a number of hundredths after it.
-pub fn hundredths(w: &[u8], n: u64) {
-    field(w, n / 100);
-    field(b".", n / 10 % 10);
-    number(n % 10);
+pub fn hundredths(out: &impl Print, w: &[u8], n: u64) -> io::Result<()> {
+    field(out, w, n / 100)?;
+    field(out, b".", n / 10 % 10)?;
+    number(out, n % 10)
 }
 
 // A word, and a number of thousandths after it.
-pub fn thousandths(w: &[u8], n: u64) {
-    field(w, n / 1000);
-    field(b".", n / 100 % 10);
-    number(n / 10 % 10);
-    number(n % 10);
+pub fn thousandths(out: &impl Print, w: &[u8], n: u64) -> io::Result<()> {
+    field(out, w, n / 1000)?;
+    field(out, b".", n / 100 % 10)?;
+    number(out, n / 10 % 10)?;
+    number(out, n % 10)
 }
 
 // A word, and a number of ten-thousandths after it.
-pub fn factor(w: &[u8], n: u64) {
-    field(w, n / 10000);
-    field(b".", n / 1000 % 10);
-    number(n / 100 % 10);
-    number(n / 10 % 10);
-    number(n % 10);
+pub fn factor(out: &impl Print, w: &[u8], n: u64) -> io::Result<()> {
+    field(out, w, n / 10000)?;
+    field(out, b".", n / 1000 % 10)?;
+    number(out, n / 100 % 10)?;
+    number(out, n / 10 % 10)?;
+    number(out, n % 10)
 }
 
 // A word, and an amount of money after it.
-pub fn money(w: &[u8], pounds: u64, pence: u64) {
-    word(w);
+pub fn money(out: &impl Print, w: &[u8], pounds: u64, pence: u64) -> io::Result<()> {
+    word(out, w)?;
     let amount = Figure::money(pounds, pence);
     let places = amount.places;
     let at = amount.at;
-    word(&places[at..]);
+    word(out, &places[at..])
 }
 
 // The line of a refusal: `refused 7 at 120`.
-pub fn refused(number: u64, at: usize) {
-    field(b"refused ", number);
-    field(b" at ", at as u64);
-    word(b"\n");
+pub fn refused(out: &impl Print, number: u64, at: usize) -> io::Result<()> {
+    field(out, b"refused ", number)?;
+    field(out, b" at ", at as u64)?;
+    word(out, b"\n")
 }

@@ -1,4 +1,5 @@
 // Document 01's values V1 to V5, in pence, and the edges of rounding, run: each is checked, and that the check holds is proved.
+#![tactic(auto)]
 
 // Load factor × hours × capacity: of V1, V3 and V4, of V2 and of V5.
 const ENERGY: u64 = 3000 * 8760 * 1000;
