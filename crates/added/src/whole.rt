@@ -24,7 +24,7 @@ fn alone(table: &Table, place: u32, c: usize) -> u64
 }
 
 // A column, the least that a bid of the tie counts in it, and the binary place of such a bid.
-#[derive(Drop)]
+#[derive(Clone, Copy)]
 pub struct Narrow {
     pub column: usize,
     pub least: u64,
@@ -73,7 +73,7 @@ pub fn narrow_column(sheet: &Sheet, of: Size, table: &Table, count: u32) -> Narr
 }
 
 // A combination, and the delivery years that it touches.
-#[derive(Drop)]
+#[derive(Clone, Copy)]
 pub struct At {
     pub mask: u32,
     pub years: usize,
@@ -93,7 +93,7 @@ fn left(sheet: &Sheet, table: &Table, at: At, c: usize) -> u64
 }
 
 // A column, and what the combination leaves of its limit.
-#[derive(Drop)]
+#[derive(Clone, Copy)]
 pub struct Room {
     pub column: usize,
     pub left: u64,

@@ -1,4 +1,6 @@
 // Sets of bids, as arrays with a place for each bid by number. specs/Sets.antt says what each function computes.
+#![tactic(auto)]
+
 ghost use Rattle.std.specs.Prelude.{◌≡◌, not, ◌&&◌, ◌≤◌, ◌<◌, length};
 ghost use Rattle.rules.specs.Names.{most_bids};
 ghost use Rattle.arrays.specs.Sets.{built, members, without};

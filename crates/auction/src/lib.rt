@@ -12,7 +12,7 @@ use rules::Told;
 use sheet::{COLUMNS, Sheet, Size};
 
 // What is told of a pot: the outcome, the clearing price of each delivery year, the total of each year; of each application; and the reason of each bid.
-#[derive(Drop)]
+#[derive(Clone, Copy)]
 pub struct Cleared {
     pub outcome: u64,
     pub prices: [u64; MOST_DELIVERIES],
@@ -23,7 +23,7 @@ pub struct Cleared {
 
 // How a pot ended: its outcome, clearing prices and row of totals; the mark of each bid and which applications won, from which the reasons are told; with what
 // each application won: the number of its bid, AT_ADMIN, or NO_BID where it lost; and the automatic reason of one without a sealed bid.
-#[derive(Drop)]
+#[derive(Clone, Copy)]
 struct End {
     outcome: u64,
     prices: [u64; MOST_DELIVERIES],

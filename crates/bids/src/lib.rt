@@ -1,4 +1,6 @@
 // The bids' records: refusals 1, 7, 8 and 9 of each in file order; and 11, once the file has ended well.
+#![tactic(auto)]
+
 ghost use Rattle.std.specs.Prelude.{◌≡◌, ◌+◌, ◌*◌, ◌≤◌, ◌<◌, ◌^◌, length};
 ghost use Rattle.rules.specs.Names.{bid_width};
 ghost use Rattle.rules.specs.Refusals.{record_fault, or_fault, bid_fault};

@@ -13,7 +13,7 @@ use sheet::{Sheet, Size};
 use ties::best::{Best, fitting, last};
 
 // A combination, and what another must have in the last year to be better: one more than it has, and 0 where none is found.
-#[derive(Drop)]
+#[derive(Clone, Copy)]
 pub struct Found {
     pub mask: u32,
     pub goal: u64,

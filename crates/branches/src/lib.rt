@@ -33,7 +33,7 @@ pub fn cut(sheet: &Sheet, of: Size, table: &Table, goal: u64, mask: u32, size: u
 }
 
 // A combination, and so many of the tie from it on.
-#[derive(Drop)]
+#[derive(Clone, Copy)]
 pub struct From {
     pub mask: u32,
     pub left: u32,

@@ -11,7 +11,7 @@ use combinations::tables::{Table, part_cost, part_years};
 use sheet::{COLUMNS, Size};
 
 // The delivery years that the upper parts of a number touch, and what their bids count in the last year.
-#[derive(Drop)]
+#[derive(Clone, Copy)]
 pub struct Upper {
     pub years: usize,
     pub sum: u64,

@@ -7,7 +7,7 @@ use libc::STDIN_FILENO;
 // Room for the longest round file and bytes after it.
 pub const ROOM: usize = 8192;
 
-#[derive(Drop)]
+#[derive(Clone, Copy)]
 pub enum Got {
     File { length: usize },
     End,

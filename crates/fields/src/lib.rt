@@ -1,4 +1,6 @@
 // "Numbers are little-endian": the number in two, four or eight bytes at an offset of a slice.
+#![tactic(auto)]
+
 ghost use Rattle.std.specs.Prelude.{◌≡◌, ◌+◌, ◌≤◌, ◌<◌, length};
 ghost use Rattle.rules.specs.Bytes.{le};
 

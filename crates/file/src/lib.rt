@@ -1,4 +1,6 @@
 // The reader of a round file: five sections in order, each refusal carried out as it is; then refusals 10 and 11.
+#![tactic(auto)]
+
 ghost use Rattle.std.specs.Prelude.{◌≡◌};
 ghost use Rattle.rules.specs.Refusals.{reading};
 ghost use Rattle.rules.specs.declared.Reading.TheVariants.{Accepted};

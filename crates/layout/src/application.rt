@@ -6,7 +6,7 @@ ghost use Rattle.rules.specs.Bytes.{le};
 ghost use Rattle.rules.specs.File.{app_at};
 ghost use Rattle.layout.specs.Layout.{Room, application_shown};
 
-#[derive(Drop)]
+#[derive(Clone, Copy)]
 pub struct Application {
     pub technology: usize,
     pub year: usize,

@@ -4,7 +4,7 @@ ghost use Rattle.rules.specs.Names.{bid_width};
 ghost use Rattle.rules.specs.File.{bid_at};
 ghost use Rattle.layout.specs.Layout.{Room, bid_shown};
 
-#[derive(Drop)]
+#[derive(Clone, Copy)]
 pub struct Bid {
     pub application: usize,
     pub year: usize,

@@ -21,7 +21,7 @@ use totals::sums::Sums;
 const NO_YEAR: usize = MOST_DELIVERIES;
 
 // The marks of every bid, the applications that have won, the years that are open, and the clearing price of each year.
-#[derive(Drop)]
+#[derive(Clone, Copy)]
 pub struct PotState {
     pub marks: [u16; BIDS],
     pub won: [bool; APPS],
@@ -39,7 +39,7 @@ pub struct PotState {
 }
 
 // What a look at the live bids sees: the lowest price, none where no bid is live; how many bids carry it, and the last of these in the order of the file.
-#[derive(Drop)]
+#[derive(Clone, Copy)]
 pub struct Look {
     pub price: u64,
     pub count: usize,

@@ -1,4 +1,6 @@
 // The records of a file's first four sections: each section's own checks, over the part of the file that its records occupy.
+#![tactic(auto)]
+
 pub mod applications;
 pub mod pots;
 pub mod technologies;

@@ -1,4 +1,6 @@
 // The result: what is told of a round, as counts and records in bytes, each section through its own part of the lent buffer.
+#![tactic(auto)]
+
 ghost use Rattle.std.specs.Prelude.{◌≡◌, ◌+◌, ◌*◌, ◌≤◌, ◌<◌, length};
 ghost use Rattle.rules.specs.Names.{count_width};
 ghost use Rattle.rules.specs.Bytes.{each, onto};
@@ -39,7 +41,7 @@ const REASON_AT: usize = BID_AT + BID_SIZE;
 const PAID_AT: usize = REASON_AT + REASON_SIZE;
 
 // What is told of a pot: the outcome, the clearing price of each delivery year, the total of each year.
-#[derive(Drop)]
+#[derive(Clone, Copy)]
 pub struct PotTold {
     pub outcome: u64,
     pub prices: [u64; MOST_DELIVERIES],
@@ -47,7 +49,7 @@ pub struct PotTold {
 }
 
 // What is told of a round before it is bytes: of each pot, of each application, and the reason of each bid.
-#[derive(Drop)]
+#[derive(Clone, Copy)]
 pub struct Tellings {
     pub pots: [PotTold; MOST_POTS as usize],
     pub apps: [Told; MOST_APPS as usize],

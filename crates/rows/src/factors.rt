@@ -11,7 +11,7 @@ use layout::{parts, technology, year};
 use rules::Sections;
 
 // Each at its scale, and the reference price with them. What is kept after losses is 1 − TLM.
-#[derive(Drop)]
+#[derive(Clone, Copy)]
 pub struct Factors {
     pub reference: u64,
     pub load: u64,

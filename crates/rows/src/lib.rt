@@ -1,5 +1,7 @@
 // What stands in the sheet of a pot for one bid: its row, and its figures in each year; and for one application at its administrative price. Each number is
 // read from the sections of an accepted file.
+#![tactic(auto)]
+
 pub mod factors;
 
 ghost use Rattle.std.specs.Prelude.{◌≡◌, ◌≤◌, ◌<◌};

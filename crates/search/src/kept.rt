@@ -22,7 +22,7 @@ const TWO_PLACES: u32 = 4;
 
 // What is sought: the greatest total in the last year; whether a bid is worth nothing then (if none is, no bid can be added to a combination that has the
 // greatest), and how little a bid counts; and the place of the one that is asked for.
-#[derive(Drop)]
+#[derive(Clone, Copy)]
 pub struct Aim {
     pub most: u64,
     pub idle: bool,
@@ -62,7 +62,7 @@ fn rise(sheet: &Sheet, of: Size, table: &Table, most: u64, idle: bool, from: Fro
 }
 
 // The combinations from `mask` on and before `end`; and of those before, how many are kept and the one at a place.
-#[derive(Drop)]
+#[derive(Clone, Copy)]
 pub struct Stretch {
     pub mask: u32,
     pub end: u32,

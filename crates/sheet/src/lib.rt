@@ -8,7 +8,7 @@ ghost use Rattle.sheet.specs.Sheet.{row_admin, capacity_at, fig_reference, fig_e
 
 // How much of a sheet is used: the years, bids and applications of the file; the columns of a row of the pot's totals; and how many of the bids are of the pot,
 // and enter its auction.
-#[derive(Drop)]
+#[derive(Clone, Copy)]
 pub struct Size {
     pub years: usize,
     pub columns: usize,

@@ -1,4 +1,6 @@
 // Stores into lent parts: numbers as little-endian bytes, over the start of the part.
+#![tactic(auto)]
+
 ghost use Rattle.std.specs.Prelude.{◌+◌, ◌*◌, ◌≤◌, length};
 ghost use Rattle.rules.specs.Bytes.{bytes};
 ghost use Rattle.store.specs.Filled.{Filled, numbers};

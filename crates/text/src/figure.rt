@@ -16,7 +16,7 @@ pub const PLACES: usize = 42;
 const SIGN: [u8; 2] = [0xC2, 0xA3];
 
 // What stands from a place on; the places before it are blank.
-#[derive(Drop)]
+#[derive(Clone, Copy)]
 pub struct Figure {
     pub places: [u8; PLACES],
     pub at: usize,

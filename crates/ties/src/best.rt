@@ -9,7 +9,7 @@ use combinations::tables::{Table, joint, union};
 use sheet::{Sheet, Size};
 
 // A combination, with its total in the last year.
-#[derive(Drop)]
+#[derive(Clone, Copy)]
 pub struct Best {
     pub mask: u32,
     pub total: u64,

@@ -15,7 +15,7 @@ use listing::Answer;
 use names::BIDS;
 
 // The chosen bids, as a set; and one more than the number that the pot's next tie is drawn by, 0 where there is none.
-#[derive(Drop)]
+#[derive(Clone, Copy)]
 pub struct Choice {
     pub wins: [bool; BIDS],
     pub drawn: u64,

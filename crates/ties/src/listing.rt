@@ -12,14 +12,14 @@ use combinations::{Tied, tables};
 use sheet::{Sheet, Size};
 
 // So many combinations, and the one of them at a place.
-#[derive(Drop)]
+#[derive(Clone, Copy)]
 pub struct Listed {
     pub count: u64,
     pub mask: u32,
 }
 
 // The combination that a tie takes, and the number of those kept, m.
-#[derive(Drop)]
+#[derive(Clone, Copy)]
 pub struct Answer {
     pub mask: u32,
     pub ways: u64,

@@ -1,5 +1,7 @@
 // What bids and applications count in the columns of a pot: in each year their value, and their capacity in a column after the years, where the pot has a cap;
 // the totals of the bids that have won, whether these fit, and the totals of the first test. specs/Totals.antt says what each function computes.
+#![tactic(auto)]
+
 ghost use Rattle.std.specs.Prelude.{◌≡◌, ◌≤◌, ◌<◌};
 ghost use Rattle.rules.specs.Value.{dearest};
 ghost use Rattle.sheet.specs.Sheet.{columns, Ready};

@@ -1,6 +1,8 @@
 // Money, in whole pence: a budget, and the value of one bid in one year, as a bookkeeper works it by pencil: the whole product, 10^15 parts to
 // the penny, and below it a line for each scale, which divides the line above and rounds up. That this rounds the exact cost up once is
 // `Scales.lined`.
+#![tactic(auto)]
+
 pub mod wide;
 
 ghost use Rattle.std.specs.Prelude.{◌≡◌, ◌-◌, ◌*◌, ◌≤◌, min};
@@ -24,7 +26,7 @@ pub const RQM_SCALE: u64 = 10000;
 
 // A valuation line by line: price less reference, the product, and a line for each scale, of which the last is the value. From the fourth the
 // numbers fit one column.
-#[derive(Drop)]
+#[derive(Clone, Copy)]
 pub struct Valuation {
     pub margin: u64,
     pub product: Wide,

@@ -7,7 +7,7 @@ ghost use Rattle.value.specs.Wide.{most_lower, number_of, Product, Over};
 // The upper column counts units of 10^11, the scales of price, load factor, capacity and 1 − TLM together: after their lines it counts ones.
 const COLUMN: u64 = 100000000000;
 
-#[derive(Drop)]
+#[derive(Clone, Copy)]
 pub struct Wide {
     pub upper: u64,
     // how many units of the lower column make one of the upper

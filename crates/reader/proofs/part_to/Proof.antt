@@ -31,7 +31,7 @@ within s a e {start} {end} p q = go (dec_le end a) (dec_le e (length s))
         (λ i. part s (x i) (y i)) ∙ part_clipped s a e (omega arith)
 
 returns : tie.Need-returns
-returns c = within _ _ _ c.before.before.lesser.ensures c.before.lesser2.ensures
+returns c = within _ _ _ c.before.before.lesser-end.ensures c.before.lesser-start.ensures
 
 pub part_to_spec : {M : Type 1} → statement M
 part_to_spec = tie.close (tie.spec (λ c κs. search rules) (λ c κs. search rules) (λ c. search rules) (λ c. search rules) (λ c. search rules) returns)

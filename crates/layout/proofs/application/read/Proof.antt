@@ -6,9 +6,9 @@ use Rattle.layout.proofs.application.read.Tie as tie
 returns : tie.Need-returns
 returns c = λ j. record {
   tech = c.before.before.before.before.le16.ensures.0 j;
-  year = c.before.before.before.le162.ensures.0 j;
-  days = c.before.before.le163.ensures.0 j;
-  draw = c.before.le164.ensures.0 j;
+  year = c.before.before.before.le16-2.ensures.0 j;
+  days = c.before.before.le16-3.ensures.0 j;
+  draw = c.before.le16-4.ensures.0 j;
   capacity = c.le32.ensures.0 j;
 }
 

@@ -6,10 +6,10 @@ use Rattle.layout.proofs.bid.read.Tie as tie
 returns : tie.Need-returns
 returns c = λ j. record {
   app = c.before.before.before.before.le16.ensures.0 j;
-  year = c.before.before.before.le162.ensures.0 j;
-  days = c.before.before.le163.ensures.0 j;
+  year = c.before.before.before.le16-2.ensures.0 j;
+  days = c.before.before.le16-3.ensures.0 j;
   capacity = c.before.le32.ensures.0 j;
-  price = c.le322.ensures.0 j;
+  price = c.le32-2.ensures.0 j;
 }
 
 pub read_spec : {M : Type 1} → statement M

@@ -5,7 +5,7 @@ use Rattle.layout.proofs.Laws.{times}
 use Rattle.layout.proofs.pot.place.Statement.{statement}
 use Rattle.layout.proofs.pot.place.Tie as tie
 
-mul-result : tie.Need-overflow-mul-result
+mul-result : tie.Need-overflow_mul-result
 mul-result c = omega (arith, times c.before.args.p c.width.ensures)
 
 returns : tie.Need-returns

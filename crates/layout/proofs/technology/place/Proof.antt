@@ -5,7 +5,7 @@ use Rattle.layout.proofs.Laws.{times}
 use Rattle.layout.proofs.technology.place.Statement.{statement}
 use Rattle.layout.proofs.technology.place.Tie as tie
 
-mul-result : tie.Need-overflow-mul-result
+mul-result : tie.Need-overflow_mul-result
 mul-result c = omega (arith, times c.before.args.t c.width.ensures)
 
 returns : tie.Need-returns

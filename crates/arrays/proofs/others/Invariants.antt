@@ -1,0 +1,14 @@
+-- The invariant: each place passed holds its test.
+use Prim.Native.Nat.{◌≤◌, ◌-◌}
+use mathlib.Core.Path.{◌≡◌}
+use native.Mathlib.Omega.{arith}
+use borrow.Author.Rules.{rules}
+use Rattle.arrays.specs.Sets.{fill, none, built, without}
+use Rattle.arrays.proofs.Laws.{fill_next, without_is, done}
+use Rattle.arrays.proofs.others.Given as goal
+
+abbrev pub invariant-loop-k : goal.invariant-loop-k
+invariant-loop-k l = (l.k ≤ l.bids) × (l.rest ≡ built (without l.set l.out) l.k)
+
+abbrev pub decreases-loop-k : goal.decreases-loop-k
+decreases-loop-k l = l.bids - l.k

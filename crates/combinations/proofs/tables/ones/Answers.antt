@@ -1,0 +1,25 @@
+-- The invariant: each place passed holds its sum.
+use borrow.Author.Rules.{rules}
+use native.Mathlib.Omega.{arith}
+use Prim.Native.Nat.{◌≤◌, ◌-◌, ◌*◌}
+use mathlib.Core.Path.{◌≡◌, refl}
+use Rattle.rules.specs.Names.{widest_tie}
+use Rattle.arrays.proofs.Laws.{fill_next}
+use Rattle.arrays.specs.Sets.{fill}
+use Rattle.sheet.specs.Sheet.{columns}
+use Rattle.combinations.specs.Combinations.{no_own, one_at}
+use Rattle.combinations.proofs.Laws.{one_is}
+use Rattle.combinations.proofs.Parts.{ones_end}
+use Rattle.combinations.proofs.tables.ones.Goals as goal
+
+pub loop-i-init : goal.loop-i-init
+unfolding fill no_own
+loop-i-init c = (omega arith, omega (arith, c.requires.placed.few), refl)
+
+pub loop-i-preserved : goal.loop-i-preserved
+loop-i-preserved c = let inv = c.loop-i.invariant in
+    (omega arith, inv.1, fill_next _ _ _ inv.2 (one_is _ _ _ _ c.power-place.ensures c.combined.ensures))
+
+pub returns : goal.returns
+returns c = let placed = c.requires.placed in
+    ones_end _ _ _ placed.ranks c.loop-i.invariant.2 c.loop-i.invariant.0 c.loop-i-test.false placed.few

@@ -1,0 +1,32 @@
+-- The invariant: each place passed holds its years, of whatever bids the places alone are.
+use borrow.Author.Rules.{rules}
+use native.Mathlib.Omega.{arith}
+use Prim.Native.Nat.{ℕ, ◌*◌, ◌≤◌, ◌<◌, ◌-◌}
+use mathlib.Core.Path.{◌≡◌, refl, ◌∙◌}
+use mathlib.Core.Logic.{⊎_elim}
+use mathlib.Core.List.{List}
+use Rattle.arrays.proofs.Laws.{fill_next}
+use Rattle.arrays.specs.Sets.{fill}
+use Rattle.combinations.specs.Combinations.{parts, part_size, one_years_of, year_at, no_years}
+use Rattle.combinations.proofs.Parts.{year_stays, year_next, years_end}
+use Rattle.combinations.proofs.tables.years.Goals as goal
+use Rattle.combinations.proofs.tables.years.Goals.{else-v-gt0, then-v-gt0}
+
+pub loop-i-init : goal.loop-i-init
+unfolding fill no_years
+loop-i-init c = (omega arith, omega (arith, c.parts_of-end.ensures.1), λ ranks starts k e. refl)
+
+pub loop-i-preserved : goal.loop-i-preserved
+loop-i-preserved c = let inv = c.loop-i.invariant in
+    let h : c.loop-i.i < parts * part_size = omega (arith, c.loop-i-test.true, inv.1) in (
+      omega arith,
+      inv.1,
+      λ ranks starts k e. (elim c.if-v-gt0.branch [ then-v-gt0 w ↦ w.out-is ∙ fill_next _ _ _ (inv.2 ranks starts k e)
+          (year_next _ _ _ _ _ (inv.2 ranks starts k e) e h w.top-r.ensures.0 w.top-r.ensures.1 w.top-r.ensures.2 w.power-less.ensures) | else-v-gt0 w ↦ w.out-is ∙ year_stays _ _ _ _ (inv.2 ranks starts k e) h w.if-v-gt0.false ]),
+    )
+
+pub returns : goal.returns
+returns c = let inv = c.loop-i.invariant in
+    let p = c.parts_of-end.ensures in
+    years_end _ _ _ c.requires.ranks (inv.2 _ _ _ c.one_years-one.ensures) inv.0
+    c.loop-i-test.false p.0 p.1

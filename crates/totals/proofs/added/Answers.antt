@@ -1,0 +1,25 @@
+-- The invariant: what the bid counts is added in the columns passed.
+use native.Mathlib.Omega.{arith}
+use Prim.Native.Nat.{◌≤◌, ◌-◌}
+use mathlib.Core.Path.{◌≡◌, refl}
+use Rattle.arrays.specs.Sets.{fill}
+use Rattle.arrays.proofs.Laws.{done}
+use Rattle.sheet.proofs.Columns.{columns_few}
+use Rattle.totals.specs.Totals.{worth_of, added_to}
+use Rattle.totals.proofs.Laws.{added_next, added_low}
+use Rattle.totals.proofs.added.Goals as goal
+
+pub loop-c-init : goal.loop-c-init
+unfolding fill
+loop-c-init c = (omega arith, refl)
+
+pub overflow_add-row : goal.overflow_add-row
+overflow_add-row c =
+    omega (
+      arith,
+      c.worth.ensures.small,
+      added_low _ _ _ c.loop-c.invariant.1 (c.requires.low _ c.loop-c-test.true),
+    )
+
+pub loop-c-preserved : goal.loop-c-preserved
+loop-c-preserved c = (omega arith, added_next _ _ _ c.loop-c.invariant.1 c.worth.ensures.value)

@@ -1,0 +1,17 @@
+-- The invariant: `sum` is the total of the applications passed, each at most the dearest.
+use native.Mathlib.Omega.{arith}
+use Prim.Native.Nat.{◌≤◌, ◌-◌, ◌*◌}
+use mathlib.Core.Path.{◌≡◌, refl, ◌∙◌}
+use mathlib.Core.Logic.{⊎_elim}
+use Rattle.rules.specs.Lists.{sum}
+use Rattle.rules.specs.Value.{dearest}
+use Rattle.arrays.proofs.Laws.{done}
+use Rattle.totals.specs.Totals.{admin_total_of}
+use Rattle.totals.proofs.Laws.{admin_hit, admin_miss}
+use Rattle.totals.proofs.admin_total.Given as goal
+
+abbrev pub invariant-loop-a : goal.invariant-loop-a
+invariant-loop-a l = (l.a ≤ l.applications) × (l.sum ≡ admin_total_of l.sheet l.of l.c l.a) × (l.sum ≤ dearest * l.a)
+
+abbrev pub decreases-loop-a : goal.decreases-loop-a
+decreases-loop-a l = l.applications - l.a

@@ -1,0 +1,16 @@
+-- The invariant: the places of the columns passed hold their totals.
+use borrow.Author.Rules.{rules}
+use native.Mathlib.Omega.{arith}
+use Prim.Native.Nat.{◌≤◌, ◌-◌}
+use mathlib.Core.Path.{◌≡◌}
+use Rattle.arrays.proofs.Laws.{done, fill_next}
+use Rattle.arrays.specs.Sets.{fill}
+use Rattle.totals.specs.Totals.{no_row, filled, admin_total_of}
+use Rattle.totals.proofs.admin_totals.Goals as goal
+
+pub loop-c-init : goal.loop-c-init
+unfolding fill no_row
+loop-c-init c = search rules
+
+pub loop-c-preserved : goal.loop-c-preserved
+loop-c-preserved c = (omega arith, fill_next _ _ _ c.loop-c.invariant.1 c.admin_total.ensures)

@@ -1,0 +1,15 @@
+-- The invariant: the row holds the totals of the bids passed.
+use native.Mathlib.Omega.{arith}
+use Prim.Native.Nat.{◌≤◌, ◌-◌}
+use mathlib.Core.Path.{◌≡◌, ◌∙◌}
+use mathlib.Core.Logic.{⊎_elim}
+use Rattle.sheet.proofs.Columns.{columns_few}
+use Rattle.totals.specs.Totals.{total_of, no_row, filled}
+use Rattle.totals.proofs.Laws.{row_none, row_hit, row_miss, row_done, adding, total_le}
+use Rattle.totals.proofs.revalued.Given as goal
+
+abbrev pub invariant-loop-k : goal.invariant-loop-k
+invariant-loop-k l = (l.k ≤ l.bids) × (l.row ≡ filled (λ c. total_of l.sheet l.of l.marks l.prices c l.k) l.of.columns)
+
+abbrev pub decreases-loop-k : goal.decreases-loop-k
+decreases-loop-k l = l.bids - l.k

@@ -1,0 +1,16 @@
+-- The invariant: `ok` says whether every column passed fits.
+use borrow.Author.Rules.{rules}
+use native.Mathlib.Omega.{arith}
+use Prim.Native.Nat.{◌≤◌, ◌-◌}
+use mathlib.Core.Path.{◌≡◌, refl, ◌∙◌}
+use mathlib.Core.Logic.{⊎_elim}
+use Rattle.arrays.proofs.Laws.{done}
+use Rattle.totals.specs.Totals.{fits_to, row_fits}
+use Rattle.totals.proofs.Laws.{fits_not, fits_more}
+use Rattle.totals.proofs.within.Given as goal
+
+abbrev pub invariant-loop-c : goal.invariant-loop-c
+invariant-loop-c l = (l.c ≤ l.limits) × (l.ok ≡ row_fits l.sheet l.row l.c)
+
+abbrev pub decreases-loop-c : goal.decreases-loop-c
+decreases-loop-c l = l.limits - l.c
