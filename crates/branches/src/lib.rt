@@ -1,5 +1,7 @@
 // Branches: the combinations that have some binary places in common and differ in the lower ones. One is cut off where even all undecided bids together cannot
 // reach what is sought, or where what is chosen already does not fit. specs/Branches.antt says what each function computes.
+#![tactic(auto)]
+
 ghost use Rattle.std.specs.Prelude.{true, ◌≡◌, ◌+◌, ◌≤◌, ◌<◌};
 ghost use Rattle.combinations.specs.Combinations.{combinations};
 ghost use Rattle.ties.specs.Ties.{Searching, ok_by, last_by, Cuttable};

@@ -1,5 +1,7 @@
 // What a tie starts from: the bids that remain, gathered as a list, with "one binary place for each remaining bid, the lowest draw highest"; and what the present
 // winners count at its price. `combinations/specs/Combinations.antt` says what each function computes.
+#![tactic(auto)]
+
 ghost use Rattle.std.specs.Prelude.{◌≡◌, ◌≤◌, length};
 ghost use Rattle.rules.specs.Names.{most_bids, widest_tie};
 ghost use Rattle.arrays.specs.Sets.{members};

@@ -1,5 +1,7 @@
 // Ties: several bids at one price that do not fit together. Those that do not fit alone are dropped; of those that remain the best combination is taken, or by
 // a drawn number one of the best: here by a plain listing of all, in `search` with branches cut off. specs/Ties.antt says what each function computes.
+#![tactic(auto)]
+
 ghost use Rattle.std.specs.Prelude.{◌≡◌};
 ghost use Rattle.rules.specs.Names.{most_bids};
 ghost use Rattle.combinations.specs.Combinations.{Numbers, Placed};

@@ -1,0 +1,18 @@
+-- The invariant: none of the bids passed can be added.
+use native.Mathlib.Omega.{arith}
+use Prim.Native.Nat.{ℕ, ◌-◌, ◌≤◌, ◌<◌}
+use mathlib.Core.Bool.{false}
+use mathlib.Core.Path.{◌≡◌, refl, sym, ◌∙◌}
+use Rattle.sheet.proofs.Columns.{columns_few}
+use Rattle.laws_pot.specs.Lists.{clash}
+use Rattle.arrays.proofs.Laws.{below_more}
+use Rattle.ties.specs.Ties.{ok_by, addable_of}
+use Rattle.added.specs.Added.{Roomed}
+use Rattle.added.proofs.Asked.{none_narrow, asked_open, asked_shut}
+use Rattle.added.proofs.whole.whole.Given as goal
+
+abbrev pub invariant-loop-place : goal.invariant-loop-place
+invariant-loop-place l = (l.place ≤ l.count) × Roomed l.sheet l.of l.table l.at.mask l.at.years l.room × ((p : ℕ) → p < l.place → addable_of (ok_by l.sheet l.of l.table) l.mask p ≡ false)
+
+abbrev pub decreases-loop-place : goal.decreases-loop-place
+decreases-loop-place l = l.count - l.place

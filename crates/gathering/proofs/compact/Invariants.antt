@@ -1,0 +1,19 @@
+-- The invariant: the list has the members passed, and `c` counts them.
+use borrow.Author.Rules.{rules}
+use native.Mathlib.Omega.{arith}
+use Prim.Native.Nat.{◌≤◌, ◌-◌, ◌+◌}
+use mathlib.Core.Path.{◌≡◌, ap, ◌∙◌}
+use mathlib.Core.Logic.{⊎_elim}
+use lib.ListN.{length}
+use Rattle.arrays.proofs.Laws.{done, count_hit, count_miss}
+use Rattle.arrays.specs.Sets.{members}
+use Rattle.combinations.specs.Combinations.{no_list, compact_of}
+use Rattle.combinations.proofs.Laws.{compact_hit, compact_miss}
+use Rattle.combinations.proofs.Lists.{compact_room}
+use Rattle.gathering.proofs.compact.Given as goal
+
+abbrev pub invariant-loop-k : goal.invariant-loop-k
+invariant-loop-k l = (l.k ≤ l.bids) × (l.list ≡ compact_of l.set l.k) × (l.c ≡ length (members l.set l.k)) × (l.c ≤ l.k)
+
+abbrev pub decreases-loop-k : goal.decreases-loop-k
+decreases-loop-k l = l.bids - l.k

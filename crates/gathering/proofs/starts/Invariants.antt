@@ -1,0 +1,16 @@
+-- The invariant: each place passed holds its year.
+use borrow.Author.Rules.{rules}
+use native.Mathlib.Omega.{arith}
+use Prim.Native.Nat.{◌≤◌, ◌-◌}
+use mathlib.Core.Path.{◌≡◌}
+use Rattle.arrays.proofs.Laws.{done, fill_next}
+use Rattle.arrays.specs.Sets.{fill}
+use Rattle.combinations.specs.Combinations.{no_list, start_of}
+use Rattle.combinations.proofs.Laws.{start_is}
+use Rattle.gathering.proofs.starts.Given as goal
+
+abbrev pub invariant-loop-j : goal.invariant-loop-j
+invariant-loop-j l = (l.j ≤ l.count) × (l.out ≡ fill no_list (start_of l.sheet l.list) l.j)
+
+abbrev pub decreases-loop-j : goal.decreases-loop-j
+decreases-loop-j l = l.count - l.j

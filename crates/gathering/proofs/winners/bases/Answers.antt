@@ -1,0 +1,23 @@
+-- The invariant: each row passed has its totals.
+use borrow.Author.Rules.{rules}
+use native.Mathlib.Omega.{arith}
+use Prim.Native.Nat.{◌*◌, ◌≤◌, ◌-◌}
+use mathlib.Core.Path.{◌≡◌}
+use Rattle.arrays.proofs.Laws.{done_by}
+use Rattle.arrays.specs.Sets.{fill}
+use Rattle.sheet.specs.Sheet.{columns}
+use Rattle.sheet.proofs.Columns.{columns_few}
+use Rattle.combinations.specs.Combinations.{year_sets, base_at, no_base}
+use Rattle.combinations.proofs.Laws.{bases_next}
+use Rattle.gathering.proofs.winners.bases.Goals as goal
+
+pub loop-t-init : goal.loop-t-init
+unfolding fill no_base
+loop-t-init c = search rules
+
+pub loop-t-preserved : goal.loop-t-preserved
+loop-t-preserved c = let inv = c.loop-t.invariant in (
+  omega arith,
+  bases_next _ _ _ _ _ _ (columns_few c.requires) c.repriced-trial.ensures
+      c.revalued-row.ensures inv.1 c.laid-next.ensures,
+)

@@ -1,0 +1,16 @@
+-- The invariant: the places passed are laid.
+use borrow.Author.Rules.{rules}
+use native.Mathlib.Omega.{arith}
+use Prim.Native.Nat.{◌*◌, ◌≤◌, ◌-◌}
+use mathlib.Core.Path.{◌≡◌, refl}
+use lib.ListN.{get_or}
+use Rattle.arrays.proofs.Laws.{done, place_next}
+use Rattle.arrays.specs.Sets.{placed}
+use Rattle.sheet.specs.Sheet.{columns}
+use Rattle.gathering.proofs.winners.laid.Given as goal
+
+abbrev pub invariant-loop-c : goal.invariant-loop-c
+invariant-loop-c l = (l.c ≤ columns) × (l.out ≡ placed (λ x. get_or l.row x 0) l.initial.out (l.t * columns) l.c)
+
+abbrev pub decreases-loop-c : goal.decreases-loop-c
+decreases-loop-c l = columns - l.c

@@ -1,0 +1,32 @@
+-- The invariant: every column passed fits.
+use borrow.Author.Rules.{rules}
+use native.Mathlib.Omega.{arith}
+use Prim.Native.Nat.{◌≤◌, ◌-◌}
+use mathlib.Core.Bool.{true}
+use mathlib.Core.Path.{◌≡◌}
+use Rattle.arrays.proofs.Laws.{done}
+use Rattle.sheet.proofs.Columns.{columns_few}
+use Rattle.totals.specs.Totals.{fits_to}
+use Rattle.totals.proofs.Laws.{fits_more}
+use Rattle.combinations.specs.Combinations.{joint_of}
+use Rattle.ties.proofs.Laws.{fits_stops, ok_is}
+use Rattle.ties.proofs.best.fitting.Goals as goal
+
+pub loop-c-init : goal.loop-c-init
+unfolding fits_to
+loop-c-init c = search rules
+
+pub returns-then-joint-limit : goal.returns-then-joint-limit
+returns-then-joint-limit c = ok_is _ _ _ _ c.union-t.ensures.0
+    (fits_stops _ _ _ _ c.joint.ensures c.limit.ensures c.if-joint-limit.true c.loop-c-test.true)
+
+pub loop-c-preserved : goal.loop-c-preserved
+loop-c-preserved c = (
+  omega arith,
+  fits_more _ _ _ c.joint.ensures c.limit.ensures c.if-joint-limit.false
+      c.loop-c.invariant.1,
+)
+
+pub returns : goal.returns
+returns c =
+    ok_is _ _ _ _ c.union-t.ensures.0 (done (fits_to _ _) c.loop-c.invariant.1 c.loop-c.invariant.0 c.loop-c-test.false)

@@ -1,0 +1,16 @@
+-- The invariant: none of the bids passed can be added.
+use borrow.Author.Rules.{rules}
+use native.Mathlib.Omega.{arith}
+use Prim.Native.Nat.{◌≤◌, ◌-◌}
+use mathlib.Core.Bool.{true}
+use mathlib.Core.Path.{◌≡◌}
+use Rattle.arrays.proofs.Laws.{done}
+use Rattle.ties.specs.Ties.{ok_by, full_to}
+use Rattle.ties.proofs.Laws.{full_more, full_stops}
+use Rattle.ties.proofs.listing.full.Given as goal
+
+abbrev pub invariant-loop-j : goal.invariant-loop-j
+invariant-loop-j l = (l.j ≤ l.count) × (true ≡ full_to (ok_by l.sheet l.of l.table) l.tied.ranks l.mask l.j)
+
+abbrev pub decreases-loop-j : goal.decreases-loop-j
+decreases-loop-j l = l.count - l.j
