@@ -1,4 +1,6 @@
 // The sheet of one pot, filled from the sections of an accepted file. The lent sheet is blank.
+#![tactic(auto)]
+
 ghost use Rattle.std.specs.Prelude.{◌≡◌, ◌+◌, ◌≤◌, ◌<◌, length};
 ghost use Rattle.rules.specs.Names.{most_bids, most_apps, long_year, largest_capacity};
 ghost use Rattle.rules.specs.Round.{pot_of};

@@ -1,4 +1,6 @@
 // Counts and places of a file that may end before them, to speak of a refused file to a person.
+#![tactic(auto)]
+
 ghost use Rattle.std.specs.Prelude.{◌≡◌, ◌+◌, ◌<◌, ◌≤◌, min};
 ghost use Rattle.layout.specs.Layout.{beyond};
 ghost use Rattle.places.specs.Places.{held};

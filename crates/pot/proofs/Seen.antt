@@ -1,6 +1,6 @@
 -- One pass over the bids of the pot sees the live bids of the lowest live price. Assumes nothing.
 use Prim.Native.Nat.{ℕ, ◌+◌, min, ◌≤◌, ◌<◌}
-use mathlib.Core.Path.{◌≡◌, refl, sym, ap, ◌∙◌}
+use mathlib.Core.Path.{◌≡◌, refl, sym, ap, ◌∙◌, subst}
 use mathlib.Core.Bool.{Bool, true, false, not, ◌&&◌}
 use mathlib.Core.List.{List, [], ◌∷◌}
 use native.Mathlib.Omega.{arith}
@@ -49,6 +49,7 @@ module _ (sheet : List ℕ) where
 
   least_le : (k : ℕ) (l : List ℕ) → In k l → least_or sheet l ≤ row_price sheet k
   unfolding least_or
+  least_le k [] i = elim i [ ]
   least_le k (x ∷ l) (here e) = rw e (omega arith)
   least_le k (x ∷ l) (there i) = let f = least_le k l i in omega arith
 
@@ -65,20 +66,25 @@ module _ (sheet : List ℕ) where
       q : ℕ
       q = row_price sheet x
 
+      -- what the look has seen of the list with x, the lowest price being m
+      Seen : Look → ℕ → Type 0
+      Seen L m = ((joined_of L q x).price ≡ m) × ((joined_of L q x).count ≡ length (sift (λ i. eqb (row_price sheet i) m) (x ∷ l)))
+          × ((joined_of L q x).last ≡ head_or 0 (sift (λ i. eqb (row_price sheet i) m) (x ∷ l)))
+
       joins : (L : Look) → L.price ≡ least_or sheet l → L.count ≡ length (cheapest l) → L.last ≡ head_or 0 (cheapest l)
-          → ((joined_of L (row_price sheet x) x).price ≡ min (row_price sheet x) (least_or sheet l))
-          × ((joined_of L (row_price sheet x) x).count ≡ length (sift (λ i. eqb (row_price sheet i) (min (row_price sheet x) (least_or sheet l))) (x ∷ l)))
-          × ((joined_of L (row_price sheet x) x).last ≡ head_or 0 (sift (λ i. eqb (row_price sheet i) (min (row_price sheet x) (least_or sheet l))) (x ∷ l)))
+          → Seen L (min (row_price sheet x) (least_or sheet l))
       joins L ep ec el = unfold joined_of in
           case (ltb L.price (row_price sheet x))
           (λ t.
           let h = ltb-true L.price (row_price sheet x) t in
           let e : min (row_price sheet x) (least_or sheet l) ≡ least_or sheet l = omega arith in
-          rw (t, e, ne_eqb (row_price sheet x) (least_or sheet l) (λ e. let no : ⊥ = omega arith in no)) (ep, ec, el))
+          subst (Seen L) (sym e)
+          (rw (t, ne_eqb (row_price sheet x) (least_or sheet l) (λ e. let no : ⊥ = omega arith in no)) (ep, ec, el)))
           (λ f.
           let h = ltb-false L.price (row_price sheet x) f in
           let e : min (row_price sheet x) (least_or sheet l) ≡ row_price sheet x = omega arith in
-          rw (f, e, eq-eqb (row_price sheet x) (row_price sheet x) refl)
+          subst (Seen L) (sym e)
+          (rw (f, eq-eqb (row_price sheet x) (row_price sheet x) refl)
           (case (ltb (row_price sheet x) L.price)
           (λ t.
           let g = ltb-true (row_price sheet x) L.price t in
@@ -86,7 +92,8 @@ module _ (sheet : List ℕ) where
           (λ u.
           let g = ltb-false (row_price sheet x) L.price u in
           let d : row_price sheet x ≡ least_or sheet l = omega arith in
-          rw (u, d, ec) (refl, add-one _, refl))))
+          let same = ec ∙ ap (λ (m : ℕ). length (sift (λ i. eqb (row_price sheet i) m) l)) (sym d) in
+          rw u (refl, omega (arith, same), refl)))))
 
   look_few : (l : List ℕ) → (look_of sheet l).count ≤ length l
   unfolding look_of

@@ -1,5 +1,7 @@
 // The state of a pot by value, and its steps: what is live, what is taken, trials, and one look after the other to the end.
 // specs/Marks.antt says what the functions over the arrays compute, specs/Rep.antt what the arrays stand for.
+#![tactic(auto)]
+
 ghost use Rattle.rules.specs.Pot.{auction};
 ghost use Rattle.sheet.specs.Sheet.{pot_in, Ready};
 ghost use Rattle.pot.specs.Marks.{Summed};

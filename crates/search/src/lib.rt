@@ -1,5 +1,7 @@
 // The search for the combination that a tie takes: as the listing of `ties` goes, but whole branches are passed over in which nothing can be found.
 // specs/Search.antt says what each function computes.
+#![tactic(auto)]
+
 ghost use Rattle.std.specs.Prelude.{true, ◌≡◌};
 ghost use Rattle.combinations.specs.Combinations.{Gathered};
 ghost use Rattle.ties.specs.Ties.{Based, top_by, table_for, answer_of, choice_of};

@@ -1,0 +1,27 @@
+-- `fill::fill_admins` meets its contract. After a turns the prices of the first a applications are right, and those after them are blank yet.
+use borrow.Author.Rules.{rules}
+use Prim.Native.Nat.{◌≤◌, ◌-◌}
+use native.Mathlib.Omega.{arith}
+use mathlib.Core.Logic.{⊎_elim}
+use mathlib.Core.Path.{sym, ◌∙◌}
+use Rattle.rules.specs.Names.{most_apps}
+use Rattle.rows.specs.Rows.{round_in}
+use Rattle.laws_round.specs.Bids.{app_in}
+use Rattle.fill.proofs.Laws.{Administered, admins_none, admins_own, admins_other, admins_all, price_own, price_none}
+use Rattle.fill.proofs.fill_admins.Goals as goal
+use Rattle.fill.proofs.fill_admins.Goals.{else-app_mine, then-app_mine}
+
+pub at_admin_price-own-requires : goal.at_admin_price-own-requires
+at_admin_price-own-requires c =
+    (c.requires.held.0, (app_in _ _ _ (sym c.app_mine.ensures ∙ c.if-app_mine.true)).0)
+
+pub loop-a-preserved : goal.loop-a-preserved
+loop-a-preserved c =
+    let pre = c.requires in
+    let inv = c.loop-a.invariant in
+    let small = c.loop-a-test.true in
+    let S = pre.held.0.sound in
+    let e = sym c.app_mine.ensures in (
+      omega (arith, small),
+      elim c.if-app_mine.branch [ then-app_mine w ↦ admins_own _ _ _ inv.1 w.sheet-is small (price_own _ S _ _ (e ∙ w.if-app_mine.true) w.at_admin_price-own.ensures) | else-app_mine w ↦ admins_other _ _ _ inv.1 w.sheet-is small pre.blank_admins (price_none _ S _ _ (e ∙ w.if-app_mine.false)) ],
+    )

@@ -1,0 +1,13 @@
+-- `fill::fill_entrants` meets its contract. After k turns the first k bids have been looked at.
+use borrow.Author.Rules.{rules}
+use Prim.Native.Nat.{◌≤◌, ◌-◌}
+use native.Mathlib.Omega.{arith}
+use mathlib.Core.Logic.{⊎_elim}
+use Rattle.fill.proofs.Laws.{Entering, entering_none, entering_hit, entering_miss, entering_done}
+use Rattle.fill.proofs.fill_entrants.Given as goal
+
+abbrev pub invariant-loop-k : goal.invariant-loop-k
+invariant-loop-k l = (l.k ≤ l.m) × (l.n ≤ l.k) × Entering l.initial.sheet l.k l.n l.sheet
+
+abbrev pub decreases-loop-k : goal.decreases-loop-k
+decreases-loop-k l = l.m - l.k

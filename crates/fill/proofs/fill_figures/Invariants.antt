@@ -1,0 +1,19 @@
+-- `fill::fill_figures` meets its contract. After k turns the figures of the first k bids are right, and those after them are blank yet.
+use borrow.Author.Rules.{rules}
+use Prim.Native.Nat.{◌≤◌, ◌-◌}
+use mathlib.Core.Path.{◌≡◌, sym, ap, ◌∙◌}
+use lib.ListN.{length}
+use native.Mathlib.Omega.{arith}
+use mathlib.Core.Logic.{⊎_elim}
+use Rattle.rules.specs.Names.{most_bids}
+use Rattle.sheet.specs.Sheet.{sheet_length}
+use Rattle.rows.specs.Rows.{round_in}
+use Rattle.rows.proofs.Laws.{bid_in, good, its_tech}
+use Rattle.fill.proofs.Laws.{Done, done_yet, done_own, done_other, done_all, of_pot_lem, placed_bid, placed_none}
+use Rattle.fill.proofs.fill_figures.Given as goal
+
+abbrev pub invariant-loop-k : goal.invariant-loop-k
+invariant-loop-k l = (l.k ≤ most_bids) × (length l.sheet ≡ sheet_length) × Done (round_in l.file l.sections) l.p l.k l.initial.sheet l.sheet
+
+abbrev pub decreases-loop-k : goal.decreases-loop-k
+decreases-loop-k l = most_bids - l.k

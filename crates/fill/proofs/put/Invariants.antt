@@ -1,0 +1,15 @@
+-- `fill::put` meets its contract. After j turns the first j numbers stand at the place.
+use borrow.Author.Rules.{rules}
+use Prim.Native.Nat.{◌≤◌, ◌-◌}
+use native.Mathlib.Omega.{arith}
+use mathlib.Core.Path.{◌≡◌}
+use lib.ListN.{length}
+use Rattle.fill.specs.Fill.{Put}
+use Rattle.fill.proofs.Laws.{put_none, put_more}
+use Rattle.fill.proofs.put.Given as goal
+
+abbrev pub invariant-loop-j : goal.invariant-loop-j
+invariant-loop-j l = (l.j ≤ length l.v) × Put l.v l.j l.at l.initial.sheet l.sheet
+
+abbrev pub decreases-loop-j : goal.decreases-loop-j
+decreases-loop-j l = length l.v - l.j

@@ -1,0 +1,13 @@
+-- `pot::PotState::revalued` meets its contract.
+use borrow.Author.Rules.{rules}
+use Rattle.sheet.proofs.Columns.{columns_few}
+use Rattle.pot.proofs.Sums.{parted_renewed, sum_most, revalued_is}
+use Rattle.pot.proofs.PotState.revalued.Goals as goal
+
+pub totalled-requires : goal.totalled-requires
+totalled-requires c = let pre = c.requires in
+    let few = columns_few pre.0 in
+    record { columns = few; small = λ y h. sum_most (parted_renewed _ _ _ pre.1 few c.all_renewed-t.ensures) y h pre.0 }
+
+pub returns : goal.returns
+returns c = revalued_is _ _ _ c.all_renewed-t.ensures c.totalled.ensures

@@ -1,0 +1,9 @@
+-- `pot::PotState::shared` meets its contract.
+use borrow.Author.Rules.{rules}
+use Rattle.pot.proofs.Laws.{shared_is}
+use Rattle.pot.proofs.PotState.shared.Goals as goal
+
+pub returns : goal.returns
+returns c =
+    shared_is _ _ _ _ _ _ c.win_all-t.ensures c.others-outs.ensures
+    c.turn_all-u.ensures c.hung-v.ensures c.numbered.ensures

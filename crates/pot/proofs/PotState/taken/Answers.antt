@@ -1,0 +1,22 @@
+-- The invariant: each place passed holds its test.
+use borrow.Author.Rules.{rules}
+use native.Mathlib.Omega.{arith}
+use Prim.Native.Nat.{◌≤◌, ◌-◌}
+use mathlib.Core.Path.{◌≡◌}
+use Rattle.arrays.proofs.Laws.{done, fill_next}
+use Rattle.arrays.specs.Sets.{fill, none, built}
+use Rattle.pot.specs.Marks.{at_of}
+use Rattle.pot.proofs.Laws.{app_ok, year_ok, at_is}
+use Rattle.pot.proofs.PotState.taken.Goals as goal
+
+pub loop-k-init : goal.loop-k-init
+unfolding fill none
+loop-k-init c = search rules
+
+pub loop-k-preserved : goal.loop-k-preserved
+loop-k-preserved c = (
+  omega arith,
+  fill_next _ _ _ c.loop-k.invariant.1
+      (at_is _ _ _ c.app-a.ensures
+      c.year-d.ensures c.live.ensures _ c.price.ensures c.at.ensures),
+)

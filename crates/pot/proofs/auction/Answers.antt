@@ -1,0 +1,13 @@
+-- `pot::auction` meets its contract.
+use borrow.Author.Rules.{rules}
+use Rattle.sheet.proofs.Columns.{columns_few}
+use Rattle.pot.proofs.Sums.{summed_started}
+use Rattle.pot.proofs.Runs.{started_stands}
+use Rattle.pot.proofs.auction.Goals as goal
+
+pub run-requires : goal.run-requires
+run-requires c = (
+  c.requires,
+  summed_started _ _ c.requires.few (columns_few c.requires) c.started-s.ensures,
+  started_stands _ _ c.requires c.started-s.ensures,
+)

@@ -1,0 +1,10 @@
+-- `result::applications` meets its contract: the records follow the count. Assumes nothing.
+use borrow.Author.Rules.{rules}
+use Rattle.store.proofs.Laws.{filled_rest, length_bytes}
+use Rattle.result.specs.ToldBytes.{apps_told}
+use Rattle.result.proofs.applications.Goals as goal
+
+pub returns : goal.returns
+unfolding apps_told
+returns c =
+    filled_rest 2 (length_bytes _ _) c.put.ensures c.application_records.ensures
