@@ -1,6 +1,6 @@
 /* bench: the time that a round takes in the library beside the judge, which is plain C compiled with optimisation for the same processor. Six
  * files: a full round, a full single pot, ties of 10 in every step, a full round refused for its last bid, the full round with caps, and ties of
- * 10 all alike that are drawn. Then five of ties of 20, for which the judge takes seconds on x86-64, and minutes under the emulator.
+ * 10 all alike that are drawn. Then five of ties of 20, for which the judge takes seconds.
  * bench --write FOLDER: writes the files there, and measures nothing. */
 #include "gustmirror.h"
 #include "judge.h"

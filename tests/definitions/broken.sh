@@ -1,18 +1,30 @@
 #!/bin/sh
 # broken.sh [FOLDER]: each edit of a definition under crates/rules/must-fail that names what it breaks is made in a copy, and the crates of laws must be
-# refused at each law named. The worked cases are set aside there, so that no edit is refused by them. `small-pots.K` is row K of that theorem, where the
-# law comes out false by computation. Works in the folder, which it makes anew: target/broken, where none is named.
+# refused at each law named. The worked cases are set aside there, so that no edit is refused by them. `small_pots.K` is row K of that theorem, where the
+# law comes out false by computation. Works in the folder, which it makes anew: one that it removes in the end, where none is named. It lies outside the
+# checkout, since rt ci refuses definitions that stand in no crate.
 set -eu
 root=$(cd "$(dirname "$0")/../.." && pwd)
-d=${1:-$root/target/broken}
-edits=$root/crates/rules/must-fail
-
-# copy: the definitions and their laws, without the worked cases
-copy() {
+if [ $# -gt 0 ]; then
+    d=$1
     rm -rf "$d"
-    mkdir -p "$d/crates"
-    cp -r "$root/crates/rules" "$root"/crates/laws_* "$d/crates"
-    rm -rf "$d"/crates/*/must-fail "$d/crates/rules/specs/Worked.antt" "$d/crates/rules/specs/Listing.antt"
+else
+    d=$(mktemp -d)
+    trap 'rm -rf "$d"' EXIT
+fi
+edits=$root/crates/rules/must-fail
+crates=$(sed -n -E 's/^(rules|laws_[a-z]+):.*/\1/p' "$root/crates.txt")
+
+# copy: the definitions and their laws, without the worked cases. What rt keeps beside them, in out/, stays.
+copy() {
+    for crate in $crates; do
+        mkdir -p "$d/crates/$crate"
+        for part in src specs proofs; do
+            rm -rf "$d/crates/$crate/$part"
+            [ ! -d "$root/crates/$crate/$part" ] || cp -r "$root/crates/$crate/$part" "$d/crates/$crate"
+        done
+    done
+    rm "$d/crates/rules/specs/Worked.antt" "$d/crates/rules/specs/Listing.antt"
     sed -i '/^pub mod Worked$/d; /^pub mod Listing$/d' "$d/crates/rules/specs/Lib.antt"
     grep -E '^(rules|laws_[a-z]+):' "$root/crates.txt" >"$d/crates.txt"
 }
@@ -42,11 +54,12 @@ apply() {
     done <"$1"
 }
 
-# refused: the laws that the check refused for themselves, not for a law that they cite; a row of small-pots by its number
+# refused: the laws that the check refused for themselves, as in "./specs/Money.antt:64:1: error: `not_at_most`: ..", not for a law that they cite; a row of
+# small_pots by its number
 refused() {
-    grep ' error: ' "$d/log" | grep -v 'was not admitted' | while IFS= read -r line; do
-        law=$(printf '%s\n' "$line" | sed 's/.* error: `\([^`]*\)`.*/\1/')
-        if [ "$law" = small-pots ]; then
+    grep -E '^\./specs/[^:]*:[0-9]+:[0-9]+: error: `[^`]*`:' "$d/log" | while IFS= read -r line; do
+        law=$(printf '%s\n' "$line" | cut -d '`' -f 2)
+        if [ "$law" = small_pots ]; then
             place=$(printf '%s\n' "$line" | sed 's/^\([^:]*\):\([0-9]*\):\([0-9]*\):.*/\2 \3/')
             law=$law.$(sed -n "${place% *}p" "$d/crates/laws_pot/specs/Pots.antt" | cut -c "1-${place#* }" | tr ',' '\n' | wc -l)
         fi
@@ -61,17 +74,23 @@ rooms() {
     done | sort -u
 }
 
+# check CRATE: what rt says of it goes to the log
+check() { (cd "$d/crates/$1" && rt check) >>"$d/log" 2>&1; }
+
 copy
-(cd "$d" && rt check) >"$d/log" 2>&1 || { tail -n 5 "$d/log"; echo 'without an edit the laws are not proved'; exit 1; }
+for crate in $crates; do
+    check "$crate" || { tail -n 5 "$d/log"; echo "without an edit crate $crate is not proved"; exit 1; }
+done
 tried=0
 for edit in "$edits"/*.edit; do
     breaks=$(sed -n 's/^breaks: //p' "$edit")
     [ -n "$breaks" ] || continue
     copy
     apply "$edit"
-    # shellcheck disable=SC2046,SC2086
-    (cd "$d" && rt check $(rooms $breaks)) >"$d/log" 2>&1 || true
-    grep -q '^rt: rules proved' "$d/log" || { echo "$edit: crate rules is not proved with it"; exit 1; }
+    : >"$d/log"
+    check rules || { echo "$edit: crate rules is not proved with it"; exit 1; }
+    # shellcheck disable=SC2086
+    for crate in $(rooms $breaks); do check "$crate" || true; done
     refused >"$d/refused"
     for law in $breaks; do
         grep -qx -- "$law" "$d/refused" || { echo "$(basename "$edit" .edit) does not break $law"; exit 1; }

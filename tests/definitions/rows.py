@@ -1,4 +1,4 @@
-"""rows.py SEED ROUNDS SHARE: made round files as rows for the checker: what clearOf of crate rules gives is what tests/reading.py gives.
+"""rows.py SEED ROUNDS SHARE: made round files as rows for the checker: what clear_of of crate rules gives is what tests/reading.py gives.
 
 The worked and the directed rounds come first; of the rest, SHARE are damaged. A count of what occurred goes to standard error."""
 import collections
@@ -23,7 +23,7 @@ def row(k, file, room):
     answer, exit = reading.clear(file, bytes([9]) * room)
     told = 'Cleared %d' % answer[1] if answer[0] == 'cleared' else 'Refused %d %d' % answer[1:]
     after = '(%s)' % numbers(exit) if answer[0] == 'cleared' else '(replicate %d 9)' % room
-    return 'row%d : clearOf (%s) (replicate %d 9) ≡ record { answer = %s; exit = %s }' % (k, numbers(file), room, told, after)
+    return 'row%d : clear_of (%s) (replicate %d 9) ≡ record { answer = %s; exit = %s }' % (k, numbers(file), room, told, after)
 
 
 def reasons(file):
@@ -38,7 +38,7 @@ def main(seed, rounds, share):
         file = making.make(rnd)
         files.append(making.damage(rnd, file) if rnd.random() < share else file)
     source = open(WORKED, encoding='utf8').read()
-    print(source[:source.index('-- the result of a file')].replace('Rattle·rules·specs.specs', 'Rattle·rules.specs'))
+    print(source[:source.index('-- the result of a file')])
     # what the worked cases unfold, but for the makers of their files, which no row has
     theorem = source.index('worked = (')
     unfolding = ' '.join(w for w in source[source.rindex('unfolding', 0, theorem):theorem].split() if w not in MAKERS)

@@ -15,13 +15,13 @@ for file in judge occurrences compare; do
     compile $out/counting-$file.o tests/judge/$file.c -DJUDGE_COUNT
 done
 link $out/selftest $out/selftest.o $out/judge.o $out/make.o
-link $out/compare $out/counting-compare.o $out/counting-occurrences.o $out/counting-judge.o $out/make.o
-run $out/selftest
+link $out/compare $out/counting-compare.o $out/counting-occurrences.o $out/counting-judge.o $out/make.o $archive
+$out/selftest
 
 # half K: of this many rounds and damaged ones
 rounds=$((${1:-100000} / 2)) damaged=$((${2:-100000} / 2)) seed=${3:-1}
 half() {
-    run $out/compare $rounds $damaged $((seed + $1)) >$out/half-"$1"
+    $out/compare $rounds $damaged $((seed + $1)) >$out/half-"$1"
 }
 half 1 &
 first=$!

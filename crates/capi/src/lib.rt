@@ -1,4 +1,6 @@
 // What other programs link: the functions of include/gustmirror.h.
+#![tactic(auto)]
+
 ghost use Rattle.std.specs.Prelude.{◌≡◌};
 ghost use Rattle.rules.specs.Result.{code_of, length_of};
 ghost use Rattle.capi.specs.One.{Codes};

@@ -77,26 +77,18 @@ module _ (f : ℕ → Bool) where
       sift_all [] = refl
       sift_all (x ∷ l) = ap (λ (s : List ℕ). x ∷ s) (sift_all l)
 
-  -- the one at a place of a list: the first one where as many stand behind it
-  at_place_hit : (k x : ℕ) (l : List ℕ) → eqb (length l) k ≡ true → at_place k (x ∷ l) ≡ x
-  unfolding at_place
-  at_place_hit k x l e = rw e refl
-
-  at_place_miss : (k x : ℕ) (l : List ℕ) → eqb (length l) k ≡ false → at_place k (x ∷ l) ≡ at_place k l
-  unfolding at_place
-  at_place_miss k x l e = rw e refl
-
   pub in_order : (k n : ℕ) → k < length (sift f (below n)) → length (sift (λ j. ltb j (at_place k (sift f (below n)))) (sift f (below n))) ≡ k
+  unfolding at_place
   in_order k zero h = absurd (omega arith)
   in_order k (suc n) h =
       let l = sift f (below n) in
       case (f n)
       (λ t. rw t (case (eqb (length l) k)
-      (λ e. subst (λ (x : ℕ). length (sift (λ j. ltb j x) (n ∷ l)) ≡ k) (sym (at_place_hit k n l e))
+      (λ e. subst (λ (x : ℕ). length (sift (λ j. ltb j x) (n ∷ l)) ≡ k) (sym (let at : at_place k (n ∷ l) ≡ n = rw e refl in at))
       (rw (le-ltb n n (omega arith), all_smaller n n (omega arith)) (eqb-true (length l) k e)))
       (λ u.
       let low : k < length l = omega (arith, eqb-false (length l) k u, rw t at h) in
-      subst (λ (x : ℕ). length (sift (λ j. ltb j x) (n ∷ l)) ≡ k) (sym (at_place_miss k n l u))
+      subst (λ (x : ℕ). length (sift (λ j. ltb j x) (n ∷ l)) ≡ k) (sym (let at : at_place k (n ∷ l) ≡ at_place k l = rw u refl in at))
       (rw (le-ltb n (at_place k l) (omega (arith, at_place_low k n low))) (in_order k n low)))))
       (λ u. rw u (in_order k n (rw u at h)))
 
