@@ -1,4 +1,6 @@
 // The listing of a round, and of a refusal, over the start of a lent buffer.
+#![tactic(auto)]
+
 ghost use Rattle.std.specs.Prelude.{◌≡◌, ◌+◌, ◌*◌, ◌≤◌, ◌<◌, length};
 ghost use Rattle.rules.specs.Names.{most_years};
 ghost use Rattle.rules.specs.Bytes.{each, onto};
