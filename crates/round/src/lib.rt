@@ -1,5 +1,7 @@
 // The public functions: a round file is cleared into a lent result, or listed as text. Each contract speaks of the file's bytes and of the
 // lent bytes through the definitions of crate rules.
+#![tactic(auto)]
+
 ghost use Rattle.std.specs.Prelude.{◌≡◌, ◌≤◌, ◌<◌, length};
 ghost use Rattle.rules.specs.File.{round_of};
 ghost use Rattle.rules.specs.Refusals.{reading};
