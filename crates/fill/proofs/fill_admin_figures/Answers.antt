@@ -56,7 +56,10 @@ loop-a-preserved c =
     let e = of_test _ S _ _ a.sheet.now l.sheet small pre.admins_right l.invariant.2.kept c.in_test.ensures in (
       omega (arith, small),
       elim c.if-in_test.branch [ then-in_test w ↦ ap length w.sheet-is ∙ w.fill_years.ensures.long | else-in_test w ↦ ap length w.sheet-is ∙ l.invariant.1 ],
-      done_next _ _ _ (elim c.if-in_test.branch [ then-in_test w ↦ done_own _ _ _ l.invariant.2 _ w.sheet-is S.years_most (own_app _ _ w.at_admin_price-own.ensures w.application_of-its.ensures)
-          (placed_own _ _ _ (sym e ∙ w.if-in_test.true) w.at_admin_price-own.ensures) w.fill_years.ensures | else-in_test w ↦ done_other _ _ _ l.invariant.2 w.sheet-is (omega (arith, small)) S.years_most most_bids (omega arith) pre.all_figures.1
-          (placed_other _ _ _ (sym e ∙ w.if-in_test.false)) ]),
+      done_next _ _ _ (elim c.if-in_test.branch [
+        | then-in_test w ↦ done_own _ _ _ l.invariant.2 _ w.sheet-is S.years_most (own_app _ _ w.at_admin_price-own.ensures w.application_of-its.ensures)
+            (placed_own _ _ _ (sym e ∙ w.if-in_test.true) w.at_admin_price-own.ensures) w.fill_years.ensures
+        | else-in_test w ↦ done_other _ _ _ l.invariant.2 w.sheet-is (omega (arith, small)) S.years_most most_bids (omega arith) pre.all_figures.1
+            (placed_other _ _ _ (sym e ∙ w.if-in_test.false))
+      ]),
     )

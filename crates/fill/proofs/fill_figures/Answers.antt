@@ -38,7 +38,7 @@ fill_years-requires c =
     let small = c.loop-k-test.true in
     let S = pre.held.0.sound in
     let e = of_pot_lem _ _ _ c.args.sheet.now l.sheet small pre.rows_right.0 (λ j h. l.invariant.2.rest j (omega (arith, small)))
-        c.in_auction.ensures in
+    c.in_auction.ensures in
     let g = good _ S _ (bid_in _ _ _ e c.if-in_auction.true) c.bid_of-bid.ensures in
     record {
       held = (pre.held.0, l.invariant.1);

@@ -13,8 +13,11 @@ returns-then-res-need c =
     short _ _ a.requires (c.needed-need.ensures.meant _ (handed a.args.file.now a.requires).counted) c.if-res-need.true
 
 pub write-requires : goal.write-requires
-write-requires c = record { ready = (handed c.args.file.now c.requires).ranges; room = omega
-      (arith, c.if-res-need.false, c.needed-need.ensures.sized) }
+write-requires c = record {
+  ready = (handed c.args.file.now c.requires).ranges;
+  room = omega
+      (arith, c.if-res-need.false, c.needed-need.ensures.sized);
+}
 
 pub returns : goal.returns
 returns c =

@@ -4,8 +4,11 @@ use Rattle.round.proofs.Laws.{handed, lines_listed}
 use Rattle.round.proofs.lines.Goals as goal
 
 pub write-requires : goal.write-requires
-write-requires c = record { ready = (handed c.args.file.now
-      c.requires.accepted).ranges; room = c.requires.room }
+write-requires c = record {
+  ready = (handed c.args.file.now
+      c.requires.accepted).ranges;
+  room = c.requires.room;
+}
 
 pub returns : goal.returns
 returns c =

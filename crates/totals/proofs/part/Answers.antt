@@ -41,8 +41,12 @@ loop-j-preserved c =
     let pre = c.requires in
     let inv = c.loop-j.invariant in (
       omega (arith, c.loop-j-test.true),
-      elim c.if-marks-k-eq-WON.branch [ then-marks-k-eq-WON+then-year-d w ↦ w.row-is ∙ part_hit _ _ _ _ _ _ _ c.entrant-k.ensures inv.1 (columns_few pre) w.if-marks-k-eq-WON.true w.year.ensures w.if-year-d.true
-          w.added-next.ensures | then-marks-k-eq-WON+else-year-d w ↦ w.row-is ∙ part_apart _ _ _ _ _ _ _ c.entrant-k.ensures inv.1 w.year.ensures w.if-year-d.false | else-marks-k-eq-WON w ↦ w.row-is ∙ part_lost _ _ _ _ _ _ _ c.entrant-k.ensures inv.1 w.if-marks-k-eq-WON.false ],
+      elim c.if-marks-k-eq-WON.branch [
+        | then-marks-k-eq-WON+then-year-d w ↦ w.row-is ∙ part_hit _ _ _ _ _ _ _ c.entrant-k.ensures inv.1 (columns_few pre) w.if-marks-k-eq-WON.true w.year.ensures w.if-year-d.true
+            w.added-next.ensures
+        | then-marks-k-eq-WON+else-year-d w ↦ w.row-is ∙ part_apart _ _ _ _ _ _ _ c.entrant-k.ensures inv.1 w.year.ensures w.if-year-d.false
+        | else-marks-k-eq-WON w ↦ w.row-is ∙ part_lost _ _ _ _ _ _ _ c.entrant-k.ensures inv.1 w.if-marks-k-eq-WON.false
+      ],
     )
 
 pub returns : goal.returns

@@ -20,9 +20,12 @@ loop-j-preserved c = let l = c.loop-j in
     let m = c.member.ensures in (
       omega arith,
       elim c.if-member.branch [ then-member w ↦ w.sum-is ∙ combined_hit _ _ _ m _ _ l.invariant.1 w.if-member.true | else-member w ↦ w.sum-is ∙ combined_miss _ _ _ m _ _ l.invariant.1 w.if-member.false ],
-      elim c.if-member.branch [ then-member w ↦ omega (
-        arith,
-        w.sum-is,
-        c.requires.0.bids.small (l.j * columns + c.args.c),
-      ) | else-member w ↦ omega (arith, w.sum-is) ],
+      elim c.if-member.branch [
+        | then-member w ↦ omega (
+          arith,
+          w.sum-is,
+          c.requires.0.bids.small (l.j * columns + c.args.c),
+        )
+        | else-member w ↦ omega (arith, w.sum-is)
+      ],
     )

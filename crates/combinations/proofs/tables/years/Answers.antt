@@ -21,8 +21,11 @@ loop-i-preserved c = let inv = c.loop-i.invariant in
     let h : c.loop-i.i < parts * part_size = omega (arith, c.loop-i-test.true, inv.1) in (
       omega arith,
       inv.1,
-      λ ranks starts k e. (elim c.if-v-gt0.branch [ then-v-gt0 w ↦ w.out-is ∙ fill_next _ _ _ (inv.2 ranks starts k e)
-          (year_next _ _ _ _ _ (inv.2 ranks starts k e) e h w.top-r.ensures.0 w.top-r.ensures.1 w.top-r.ensures.2 w.power-less.ensures) | else-v-gt0 w ↦ w.out-is ∙ year_stays _ _ _ _ (inv.2 ranks starts k e) h w.if-v-gt0.false ]),
+      λ ranks starts k e. (elim c.if-v-gt0.branch [
+        | then-v-gt0 w ↦ w.out-is ∙ fill_next _ _ _ (inv.2 ranks starts k e)
+            (year_next _ _ _ _ _ (inv.2 ranks starts k e) e h w.top-r.ensures.0 w.top-r.ensures.1 w.top-r.ensures.2 w.power-less.ensures)
+        | else-v-gt0 w ↦ w.out-is ∙ year_stays _ _ _ _ (inv.2 ranks starts k e) h w.if-v-gt0.false
+      ]),
     )
 
 pub returns : goal.returns

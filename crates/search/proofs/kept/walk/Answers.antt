@@ -39,12 +39,12 @@ loop-mask-preserved c =
     let small : c.loop-mask.mask < 2 ^ c.args.tied.count = omega (arith, c.loop-mask-test.true, c.requires.seeking.2) in (
       omega (arith, c.loop-mask-test.true),
       elim c.if-near.branch [
-        then-near+then-not-aim w ↦ w.list-is ∙ listed_more _ _ _ inv (near_full _ _ _ c.args.tied _ _ n w.if-near.true
+        | then-near+then-not-aim w ↦ w.list-is ∙ listed_more _ _ _ inv (near_full _ _ _ c.args.tied _ _ n w.if-near.true
             (near_whole _ _ _ _ _ seeking (not_is_true _ w.if-not-aim.true) _ small n w.if-near.true)) refl w.counted-list.ensures
-      | then-near+else-not-aim+then-whole w ↦ w.list-is ∙ listed_more _ _ _ inv (near_full _ _ _ c.args.tied _ _ n w.if-near.true
+        | then-near+else-not-aim+then-whole w ↦ w.list-is ∙ listed_more _ _ _ inv (near_full _ _ _ c.args.tied _ _ n w.if-near.true
             (closed_full _ c.args.tied seeking.drawing.placed _ seeking.onto w.whole.ensures)) w.if-whole.true w.counted-list-then-whole.ensures
-      | then-near+else-not-aim+else-whole w ↦ w.list-is ∙ listed_same _ _ _ inv (near_full _ _ _ c.args.tied _ _ n w.if-near.true
+        | then-near+else-not-aim+else-whole w ↦ w.list-is ∙ listed_same _ _ _ inv (near_full _ _ _ c.args.tied _ _ n w.if-near.true
             (closed_full _ c.args.tied seeking.drawing.placed _ seeking.onto w.whole.ensures)) w.if-whole.false
-      | else-near w ↦ w.list-is ∙ listed_same _ _ _ inv (near_not _ _ _ c.args.tied _ _ n w.if-near.false) refl
+        | else-near w ↦ w.list-is ∙ listed_same _ _ _ inv (near_not _ _ _ c.args.tied _ _ n w.if-near.false) refl
       ],
     )

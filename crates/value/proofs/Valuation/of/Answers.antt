@@ -24,20 +24,20 @@ module _ (price reference energy share : ℕ) {margin product by_price by_load b
 pub number-by_tlm-requires : goal.number-by_tlm-requires
 number-by_tlm-requires c =
     let few = small c.args.price c.args.reference c.args.energy c.args.share c.margin-margin.ensures c.product-product.ensures.is c.over-by_price.ensures.is c.over-by_load.ensures.is c.over-by_capacity.ensures.is
-        c.over.ensures.is c.requires in
+    c.over.ensures.is c.requires in
     omega (arith, few)
 
 pub over-by_rqm-requires : goal.over-by_rqm-requires
 over-by_rqm-requires c =
     let few = small c.args.price c.args.reference c.args.energy c.args.share c.margin-margin.ensures c.product-product.ensures.is c.over-by_price.ensures.is c.over-by_load.ensures.is c.over-by_capacity.ensures.is
-        c.over.ensures.is c.requires in
+    c.over.ensures.is c.requires in
     (omega arith, omega arith, omega (arith, few, c.number-by_tlm.ensures))
 
 pub returns : goal.returns
 returns c =
     let number = c.number-by_tlm.ensures in
     let value = once c.args.price c.args.reference c.args.energy c.args.share c.margin-margin.ensures c.product-product.ensures.is c.over-by_price.ensures.is c.over-by_load.ensures.is
-        c.over-by_capacity.ensures.is c.over.ensures.is (c.over-by_rqm.ensures ∙ ap (λ (x : ℕ). ceil_div x rqm_scale) number) in record {
+    c.over-by_capacity.ensures.is c.over.ensures.is (c.over-by_rqm.ensures ∙ ap (λ (x : ℕ). ceil_div x rqm_scale) number) in record {
       margin_is = c.margin-margin.ensures;
       product_is = product_is c.args.price c.args.reference c.args.energy c.args.share c.margin-margin.ensures c.product-product.ensures.is c.over-by_price.ensures.is c.over-by_load.ensures.is
           c.over-by_capacity.ensures.is c.over.ensures.is;
