@@ -1,12 +1,10 @@
 -- The invariant: `k` counts the members passed.
-use Prim.Native.Nat.{◌≤◌, ◌-◌, ◌+◌}
-use mathlib.Core.Path.{◌≡◌, ap, ◌∙◌}
-use mathlib.Core.Logic.{⊎_elim}
-use lib.ListN.{length}
+use Prim.Native.Nat.{◌-◌, ◌+◌}
+use mathlib.Core.Path.{ap, ◌∙◌}
 use native.Mathlib.Omega.{arith}
 use borrow.Author.Rules.{rules}
 use Rattle.arrays.specs.Sets.{members}
-use Rattle.arrays.proofs.Laws.{count_hit, count_miss, done_by}
+use Rattle.arrays.proofs.Laws.{count_hit, count_miss}
 use Rattle.arrays.proofs.count.Goals as goal
 use Rattle.arrays.proofs.count.Goals.{else-set-k, then-set-k}
 

@@ -1,12 +1,8 @@
 -- The invariant: `k` counts the members passed.
-use Prim.Native.Nat.{◌≤◌, ◌-◌, ◌+◌}
-use mathlib.Core.Path.{◌≡◌, ap, ◌∙◌}
-use mathlib.Core.Logic.{⊎_elim}
+use Prim.Native.Nat.{◌≤◌, ◌-◌}
+use mathlib.Core.Path.{◌≡◌}
 use lib.ListN.{length}
-use native.Mathlib.Omega.{arith}
-use borrow.Author.Rules.{rules}
 use Rattle.arrays.specs.Sets.{members}
-use Rattle.arrays.proofs.Laws.{count_hit, count_miss, done_by}
 use Rattle.arrays.proofs.count.Given as goal
 
 abbrev pub invariant-loop-k : goal.invariant-loop-k

@@ -1,10 +1,9 @@
 -- The invariant: each place passed holds its test.
-use Prim.Native.Nat.{◌≤◌, ◌-◌}
-use mathlib.Core.Path.{◌≡◌}
+use Prim.Native.Nat.{◌-◌}
 use native.Mathlib.Omega.{arith}
 use borrow.Author.Rules.{rules}
-use Rattle.arrays.specs.Sets.{fill, none, built, without}
-use Rattle.arrays.proofs.Laws.{fill_next, without_is, done}
+use Rattle.arrays.specs.Sets.{fill, none}
+use Rattle.arrays.proofs.Laws.{fill_next, without_is}
 use Rattle.arrays.proofs.others.Goals as goal
 
 pub loop-k-init : goal.loop-k-init

@@ -1,10 +1,7 @@
 -- The invariant: each place passed holds its test.
 use Prim.Native.Nat.{◌≤◌, ◌-◌}
 use mathlib.Core.Path.{◌≡◌}
-use native.Mathlib.Omega.{arith}
-use borrow.Author.Rules.{rules}
-use Rattle.arrays.specs.Sets.{fill, none, built, without}
-use Rattle.arrays.proofs.Laws.{fill_next, without_is, done}
+use Rattle.arrays.specs.Sets.{built, without}
 use Rattle.arrays.proofs.others.Given as goal
 
 abbrev pub invariant-loop-k : goal.invariant-loop-k

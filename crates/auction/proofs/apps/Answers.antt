@@ -1,11 +1,10 @@
 -- `auction::apps` meets its contract: the applications passed are told.
 use borrow.Author.Rules.{rules}
-use Prim.Native.Nat.{◌-◌, ◌≤◌}
-use mathlib.Core.Path.{◌≡◌}
+use Prim.Native.Nat.{◌-◌}
 use native.Mathlib.Omega.{arith}
 use Rattle.arrays.specs.Sets.{fill}
-use Rattle.arrays.proofs.Laws.{done, fill_next}
-use Rattle.auction.specs.Numbers.{apps_of, no_apps}
+use Rattle.arrays.proofs.Laws.{fill_next}
+use Rattle.auction.specs.Numbers.{no_apps}
 use Rattle.auction.proofs.apps.Goals as goal
 
 pub loop-a-init : goal.loop-a-init

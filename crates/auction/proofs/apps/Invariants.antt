@@ -1,11 +1,7 @@
 -- `auction::apps` meets its contract: the applications passed are told.
-use borrow.Author.Rules.{rules}
 use Prim.Native.Nat.{◌-◌, ◌≤◌}
 use mathlib.Core.Path.{◌≡◌}
-use native.Mathlib.Omega.{arith}
-use Rattle.arrays.specs.Sets.{fill}
-use Rattle.arrays.proofs.Laws.{done, fill_next}
-use Rattle.auction.specs.Numbers.{apps_of, no_apps}
+use Rattle.auction.specs.Numbers.{apps_of}
 use Rattle.auction.proofs.apps.Given as goal
 
 abbrev pub invariant-loop-a : goal.invariant-loop-a

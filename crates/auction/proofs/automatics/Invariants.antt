@@ -1,11 +1,7 @@
 -- `auction::automatics` meets its contract: the applications of the bids passed have no automatic reason.
-use borrow.Author.Rules.{rules}
 use Prim.Native.Nat.{◌-◌, ◌≤◌}
 use mathlib.Core.Path.{◌≡◌}
-use native.Mathlib.Omega.{arith}
-use Rattle.arrays.proofs.Laws.{done}
 use Rattle.auction.specs.Numbers.{automatics_of}
-use Rattle.auction.proofs.Laws.{automatic_next, app_below, row_there, entrant_there, entrant_below}
 use Rattle.auction.proofs.automatics.Given as goal
 
 abbrev pub invariant-loop-j : goal.invariant-loop-j

@@ -1,5 +1,4 @@
 -- `auction::clear_pot` meets its contract: what is told from how the pot ended is what the rules tell.
-use borrow.Author.Rules.{rules}
 use Rattle.auction.proofs.Outcomes.{cleared}
 use Rattle.auction.proofs.clear_pot.Goals as goal
 

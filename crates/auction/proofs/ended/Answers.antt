@@ -1,6 +1,4 @@
 -- `auction::ended` meets its contract: one law for each return.
-use borrow.Author.Rules.{rules}
-use Rattle.sheet.proofs.Columns.{columns_few}
 use Rattle.auction.proofs.Outcomes.{ended_admin, ended_wide_lem, ended_sold}
 use Rattle.auction.proofs.ended.Goals as goal
 

@@ -1,11 +1,11 @@
 -- The invariant: the places of the years passed hold their money.
 use borrow.Author.Rules.{rules}
 use native.Mathlib.Omega.{arith}
-use Prim.Native.Nat.{◌≤◌, ◌-◌}
-use mathlib.Core.Path.{◌≡◌, refl}
-use Rattle.arrays.proofs.Laws.{done, fill_next}
+use Prim.Native.Nat.{◌-◌}
+use mathlib.Core.Path.{refl}
+use Rattle.arrays.proofs.Laws.{fill_next}
 use Rattle.arrays.specs.Sets.{fill}
-use Rattle.auction.specs.Numbers.{no_money, money_of}
+use Rattle.auction.specs.Numbers.{no_money}
 use Rattle.auction.proofs.money.Goals as goal
 
 pub loop-y-init : goal.loop-y-init

@@ -1,9 +1,7 @@
 -- `auction::reasons` meets its contract: the bids passed have their reasons.
 use borrow.Author.Rules.{rules}
-use Prim.Native.Nat.{◌-◌, ◌≤◌}
-use mathlib.Core.Path.{◌≡◌}
+use Prim.Native.Nat.{◌-◌}
 use native.Mathlib.Omega.{arith}
-use Rattle.arrays.proofs.Laws.{done}
 use Rattle.auction.specs.Numbers.{reasons_of, no_reasons}
 use Rattle.auction.proofs.Laws.{reason_next, app_below, row_there, entrant_there, entrant_below}
 use Rattle.auction.proofs.reasons.Goals as goal

@@ -1,11 +1,7 @@
 -- `auction::reasons` meets its contract: the bids passed have their reasons.
-use borrow.Author.Rules.{rules}
 use Prim.Native.Nat.{◌-◌, ◌≤◌}
 use mathlib.Core.Path.{◌≡◌}
-use native.Mathlib.Omega.{arith}
-use Rattle.arrays.proofs.Laws.{done}
-use Rattle.auction.specs.Numbers.{reasons_of, no_reasons}
-use Rattle.auction.proofs.Laws.{reason_next, app_below, row_there, entrant_there, entrant_below}
+use Rattle.auction.specs.Numbers.{reasons_of}
 use Rattle.auction.proofs.reasons.Given as goal
 
 abbrev pub invariant-loop-j : goal.invariant-loop-j

@@ -1,5 +1,4 @@
 -- `auction::sold` meets its contract: the state's own rows, and what each application won with.
-use borrow.Author.Rules.{rules}
 use Rattle.auction.specs.Numbers.{sold_of}
 use Rattle.auction.proofs.sold.Goals as goal
 

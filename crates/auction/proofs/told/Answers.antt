@@ -1,7 +1,5 @@
 -- `auction::told` meets its contract: one law for each return.
-use borrow.Author.Rules.{rules}
-use native.Mathlib.Omega.{arith}
-use Rattle.auction.proofs.Laws.{told_bid, told_admin, told_lost, year_below, row_there}
+use Rattle.auction.proofs.Laws.{told_bid, told_admin, told_lost}
 use Rattle.auction.proofs.told.Goals as goal
 
 pub returns-then-k-of : goal.returns-then-k-of

@@ -1,12 +1,10 @@
 -- The invariant: `out` has, for each application, the last of the bids passed that won for it.
-use Prim.Native.Nat.{◌-◌, ◌≤◌}
-use mathlib.Core.Path.{◌≡◌, ◌∙◌}
-use mathlib.Core.Logic.{⊎_elim}
+use Prim.Native.Nat.{◌-◌}
+use mathlib.Core.Path.{◌∙◌}
 use native.Mathlib.Omega.{arith}
 use borrow.Author.Rules.{rules}
-use Rattle.arrays.proofs.Laws.{done}
 use Rattle.auction.specs.Numbers.{winning_of}
-use Rattle.auction.proofs.Laws.{winning_hit, winning_miss, app_below, row_there}
+use Rattle.auction.proofs.Laws.{winning_hit, winning_miss}
 use Rattle.auction.proofs.winning.Goals as goal
 use Rattle.auction.proofs.winning.Goals.{else-marks-k-eq-WON, then-marks-k-eq-WON}
 

@@ -1,12 +1,7 @@
 -- The invariant: `out` has, for each application, the last of the bids passed that won for it.
 use Prim.Native.Nat.{◌-◌, ◌≤◌}
-use mathlib.Core.Path.{◌≡◌, ◌∙◌}
-use mathlib.Core.Logic.{⊎_elim}
-use native.Mathlib.Omega.{arith}
-use borrow.Author.Rules.{rules}
-use Rattle.arrays.proofs.Laws.{done}
+use mathlib.Core.Path.{◌≡◌}
 use Rattle.auction.specs.Numbers.{winning_of}
-use Rattle.auction.proofs.Laws.{winning_hit, winning_miss, app_below, row_there}
 use Rattle.auction.proofs.winning.Given as goal
 
 abbrev pub invariant-loop-k : goal.invariant-loop-k

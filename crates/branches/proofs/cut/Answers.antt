@@ -1,7 +1,6 @@
 -- `branches::cut` meets its contract.
-use native.Mathlib.Omega.{arith}
 use Rattle.laws_pot.specs.Lists.{not_is_true}
-use Rattle.branches.proofs.Branch.{some_size, cut_low, cut_misfit}
+use Rattle.branches.proofs.Branch.{cut_low, cut_misfit}
 use Rattle.branches.proofs.cut.Goals as goal
 
 pub returns-then-last-goal : goal.returns-then-last-goal

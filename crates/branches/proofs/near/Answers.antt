@@ -1,5 +1,4 @@
 -- `branches::near` meets its contract.
-use borrow.Author.Rules.{rules}
 use Rattle.branches.proofs.Over.{near_is, near_other}
 use Rattle.branches.proofs.near.Goals as goal
 

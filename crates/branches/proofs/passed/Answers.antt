@@ -1,8 +1,8 @@
 -- `branches::passed` meets its contract.
 use native.Mathlib.Omega.{arith}
 use mathlib.Core.Path.{sym, ◌∙◌}
-use Rattle.branches.proofs.Branch.{sized_some, starts_at}
-use Rattle.branches.proofs.Over.{passed_none, passed_cut, passed_open}
+use Rattle.branches.proofs.Branch.{starts_at}
+use Rattle.branches.proofs.Over.{passed_open}
 use Rattle.branches.proofs.passed.Goals as goal
 
 pub returns-then-fitting : goal.returns-then-fitting

@@ -1,10 +1,9 @@
 -- `fill::fill` meets its contract: what its parts wrote shows the pot, and is ready to be cleared.
 use Prim.Native.Nat.{◌+◌}
-use borrow.Author.Rules.{rules}
 use Rattle.rules.specs.Names.{count_width}
 use Rattle.rows.specs.Rows.{round_in}
 use native.Mathlib.Omega.{arith}
-use mathlib.Core.Path.{refl, ◌∙◌}
+use mathlib.Core.Path.{refl}
 use Rattle.fill.proofs.Laws.{part_byte}
 use Rattle.fill.proofs.Shown.{written, shows, ready}
 use Rattle.fill.proofs.fill.Goals as goal

@@ -1,10 +1,5 @@
 -- `fill::fill_cap` meets its contract: in a file without caps, for a cap that is none, and for one that becomes a limit.
-use borrow.Author.Rules.{rules}
-use native.Mathlib.Omega.{arith}
-use mathlib.Core.Path.{ap}
-use lib.ListN.{length}
-use Rattle.laws_reading.specs.Reading.{whole_gained}
-use Rattle.fill.proofs.Laws.{pot_room, no_caps, cap_none, cap_some}
+use Rattle.fill.proofs.Laws.{no_caps, cap_none, cap_some}
 use Rattle.fill.proofs.fill_cap.Goals as goal
 
 pub returns-then-gained-eq0 : goal.returns-then-gained-eq0

@@ -1,10 +1,5 @@
 -- `fill::fill_drawn` meets its contract: in a file without drawn numbers, and in one with them.
-use borrow.Author.Rules.{rules}
-use native.Mathlib.Omega.{arith}
-use mathlib.Core.Path.{ap}
-use lib.ListN.{length}
-use Rattle.laws_reading.specs.Reading.{whole_drawn}
-use Rattle.fill.proofs.Laws.{pot_room, drawn_none, drawn_some}
+use Rattle.fill.proofs.Laws.{drawn_none, drawn_some}
 use Rattle.fill.proofs.fill_drawn.Goals as goal
 
 pub returns-then-gained-le-CAP_WIDTH : goal.returns-then-gained-le-CAP_WIDTH

@@ -1,9 +1,6 @@
 -- `fill::fill_entrants` meets its contract. After k turns the first k bids have been looked at.
-use borrow.Author.Rules.{rules}
 use Prim.Native.Nat.{◌≤◌, ◌-◌}
-use native.Mathlib.Omega.{arith}
-use mathlib.Core.Logic.{⊎_elim}
-use Rattle.fill.proofs.Laws.{Entering, entering_none, entering_hit, entering_miss, entering_done}
+use Rattle.fill.proofs.Laws.{Entering}
 use Rattle.fill.proofs.fill_entrants.Given as goal
 
 abbrev pub invariant-loop-k : goal.invariant-loop-k

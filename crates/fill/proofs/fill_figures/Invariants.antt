@@ -1,15 +1,11 @@
 -- `fill::fill_figures` meets its contract. After k turns the figures of the first k bids are right, and those after them are blank yet.
-use borrow.Author.Rules.{rules}
 use Prim.Native.Nat.{◌≤◌, ◌-◌}
-use mathlib.Core.Path.{◌≡◌, sym, ap, ◌∙◌}
+use mathlib.Core.Path.{◌≡◌}
 use lib.ListN.{length}
-use native.Mathlib.Omega.{arith}
-use mathlib.Core.Logic.{⊎_elim}
 use Rattle.rules.specs.Names.{most_bids}
 use Rattle.sheet.specs.Sheet.{sheet_length}
 use Rattle.rows.specs.Rows.{round_in}
-use Rattle.rows.proofs.Laws.{bid_in, good, its_tech}
-use Rattle.fill.proofs.Laws.{Done, done_yet, done_own, done_other, done_all, of_pot_lem, placed_bid, placed_none}
+use Rattle.fill.proofs.Laws.{Done}
 use Rattle.fill.proofs.fill_figures.Given as goal
 
 abbrev pub invariant-loop-k : goal.invariant-loop-k

@@ -1,15 +1,11 @@
 -- `fill::fill_rows` meets its contract. After k turns the first k rows are right.
-use borrow.Author.Rules.{rules}
 use Prim.Native.Nat.{◌≤◌, ◌-◌}
-use native.Mathlib.Omega.{arith}
-use mathlib.Core.Path.{◌≡◌, refl, ◌∙◌}
+use mathlib.Core.Path.{◌≡◌}
 use lib.ListN.{length}
 use Rattle.rules.specs.Names.{most_bids}
 use Rattle.sheet.specs.Sheet.{rows_at, sheet_length}
-use Rattle.rows.proofs.Laws.{row_length}
 use Rattle.rows.specs.Rows.{round_in}
 use Rattle.fill.specs.Fill.{RowsRight, Kept}
-use Rattle.fill.proofs.Laws.{rows_more, all_of}
 use Rattle.fill.proofs.fill_rows.Given as goal
 
 abbrev pub invariant-loop-k : goal.invariant-loop-k

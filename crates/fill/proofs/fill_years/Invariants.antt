@@ -1,16 +1,11 @@
 -- `fill::fill_years` meets its contract. After y turns the capacity and the figures of the first y years stand, and all before and after them is as it was.
 use Prim.Native.Nat.{◌≤◌, ◌-◌}
-use native.Mathlib.Omega.{arith}
-use mathlib.Core.Path.{◌≡◌, refl, ◌∙◌}
-use lib.ListN.{length, get_or, length-set}
-use lib.Seq.{get_or-set_same, get_or-set_other}
-use borrow.Author.Rules.{rules}
+use mathlib.Core.Path.{◌≡◌}
+use lib.ListN.{length, get_or}
 use Rattle.layout.specs.Layout.{bid_shown}
 use Rattle.sheet.specs.Sheet.{figure_place, figures_place, sheet_length}
-use Rattle.rows.proofs.Laws.{figure_length}
 use Rattle.rows.specs.Rows.{round_in}
 use Rattle.fill.specs.Fill.{Figured, Kept, Rest}
-use Rattle.fill.proofs.Laws.{figures_more, all_of}
 use Rattle.fill.proofs.fill_years.Given as goal
 
 abbrev pub invariant-loop-y : goal.invariant-loop-y

@@ -1,11 +1,7 @@
 -- `fill::put` meets its contract. After j turns the first j numbers stand at the place.
-use borrow.Author.Rules.{rules}
 use Prim.Native.Nat.{◌≤◌, ◌-◌}
-use native.Mathlib.Omega.{arith}
-use mathlib.Core.Path.{◌≡◌}
 use lib.ListN.{length}
 use Rattle.fill.specs.Fill.{Put}
-use Rattle.fill.proofs.Laws.{put_none, put_more}
 use Rattle.fill.proofs.put.Given as goal
 
 abbrev pub invariant-loop-j : goal.invariant-loop-j

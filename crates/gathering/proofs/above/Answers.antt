@@ -1,10 +1,8 @@
 -- The invariant: `n` counts those passed whose draw is above x.
 use borrow.Author.Rules.{rules}
 use native.Mathlib.Omega.{arith}
-use Prim.Native.Nat.{◌≤◌, ◌-◌}
-use mathlib.Core.Path.{◌≡◌, ◌∙◌}
-use mathlib.Core.Logic.{⊎_elim}
-use Rattle.arrays.proofs.Laws.{done}
+use Prim.Native.Nat.{◌-◌}
+use mathlib.Core.Path.{◌∙◌}
 use Rattle.combinations.specs.Combinations.{listed, above_of}
 use Rattle.combinations.proofs.Laws.{above_hit, above_miss}
 use Rattle.gathering.proofs.above.Goals as goal

@@ -1,12 +1,7 @@
 -- The invariant: `n` counts those passed whose draw is above x.
-use borrow.Author.Rules.{rules}
-use native.Mathlib.Omega.{arith}
 use Prim.Native.Nat.{◌≤◌, ◌-◌}
-use mathlib.Core.Path.{◌≡◌, ◌∙◌}
-use mathlib.Core.Logic.{⊎_elim}
-use Rattle.arrays.proofs.Laws.{done}
-use Rattle.combinations.specs.Combinations.{listed, above_of}
-use Rattle.combinations.proofs.Laws.{above_hit, above_miss}
+use mathlib.Core.Path.{◌≡◌}
+use Rattle.combinations.specs.Combinations.{above_of}
 use Rattle.gathering.proofs.above.Given as goal
 
 abbrev pub invariant-loop-j : goal.invariant-loop-j

@@ -1,11 +1,9 @@
 -- The invariant: the list has the members passed, and `c` counts them.
 use borrow.Author.Rules.{rules}
 use native.Mathlib.Omega.{arith}
-use Prim.Native.Nat.{◌≤◌, ◌-◌, ◌+◌}
-use mathlib.Core.Path.{◌≡◌, ap, ◌∙◌}
-use mathlib.Core.Logic.{⊎_elim}
-use lib.ListN.{length}
-use Rattle.arrays.proofs.Laws.{done, count_hit, count_miss}
+use Prim.Native.Nat.{◌-◌, ◌+◌}
+use mathlib.Core.Path.{ap, ◌∙◌}
+use Rattle.arrays.proofs.Laws.{count_hit, count_miss}
 use Rattle.arrays.specs.Sets.{members}
 use Rattle.combinations.specs.Combinations.{no_list, compact_of}
 use Rattle.combinations.proofs.Laws.{compact_hit, compact_miss}

@@ -1,15 +1,9 @@
 -- The invariant: the list has the members passed, and `c` counts them.
-use borrow.Author.Rules.{rules}
-use native.Mathlib.Omega.{arith}
-use Prim.Native.Nat.{◌≤◌, ◌-◌, ◌+◌}
-use mathlib.Core.Path.{◌≡◌, ap, ◌∙◌}
-use mathlib.Core.Logic.{⊎_elim}
+use Prim.Native.Nat.{◌≤◌, ◌-◌}
+use mathlib.Core.Path.{◌≡◌}
 use lib.ListN.{length}
-use Rattle.arrays.proofs.Laws.{done, count_hit, count_miss}
 use Rattle.arrays.specs.Sets.{members}
-use Rattle.combinations.specs.Combinations.{no_list, compact_of}
-use Rattle.combinations.proofs.Laws.{compact_hit, compact_miss}
-use Rattle.combinations.proofs.Lists.{compact_room}
+use Rattle.combinations.specs.Combinations.{compact_of}
 use Rattle.gathering.proofs.compact.Given as goal
 
 abbrev pub invariant-loop-k : goal.invariant-loop-k

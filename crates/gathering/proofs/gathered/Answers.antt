@@ -1,5 +1,4 @@
 -- `gathering::gathered` meets its contract.
-use native.Mathlib.Omega.{arith}
 use Rattle.combinations.proofs.Laws.{tied_is}
 use Rattle.combinations.proofs.Lists.{numbers}
 use Rattle.gathering.proofs.gathered.Goals as goal

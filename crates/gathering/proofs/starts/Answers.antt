@@ -1,11 +1,10 @@
 -- The invariant: each place passed holds its year.
 use borrow.Author.Rules.{rules}
 use native.Mathlib.Omega.{arith}
-use Prim.Native.Nat.{◌≤◌, ◌-◌}
-use mathlib.Core.Path.{◌≡◌}
-use Rattle.arrays.proofs.Laws.{done, fill_next}
+use Prim.Native.Nat.{◌-◌}
+use Rattle.arrays.proofs.Laws.{fill_next}
 use Rattle.arrays.specs.Sets.{fill}
-use Rattle.combinations.specs.Combinations.{no_list, start_of}
+use Rattle.combinations.specs.Combinations.{no_list}
 use Rattle.combinations.proofs.Laws.{start_is}
 use Rattle.gathering.proofs.starts.Goals as goal
 

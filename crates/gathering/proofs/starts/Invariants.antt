@@ -1,12 +1,8 @@
 -- The invariant: each place passed holds its year.
-use borrow.Author.Rules.{rules}
-use native.Mathlib.Omega.{arith}
 use Prim.Native.Nat.{◌≤◌, ◌-◌}
 use mathlib.Core.Path.{◌≡◌}
-use Rattle.arrays.proofs.Laws.{done, fill_next}
 use Rattle.arrays.specs.Sets.{fill}
 use Rattle.combinations.specs.Combinations.{no_list, start_of}
-use Rattle.combinations.proofs.Laws.{start_is}
 use Rattle.gathering.proofs.starts.Given as goal
 
 abbrev pub invariant-loop-j : goal.invariant-loop-j

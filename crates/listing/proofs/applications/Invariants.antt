@@ -1,17 +1,12 @@
 -- `listing::applications` meets its contract. After i turns the first i lines stand at the start, up to `at`. Assumes nothing.
-use borrow.Author.Rules.{rules}
-use native.Mathlib.Omega.{arith}
-use Prim.Native.Nat.{ℕ, ◌≤◌, ◌-◌, ◌*◌}
-use mathlib.Core.Path.{◌≡◌, refl}
-use lib.ListN.{length, get_or, length-take, length-drop}
+use Prim.Native.Nat.{◌≤◌, ◌-◌, ◌*◌}
+use mathlib.Core.Path.{◌≡◌}
+use lib.ListN.{length, get_or}
 use Rattle.rules.specs.Bytes.{each}
 use Rattle.result.specs.Tells.{untold}
 use Rattle.rules.specs.Listing.{app_line}
-use Rattle.store.proofs.Laws.{filled_length}
 use Rattle.lines.specs.Printed.{Printed}
-use Rattle.lines.proofs.Laws.{printed_none, each_printed}
-use Rattle.listing.specs.ToldLines.{longest_app, app_line_told}
-use Rattle.listing.proofs.Laws.{printed_all}
+use Rattle.listing.specs.ToldLines.{longest_app}
 use Rattle.listing.proofs.applications.Given as goal
 
 abbrev pub invariant-loop-a : goal.invariant-loop-a

@@ -1,5 +1,4 @@
 -- `listing::pot_lines` meets its contract: the years follow their pot. Assumes nothing.
-use borrow.Author.Rules.{rules}
 use native.Mathlib.Omega.{arith}
 use Rattle.listing.specs.ToldLines.{longest_pot, pot_lines_told}
 use Rattle.lines.proofs.Laws.{printed_then, printed_within}

@@ -1,16 +1,11 @@
 -- `listing::pots` meets its contract. After i turns the first i lines stand at the start, up to `at`. Assumes nothing.
-use borrow.Author.Rules.{rules}
-use native.Mathlib.Omega.{arith}
-use Prim.Native.Nat.{ℕ, ◌≤◌, ◌-◌, ◌*◌}
-use mathlib.Core.Path.{◌≡◌, refl}
-use lib.ListN.{length, get_or, length-take, length-drop}
+use Prim.Native.Nat.{◌≤◌, ◌-◌, ◌*◌}
+use mathlib.Core.Path.{◌≡◌}
+use lib.ListN.{length, get_or}
 use Rattle.rules.specs.Bytes.{each}
-use Rattle.store.proofs.Laws.{filled_length}
 use Rattle.result.specs.Tells.{no_pot}
 use Rattle.lines.specs.Printed.{Printed}
-use Rattle.lines.proofs.Laws.{printed_none, each_printed}
-use Rattle.listing.specs.ToldLines.{longest_pot, pot_lines_told, pot_listed}
-use Rattle.listing.proofs.Laws.{printed_all}
+use Rattle.listing.specs.ToldLines.{longest_pot, pot_lines_told}
 use Rattle.listing.proofs.pots.Given as goal
 
 abbrev pub invariant-loop-p : goal.invariant-loop-p

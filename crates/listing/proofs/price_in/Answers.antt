@@ -1,5 +1,4 @@
 -- `listing::price_in` meets its contract. Assumes nothing.
-use borrow.Author.Rules.{rules}
 use borrow.Author.Tests.{lt-ltb, le-ltb}
 use Rattle.listing.specs.ToldLines.{price_told}
 use Rattle.listing.proofs.price_in.Goals as goal

@@ -1,5 +1,4 @@
 -- `listing::write` meets its contract: pots, applications and bids follow each other, and what is told of a round is its listing. Assumes nothing.
-use borrow.Author.Rules.{rules}
 use native.Mathlib.Omega.{arith}
 use Rattle.listing.specs.ToldLines.{lines_told, longest}
 use Rattle.lines.proofs.Laws.{printed_then, printed_within}

@@ -1,5 +1,4 @@
 -- `listing::year_line` meets its contract. Assumes nothing.
-use borrow.Author.Rules.{rules}
 use Rattle.listing.specs.ToldLines.{year_line_told}
 use Rattle.listing.proofs.year_line.Goals as goal
 

@@ -1,15 +1,10 @@
 -- `listing::year_lines` meets its contract. After i turns the first i lines stand at the start, up to `at`. Assumes nothing.
-use borrow.Author.Rules.{rules}
-use native.Mathlib.Omega.{arith}
-use Prim.Native.Nat.{ℕ, ◌≤◌, ◌-◌, ◌*◌}
-use mathlib.Core.Path.{◌≡◌, refl}
-use lib.ListN.{length, length-take, length-drop}
+use Prim.Native.Nat.{◌≤◌, ◌-◌, ◌*◌}
+use mathlib.Core.Path.{◌≡◌}
+use lib.ListN.{length}
 use Rattle.rules.specs.Bytes.{each}
-use Rattle.store.proofs.Laws.{filled_length}
 use Rattle.lines.specs.Printed.{Printed}
-use Rattle.lines.proofs.Laws.{printed_none, each_printed}
 use Rattle.listing.specs.ToldLines.{longest_year, year_line_told}
-use Rattle.listing.proofs.Laws.{printed_all}
 use Rattle.listing.proofs.year_lines.Given as goal
 
 abbrev pub invariant-loop-y : goal.invariant-loop-y

@@ -3,7 +3,6 @@ use native.Mathlib.Omega.{arith}
 use mathlib.Core.Path.{sym, ◌∙◌}
 use Rattle.laws_reading.specs.Walk.{given_yes, given_no}
 use Rattle.places.specs.Places.{held}
-use borrow.Author.Rules.{rules}
 use Rattle.places.proofs.count.Goals as goal
 
 pub returns-then-file-lt-COUNT_WIDTH : goal.returns-then-file-lt-COUNT_WIDTH

@@ -1,5 +1,4 @@
 -- `pot::auction` meets its contract.
-use borrow.Author.Rules.{rules}
 use Rattle.sheet.proofs.Columns.{columns_few}
 use Rattle.pot.proofs.Sums.{summed_started}
 use Rattle.pot.proofs.Runs.{started_stands}

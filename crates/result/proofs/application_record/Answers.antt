@@ -1,5 +1,4 @@
 -- `result::application_record` meets its contract: the fields follow each other. Assumes nothing.
-use borrow.Author.Rules.{rules}
 use mathlib.Core.Path.{refl}
 use Rattle.rules.specs.Bytes.{bytes}
 use Rattle.rules.specs.Result.{app_bytes}

@@ -1,16 +1,12 @@
 -- `result::application_records` meets its contract. After a turns the first a records stand at the start, up to `at`. Assumes nothing.
-use borrow.Author.Rules.{rules}
 use native.Mathlib.Omega.{arith}
-use Prim.Native.Nat.{◌≤◌, ◌-◌, ◌*◌, ◌+◌}
-use mathlib.Core.Path.{◌≡◌, refl}
-use lib.ListN.{length, get_or, length-take, length-drop}
+use Prim.Native.Nat.{◌-◌, ◌+◌}
+use mathlib.Core.Path.{refl}
 use Rattle.rules.specs.Bytes.{each}
-use Rattle.rules.specs.Result.{app_bytes}
-use Rattle.result.specs.Tells.{untold}
 use Rattle.store.specs.Filled.{Filled}
 use Rattle.store.proofs.Laws.{filled_none, filled_length, each_turn}
 use Rattle.result.specs.ToldBytes.{app_size, app_record}
-use Rattle.result.proofs.Laws.{length_app, filled_all}
+use Rattle.result.proofs.Laws.{length_app}
 use Rattle.result.proofs.application_records.Goals as goal
 
 pub loop-a-init : goal.loop-a-init

@@ -1,9 +1,6 @@
 -- `result::bids` meets its contract: the reasons follow the count. Assumes nothing.
-use borrow.Author.Rules.{rules}
-use Rattle.store.proofs.Laws.{filled_rest, filled_length, length_bytes}
+use Rattle.store.proofs.Laws.{filled_rest, length_bytes}
 use Rattle.result.specs.ToldBytes.{bids_told}
-use native.Mathlib.Omega.{arith}
-use lib.ListN.{length-take, length-drop}
 use Rattle.result.proofs.bids.Goals as goal
 
 pub returns : goal.returns

@@ -1,10 +1,5 @@
 -- `result::pot_record` meets its contract: the fields follow each other. Assumes nothing.
-use borrow.Author.Rules.{rules}
 use mathlib.Core.Path.{refl}
-use native.Mathlib.Omega.{arith}
-use lib.ListN.{length-take, length-drop}
-use Rattle.store.proofs.Laws.{filled_rest, filled_length, length_bytes}
-use Rattle.result.specs.ToldBytes.{outcome_size}
 use Rattle.result.proofs.Laws.{pot_filled}
 use Rattle.result.proofs.pot_record.Goals as goal
 

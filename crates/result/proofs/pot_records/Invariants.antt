@@ -1,16 +1,11 @@
 -- `result::pot_records` meets its contract. After p turns the first p records stand at the start, up to `at`. Assumes nothing.
-use borrow.Author.Rules.{rules}
-use native.Mathlib.Omega.{arith}
-use Prim.Native.Nat.{◌≤◌, ◌-◌, ◌*◌, ◌+◌}
-use native.Mathlib.Nat.{zero-mul}
-use mathlib.Core.Path.{◌≡◌, refl, sym}
-use lib.ListN.{length, get_or, length-take, length-drop}
+use Prim.Native.Nat.{◌≤◌, ◌-◌, ◌*◌}
+use mathlib.Core.Path.{◌≡◌}
+use lib.ListN.{length, get_or}
 use Rattle.rules.specs.Bytes.{each}
 use Rattle.store.specs.Filled.{Filled}
-use Rattle.store.proofs.Laws.{filled_none, filled_length, each_turn, mul_more}
 use Rattle.result.specs.Tells.{no_pot}
-use Rattle.result.specs.ToldBytes.{pot_size, pot_bytes_told, pot_record}
-use Rattle.result.proofs.Laws.{length_pot, filled_all, pot_room}
+use Rattle.result.specs.ToldBytes.{pot_size, pot_bytes_told}
 use Rattle.result.proofs.pot_records.Given as goal
 
 abbrev pub invariant-loop-p : goal.invariant-loop-p

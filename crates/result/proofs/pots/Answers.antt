@@ -1,5 +1,4 @@
 -- `result::pots` meets its contract: the records follow the count. Assumes nothing.
-use borrow.Author.Rules.{rules}
 use Rattle.store.proofs.Laws.{filled_rest, length_bytes}
 use Rattle.result.specs.ToldBytes.{pots_told}
 use Rattle.result.proofs.pots.Goals as goal

@@ -1,5 +1,4 @@
 -- `result::write` meets its contract: each section fills its own part, and what is told of a round is its result. Assumes nothing.
-use borrow.Author.Rules.{rules}
 use Prim.Native.Nat.{ℕ, ◌+◌}
 use mathlib.Core.Path.{refl, ap, ◌∙◌}
 use mathlib.Core.List.{List}

@@ -1,6 +1,5 @@
 -- `round::clear` meets its contract: an accepted file is cleared, a refusal carried out.
-use mathlib.Core.Path.{sym, ◌∙◌}
-use borrow.Author.Rules.{rules}
+use mathlib.Core.Path.{sym}
 use Rattle.round.proofs.Laws.{turned_away}
 use Rattle.round.proofs.clear.Goals as goal
 

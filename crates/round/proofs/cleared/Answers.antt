@@ -1,5 +1,4 @@
 -- `round::cleared` meets its contract: the lent result is too short, or what is told of the file is written into it.
-use borrow.Author.Rules.{rules}
 use native.Mathlib.Omega.{arith}
 use Rattle.round.proofs.Laws.{handed, short, written}
 use Rattle.round.proofs.cleared.Goals as goal

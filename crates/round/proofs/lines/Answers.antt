@@ -1,5 +1,4 @@
 -- `round::lines` meets its contract: what is told of the file is listed.
-use borrow.Author.Rules.{rules}
 use Rattle.round.proofs.Laws.{handed, lines_listed}
 use Rattle.round.proofs.lines.Goals as goal
 

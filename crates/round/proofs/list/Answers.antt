@@ -1,6 +1,5 @@
 -- `round::list` meets its contract: the text is too short, or the file is listed, or its refusal is.
-use mathlib.Core.Path.{sym, ◌∙◌}
-use borrow.Author.Rules.{rules}
+use mathlib.Core.Path.{sym}
 use Rattle.round.proofs.Laws.{text_short, refusal_listed}
 use Rattle.round.proofs.list.Goals as goal
 

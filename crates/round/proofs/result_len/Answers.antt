@@ -1,6 +1,5 @@
 -- `round::result_len` meets its contract: one law for each way.
-use borrow.Author.Rules.{rules}
-use mathlib.Core.Path.{sym, ◌∙◌}
+use mathlib.Core.Path.{sym}
 use Rattle.round.proofs.Laws.{handed, length_needed, length_none}
 use Rattle.round.proofs.result_len.Goals as goal
 

@@ -1,8 +1,7 @@
 -- `rows::app_mine` meets its contract: the application is one of the round's, and its technology stands in the pot.
-use borrow.Author.Rules.{rules}
 use mathlib.Core.Path.{sym}
 use Rattle.laws_round.specs.Bids.{app_out}
-use Rattle.rows.proofs.Laws.{its_tech, app_mine_is}
+use Rattle.rows.proofs.Laws.{app_mine_is}
 use Rattle.rows.proofs.app_mine.Goals as goal
 
 pub returns-then-sections-a : goal.returns-then-sections-a

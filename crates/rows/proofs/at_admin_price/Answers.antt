@@ -1,6 +1,5 @@
 -- `rows::at_admin_price` meets its contract: the fields are the application's own, and the price its technology's in its year.
-use borrow.Author.Rules.{rules}
-use Rattle.rows.proofs.Laws.{its_tech, its_year, at_admin_is}
+use Rattle.rows.proofs.Laws.{at_admin_is}
 use Rattle.rows.proofs.at_admin_price.Goals as goal
 
 pub returns : goal.returns

@@ -1,5 +1,4 @@
 -- `rows::figure` meets its contract: the figures are products of the factors.
-use borrow.Author.Rules.{rules}
 use Rattle.rows.proofs.Laws.{figure_is}
 use Rattle.rows.proofs.figure.Goals as goal
 

@@ -1,5 +1,4 @@
 -- `rows::mine` meets its contract: the bid is one of the round's, and its application stands in the pot.
-use borrow.Author.Rules.{rules}
 use mathlib.Core.Path.{sym}
 use Rattle.laws_round.specs.Bids.{mine_out}
 use Rattle.rows.proofs.Laws.{good, mine_is}

@@ -1,5 +1,4 @@
 -- `rows::row` meets its contract: zeros for a bid of another pot, else each number as the bid, its application and its technology have it.
-use borrow.Author.Rules.{rules}
 use native.Mathlib.Omega.{arith}
 use Rattle.rows.proofs.Laws.{bid_in, good, its_tech, row_blank, row_own}
 use Rattle.rows.proofs.row.Goals as goal

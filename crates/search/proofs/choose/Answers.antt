@@ -1,6 +1,4 @@
 -- `search::choose` meets its contract.
-use Rattle.rules.specs.Names.{most_bids}
-use Rattle.combinations.proofs.Lists.{numbers_more}
 use Rattle.search.proofs.Ways.{choice_undrawn, choice_drawn}
 use Rattle.search.proofs.choose.Goals as goal
 

@@ -1,9 +1,7 @@
 -- `search::search` meets its contract.
-use borrow.Author.Rules.{rules}
 use native.Mathlib.Omega.{arith}
 use Prim.Native.Nat.{◌-◌}
 use mathlib.Core.Path.{refl}
-use Rattle.laws_pot.specs.Lists.{not_is_false}
 use Rattle.combinations.proofs.Lists.{gathered_owned}
 use Rattle.ties.proofs.Laws.{drawing, answer_is}
 use Rattle.search.proofs.Ways.{cuts_of, seeking, searched_top, searched_none, searched_place}

@@ -1,10 +1,7 @@
 -- `tell::tell` meets its contract: the pots passed are told.
-use borrow.Author.Rules.{rules}
 use Prim.Native.Nat.{◌-◌, ◌≤◌}
-use native.Mathlib.Omega.{arith}
 use Rattle.rows.specs.Rows.{round_in}
 use Rattle.tell.specs.ToldTo.{ToldTo}
-use Rattle.tell.proofs.Merge.{told_all}
 use Rattle.tell.proofs.tell.Given as goal
 
 abbrev pub invariant-loop-p : goal.invariant-loop-p

@@ -1,14 +1,9 @@
 -- `tell::with_apps` meets its contract: the applications passed are told.
-use borrow.Author.Rules.{rules}
 use Prim.Native.Nat.{◌-◌, ◌≤◌}
-use mathlib.Core.Logic.{⊎_elim}
-use mathlib.Core.Path.{◌≡◌, ◌∙◌}
-use native.Mathlib.Omega.{arith}
+use mathlib.Core.Path.{◌≡◌}
 use Rattle.result.specs.Tells.{untold}
-use Rattle.arrays.proofs.Laws.{done}
 use Rattle.sheet.specs.Sheet.{in_test}
 use Rattle.tell.specs.ToldTo.{merged}
-use Rattle.tell.proofs.Laws.{merged_hit, merged_miss}
 use Rattle.tell.proofs.with_apps.Given as goal
 
 abbrev pub invariant-loop-a : goal.invariant-loop-a

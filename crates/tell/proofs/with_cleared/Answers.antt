@@ -1,5 +1,4 @@
 -- `tell::with_cleared` meets its contract: the pot's record at its place, and the merged applications and reasons.
-use borrow.Author.Rules.{rules}
 use Rattle.tell.specs.ToldTo.{told_with}
 use Rattle.tell.proofs.with_cleared.Goals as goal
 

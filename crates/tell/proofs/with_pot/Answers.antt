@@ -1,6 +1,4 @@
 -- `tell::with_pot` meets its contract: its sheet shows the pot, which is cleared and told.
-use borrow.Author.Rules.{rules}
-use native.Mathlib.Omega.{arith}
 use Rattle.tell.proofs.Merge.{told_next}
 use Rattle.tell.proofs.with_pot.Goals as goal
 

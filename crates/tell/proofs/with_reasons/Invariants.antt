@@ -1,14 +1,9 @@
 -- `tell::with_reasons` meets its contract: the bids passed have their reasons.
-use borrow.Author.Rules.{rules}
 use Prim.Native.Nat.{◌-◌, ◌≤◌}
-use mathlib.Core.Logic.{⊎_elim}
-use mathlib.Core.Path.{◌≡◌, ◌∙◌}
-use native.Mathlib.Omega.{arith}
+use mathlib.Core.Path.{◌≡◌}
 use Rattle.rules.specs.Names.{no_reason}
 use Rattle.sheet.specs.Sheet.{in_auction}
-use Rattle.arrays.proofs.Laws.{done}
 use Rattle.tell.specs.ToldTo.{merged}
-use Rattle.tell.proofs.Laws.{merged_hit, merged_miss}
 use Rattle.tell.proofs.with_reasons.Given as goal
 
 abbrev pub invariant-loop-k : goal.invariant-loop-k

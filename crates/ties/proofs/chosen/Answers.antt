@@ -1,7 +1,5 @@
 -- `ties::chosen` meets its contract.
-use borrow.Author.Rules.{rules}
 use native.Mathlib.Omega.{arith}
-use native.Mathlib.Nat.{div-le_self}
 use Prim.Native.Nat.{◌-◌}
 use Rattle.ties.proofs.Laws.{chosen_undrawn, chosen_none, chosen_left}
 use Rattle.ties.proofs.chosen.Goals as goal

@@ -1,10 +1,8 @@
 -- The invariant: the set has the bids passed that are in the combination.
 use borrow.Author.Rules.{rules}
 use native.Mathlib.Omega.{arith}
-use Prim.Native.Nat.{◌≤◌, ◌-◌}
-use mathlib.Core.Path.{◌≡◌, ◌∙◌}
-use mathlib.Core.Logic.{⊎_elim}
-use Rattle.arrays.proofs.Laws.{done}
+use Prim.Native.Nat.{◌-◌}
+use mathlib.Core.Path.{◌∙◌}
 use Rattle.arrays.specs.Sets.{none}
 use Rattle.ties.specs.Ties.{combination_of}
 use Rattle.ties.proofs.Laws.{combination_hit, combination_miss}

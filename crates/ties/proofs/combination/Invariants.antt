@@ -1,13 +1,7 @@
 -- The invariant: the set has the bids passed that are in the combination.
-use borrow.Author.Rules.{rules}
-use native.Mathlib.Omega.{arith}
 use Prim.Native.Nat.{◌≤◌, ◌-◌}
-use mathlib.Core.Path.{◌≡◌, ◌∙◌}
-use mathlib.Core.Logic.{⊎_elim}
-use Rattle.arrays.proofs.Laws.{done}
-use Rattle.arrays.specs.Sets.{none}
+use mathlib.Core.Path.{◌≡◌}
 use Rattle.ties.specs.Ties.{combination_of}
-use Rattle.ties.proofs.Laws.{combination_hit, combination_miss}
 use Rattle.ties.proofs.combination.Given as goal
 
 abbrev pub invariant-loop-j : goal.invariant-loop-j

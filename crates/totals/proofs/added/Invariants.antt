@@ -1,12 +1,7 @@
 -- The invariant: what the bid counts is added in the columns passed.
-use native.Mathlib.Omega.{arith}
 use Prim.Native.Nat.{◌≤◌, ◌-◌}
-use mathlib.Core.Path.{◌≡◌, refl}
-use Rattle.arrays.specs.Sets.{fill}
-use Rattle.arrays.proofs.Laws.{done}
-use Rattle.sheet.proofs.Columns.{columns_few}
+use mathlib.Core.Path.{◌≡◌}
 use Rattle.totals.specs.Totals.{worth_of, added_to}
-use Rattle.totals.proofs.Laws.{added_next, added_low}
 use Rattle.totals.proofs.added.Given as goal
 
 abbrev pub invariant-loop-c : goal.invariant-loop-c

@@ -1,13 +1,9 @@
 -- The invariant: `sum` is the total of the applications passed, each at most the dearest.
-use native.Mathlib.Omega.{arith}
 use Prim.Native.Nat.{◌≤◌, ◌-◌, ◌*◌}
-use mathlib.Core.Path.{◌≡◌, refl, ◌∙◌}
-use mathlib.Core.Logic.{⊎_elim}
+use mathlib.Core.Path.{◌≡◌}
 use Rattle.rules.specs.Lists.{sum}
 use Rattle.rules.specs.Value.{dearest}
-use Rattle.arrays.proofs.Laws.{done}
 use Rattle.totals.specs.Totals.{admin_total_of}
-use Rattle.totals.proofs.Laws.{admin_hit, admin_miss}
 use Rattle.totals.proofs.admin_total.Given as goal
 
 abbrev pub invariant-loop-a : goal.invariant-loop-a

@@ -1,11 +1,10 @@
 -- The invariant: the row holds the totals of the bids passed.
 use native.Mathlib.Omega.{arith}
-use Prim.Native.Nat.{◌≤◌, ◌-◌}
-use mathlib.Core.Path.{◌≡◌, ◌∙◌}
-use mathlib.Core.Logic.{⊎_elim}
+use Prim.Native.Nat.{◌-◌}
+use mathlib.Core.Path.{◌∙◌}
 use Rattle.sheet.proofs.Columns.{columns_few}
-use Rattle.totals.specs.Totals.{total_of, no_row, filled}
-use Rattle.totals.proofs.Laws.{row_none, row_hit, row_miss, row_done, adding, total_le}
+use Rattle.totals.specs.Totals.{total_of, no_row}
+use Rattle.totals.proofs.Laws.{row_none, row_hit, row_miss, adding, total_le}
 use Rattle.totals.proofs.revalued.Goals as goal
 use Rattle.totals.proofs.revalued.Goals.{else-marks-k-eq-WON, then-marks-k-eq-WON}
 

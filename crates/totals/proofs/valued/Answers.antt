@@ -1,5 +1,4 @@
 -- `totals::valued` meets its contract.
-use borrow.Author.Rules.{rules}
 use native.Mathlib.Omega.{arith}
 use Rattle.totals.proofs.Laws.{valued_is, capacity_is}
 use Rattle.totals.proofs.valued.Goals as goal

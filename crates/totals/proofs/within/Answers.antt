@@ -1,11 +1,9 @@
 -- The invariant: `ok` says whether every column passed fits.
 use borrow.Author.Rules.{rules}
 use native.Mathlib.Omega.{arith}
-use Prim.Native.Nat.{◌≤◌, ◌-◌}
-use mathlib.Core.Path.{◌≡◌, refl, ◌∙◌}
-use mathlib.Core.Logic.{⊎_elim}
-use Rattle.arrays.proofs.Laws.{done}
-use Rattle.totals.specs.Totals.{fits_to, row_fits}
+use Prim.Native.Nat.{◌-◌}
+use mathlib.Core.Path.{refl, ◌∙◌}
+use Rattle.totals.specs.Totals.{fits_to}
 use Rattle.totals.proofs.Laws.{fits_not, fits_more}
 use Rattle.totals.proofs.within.Goals as goal
 use Rattle.totals.proofs.within.Goals.{else-row-c, then-row-c}

@@ -1,12 +1,7 @@
 -- The invariant: `ok` says whether every column passed fits.
-use borrow.Author.Rules.{rules}
-use native.Mathlib.Omega.{arith}
 use Prim.Native.Nat.{◌≤◌, ◌-◌}
-use mathlib.Core.Path.{◌≡◌, refl, ◌∙◌}
-use mathlib.Core.Logic.{⊎_elim}
-use Rattle.arrays.proofs.Laws.{done}
-use Rattle.totals.specs.Totals.{fits_to, row_fits}
-use Rattle.totals.proofs.Laws.{fits_not, fits_more}
+use mathlib.Core.Path.{◌≡◌}
+use Rattle.totals.specs.Totals.{row_fits}
 use Rattle.totals.proofs.within.Given as goal
 
 abbrev pub invariant-loop-c : goal.invariant-loop-c

@@ -1,6 +1,4 @@
 -- `totals::worth` meets its contract.
-use borrow.Author.Rules.{rules}
-use native.Mathlib.Omega.{arith}
 use Rattle.totals.proofs.Laws.{worth_is}
 use Rattle.totals.proofs.worth.Goals as goal
 

@@ -1,9 +1,5 @@
 -- The invariant: so many bids are passed.
-use borrow.Author.Rules.{rules}
-use native.Mathlib.Omega.{arith}
 use Prim.Native.Nat.{◌-◌, ◌≤◌}
-use mathlib.Core.Path.{refl}
-use Rattle.laws_pot.specs.Lists.{clash}
 use Rattle.added.proofs.sound.held.Given as goal
 
 abbrev pub invariant-loop-j : goal.invariant-loop-j

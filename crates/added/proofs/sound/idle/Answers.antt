@@ -1,10 +1,6 @@
 -- The invariant: each bid passed is worth something in the last year.
-use borrow.Author.Rules.{rules}
 use native.Mathlib.Omega.{arith}
-use Prim.Native.Nat.{ℕ, ◌-◌, ◌≤◌, ◌<◌}
-use mathlib.Core.Path.{refl}
-use Rattle.laws_pot.specs.Lists.{clash}
-use Rattle.added.specs.Added.{last_worth}
+use Prim.Native.Nat.{◌-◌}
 use Rattle.added.proofs.Rise.{busy_more}
 use Rattle.added.proofs.sound.idle.Goals as goal
 

@@ -1,5 +1,4 @@
 -- `added::sound::rises` meets its contract.
-use borrow.Author.Rules.{rules}
 use native.Mathlib.Omega.{arith}
 use mathlib.Core.Path.{refl}
 use borrow.Author.Tests.{leb-true}

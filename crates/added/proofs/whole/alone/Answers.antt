@@ -1,5 +1,4 @@
 -- `added::whole::alone` meets its contract.
-use borrow.Author.Rules.{rules}
 use native.Mathlib.Omega.{arith}
 use Prim.Native.Nat.{◌%◌}
 use Rattle.combinations.specs.Combinations.{part_places}

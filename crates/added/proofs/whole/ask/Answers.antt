@@ -1,5 +1,4 @@
 -- `added::whole::ask` meets its contract.
-use native.Mathlib.Omega.{arith}
 use Rattle.sheet.proofs.Columns.{columns_few}
 use Rattle.ties.proofs.Laws.{add_low}
 use Rattle.added.proofs.Asked.{ask_in, ask_barred, ask_misfit, ask_bar, ask_fits}

@@ -1,8 +1,5 @@
 -- The invariant: so many columns are passed.
-use native.Mathlib.Omega.{arith}
 use Prim.Native.Nat.{◌-◌, ◌≤◌}
-use mathlib.Core.Path.{refl}
-use mathlib.Core.Logic.{inl, inr}
 use Rattle.added.proofs.whole.bar.Given as goal
 
 abbrev pub invariant-loop-column : goal.invariant-loop-column

@@ -1,10 +1,6 @@
 -- The invariant: none of the bids passed counts less.
-use native.Mathlib.Omega.{arith}
 use Prim.Native.Nat.{◌-◌}
-use mathlib.Core.Path.{refl}
-use mathlib.Core.Logic.{⊎_elim}
 use Rattle.added.specs.Added.{Least}
-use Rattle.added.proofs.Asked.{least_first, least_less, least_same}
 use Rattle.added.proofs.whole.least.Given as goal
 
 abbrev pub invariant-loop-place : goal.invariant-loop-place

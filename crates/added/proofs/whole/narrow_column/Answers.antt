@@ -1,10 +1,9 @@
 -- The invariant: so many columns are passed.
 use native.Mathlib.Omega.{arith}
-use Prim.Native.Nat.{◌-◌, ◌≤◌}
+use Prim.Native.Nat.{◌-◌}
 use lib.Pow.{pow_pos}
 use Rattle.sheet.proofs.Columns.{columns_few}
 use Rattle.ties.proofs.Laws.{power_low}
-use Rattle.added.proofs.Asked.{narrows_at}
 use Rattle.added.proofs.whole.narrow_column.Goals as goal
 
 pub union-years-requires : goal.union-years-requires

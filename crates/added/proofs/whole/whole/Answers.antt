@@ -1,14 +1,9 @@
 -- The invariant: none of the bids passed can be added.
-use native.Mathlib.Omega.{arith}
-use Prim.Native.Nat.{ℕ, ◌-◌, ◌≤◌, ◌<◌}
-use mathlib.Core.Bool.{false}
-use mathlib.Core.Path.{◌≡◌, refl, sym, ◌∙◌}
+use Prim.Native.Nat.{◌-◌}
+use mathlib.Core.Path.{refl}
 use Rattle.sheet.proofs.Columns.{columns_few}
 use Rattle.laws_pot.specs.Lists.{clash}
-use Rattle.arrays.proofs.Laws.{below_more}
-use Rattle.ties.specs.Ties.{ok_by, addable_of}
-use Rattle.added.specs.Added.{Roomed}
-use Rattle.added.proofs.Asked.{none_narrow, asked_open, asked_shut}
+use Rattle.added.proofs.Asked.{none_narrow}
 use Rattle.added.proofs.whole.whole.Goals as goal
 
 pub returns-then-left-narrow : goal.returns-then-left-narrow

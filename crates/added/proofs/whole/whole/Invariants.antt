@@ -1,14 +1,9 @@
 -- The invariant: none of the bids passed can be added.
-use native.Mathlib.Omega.{arith}
 use Prim.Native.Nat.{ℕ, ◌-◌, ◌≤◌, ◌<◌}
 use mathlib.Core.Bool.{false}
-use mathlib.Core.Path.{◌≡◌, refl, sym, ◌∙◌}
-use Rattle.sheet.proofs.Columns.{columns_few}
-use Rattle.laws_pot.specs.Lists.{clash}
-use Rattle.arrays.proofs.Laws.{below_more}
+use mathlib.Core.Path.{◌≡◌}
 use Rattle.ties.specs.Ties.{ok_by, addable_of}
 use Rattle.added.specs.Added.{Roomed}
-use Rattle.added.proofs.Asked.{none_narrow, asked_open, asked_shut}
 use Rattle.added.proofs.whole.whole.Given as goal
 
 abbrev pub invariant-loop-place : goal.invariant-loop-place

@@ -1,8 +1,5 @@
 -- `branches::greatest::ends` meets its contract.
-use native.Mathlib.Omega.{arith}
-use mathlib.Core.Path.{refl}
-use Rattle.laws_pot.specs.Lists.{clash}
-use Rattle.branches.proofs.Branch.{sized_some, ends_at}
+use Rattle.branches.proofs.Branch.{ends_at}
 use Rattle.branches.proofs.greatest.ends.Goals as goal
 
 pub cut-requires : goal.cut-requires

@@ -1,7 +1,6 @@
 -- `branches::greatest::fall` meets its contract.
-use native.Mathlib.Omega.{arith}
 use mathlib.Core.Path.{refl}
-use Rattle.branches.proofs.Best.{lasting, fallen_short, fallen_all, over}
+use Rattle.branches.proofs.Best.{fallen_short, fallen_all, over}
 use Rattle.branches.proofs.greatest.fall.Goals as goal
 
 pub returns-then-left-gt0 : goal.returns-then-left-gt0

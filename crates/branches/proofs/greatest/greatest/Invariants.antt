@@ -1,9 +1,7 @@
 -- The invariant: the best of those from `left` on is found.
-use native.Mathlib.Omega.{arith}
 use Prim.Native.Nat.{◌^◌, ◌≤◌}
 use Rattle.ties.specs.Ties.{ok_by, last_by}
-use Rattle.ties.proofs.Laws.{power_low}
-use Rattle.branches.proofs.Best.{Sought, sought_none, sought_at, sought_next, sought_past, nothing_best, found_best}
+use Rattle.branches.proofs.Best.{Sought}
 use Rattle.branches.proofs.greatest.greatest.Given as goal
 
 abbrev pub invariant-loop-left : goal.invariant-loop-left

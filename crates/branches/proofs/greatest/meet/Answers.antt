@@ -1,5 +1,4 @@
 -- `branches::greatest::meet` meets its contract.
-use borrow.Author.Rules.{rules}
 use native.Mathlib.Omega.{arith}
 use Rattle.branches.proofs.Best.{met_less, met_more, met_not, last_small}
 use Rattle.branches.proofs.greatest.meet.Goals as goal

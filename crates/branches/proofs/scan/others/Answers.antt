@@ -1,11 +1,6 @@
 -- The invariant: those passed have another total.
-use borrow.Author.Rules.{rules}
 use native.Mathlib.Omega.{arith}
-use Prim.Native.Nat.{ℕ, ◌+◌, ◌-◌, ◌/◌, ◌%◌, ◌≤◌, ◌<◌}
-use mathlib.Core.Path.{◌≡◌}
-use Rattle.combinations.specs.Combinations.{part_size}
-use Rattle.ties.specs.Ties.{last_by}
-use Rattle.branches.specs.Branches.{upper_of, Upright}
+use Prim.Native.Nat.{◌-◌}
 use Rattle.branches.proofs.Scans.{others_more}
 use Rattle.branches.proofs.scan.others.Goals as goal
 

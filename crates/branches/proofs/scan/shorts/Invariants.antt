@@ -1,13 +1,10 @@
 -- The invariant: those passed have less, or more than the limit.
-use borrow.Author.Rules.{rules}
-use native.Mathlib.Omega.{arith}
 use Prim.Native.Nat.{◌+◌, ◌*◌, ◌≤◌}
 use mathlib.Core.Path.{◌≡◌}
-use mathlib.Core.Logic.{inl, inr, ⊎_elim}
 use Rattle.combinations.specs.Combinations.{part_size}
 use Rattle.ties.specs.Ties.{last_by}
 use Rattle.branches.specs.Branches.{upper_of, Upright}
-use Rattle.branches.proofs.Scans.{Passing, shorts_more, shorts_are, shorts_from}
+use Rattle.branches.proofs.Scans.{Passing}
 use Rattle.branches.proofs.scan.shorts.Given as goal
 
 abbrev pub invariant-loop-end : goal.invariant-loop-end

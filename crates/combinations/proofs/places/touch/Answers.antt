@@ -1,6 +1,4 @@
 -- `combinations::places::touch` meets its contract.
-use borrow.Author.Rules.{rules}
-use native.Mathlib.Omega.{arith}
 use Rattle.combinations.proofs.Laws.{touch_old, touch_new, touch_low}
 use Rattle.combinations.proofs.places.touch.Goals as goal
 

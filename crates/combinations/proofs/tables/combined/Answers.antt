@@ -1,10 +1,7 @@
 -- The invariant: `sum` is what the bids passed count, each at most the dearest.
 use native.Mathlib.Omega.{arith}
-use Prim.Native.Nat.{◌≤◌, ◌-◌, ◌+◌, ◌*◌}
-use mathlib.Core.Path.{◌≡◌, refl, ◌∙◌}
-use mathlib.Core.Logic.{⊎_elim}
-use Rattle.rules.specs.Value.{dearest}
-use Rattle.arrays.proofs.Laws.{done}
+use Prim.Native.Nat.{◌-◌, ◌+◌, ◌*◌}
+use mathlib.Core.Path.{refl, ◌∙◌}
 use Rattle.sheet.specs.Sheet.{columns}
 use Rattle.combinations.specs.Combinations.{combined_of}
 use Rattle.combinations.proofs.Laws.{combined_hit, combined_miss}

@@ -1,13 +1,8 @@
 -- The invariant: `sum` is what the bids passed count, each at most the dearest.
-use native.Mathlib.Omega.{arith}
-use Prim.Native.Nat.{◌≤◌, ◌-◌, ◌+◌, ◌*◌}
-use mathlib.Core.Path.{◌≡◌, refl, ◌∙◌}
-use mathlib.Core.Logic.{⊎_elim}
+use Prim.Native.Nat.{◌≤◌, ◌-◌, ◌*◌}
+use mathlib.Core.Path.{◌≡◌}
 use Rattle.rules.specs.Value.{dearest}
-use Rattle.arrays.proofs.Laws.{done}
-use Rattle.sheet.specs.Sheet.{columns}
 use Rattle.combinations.specs.Combinations.{combined_of}
-use Rattle.combinations.proofs.Laws.{combined_hit, combined_miss}
 use Rattle.combinations.proofs.tables.combined.Given as goal
 
 abbrev pub invariant-loop-j : goal.invariant-loop-j

@@ -1,13 +1,10 @@
 -- The invariant: each place passed holds its sum, of whatever bids the places alone are.
-use borrow.Author.Rules.{rules}
 use native.Mathlib.Omega.{arith}
-use Prim.Native.Nat.{ℕ, ◌≤◌, ◌<◌, ◌-◌, ◌*◌}
-use mathlib.Core.Path.{◌≡◌, refl, ◌∙◌}
-use mathlib.Core.Logic.{⊎_elim}
-use mathlib.Core.List.{List}
+use Prim.Native.Nat.{◌<◌, ◌-◌, ◌*◌}
+use mathlib.Core.Path.{refl, ◌∙◌}
 use Rattle.arrays.proofs.Laws.{fill_next}
 use Rattle.arrays.specs.Sets.{fill}
-use Rattle.combinations.specs.Combinations.{parts, part_rows, ones_of, cost_at, no_costs}
+use Rattle.combinations.specs.Combinations.{parts, part_rows, no_costs}
 use Rattle.combinations.proofs.Parts.{cost_stays, cost_next, cost_le, costs_end}
 use Rattle.combinations.proofs.tables.costs.Goals as goal
 use Rattle.combinations.proofs.tables.costs.Goals.{else-v-gt0, then-v-gt0}

@@ -1,8 +1,4 @@
 -- `combinations::tables::joint` meets its contract.
-use borrow.Author.Rules.{rules}
-use native.Mathlib.Omega.{arith}
-use Prim.Native.Nat.{◌+◌, ◌*◌}
-use Rattle.sheet.specs.Sheet.{columns}
 use Rattle.combinations.proofs.Laws.{joint_is}
 use Rattle.combinations.proofs.tables.joint.Goals as goal
 

@@ -1,12 +1,10 @@
 -- The invariant: each place passed holds its years.
-use borrow.Author.Rules.{rules}
 use native.Mathlib.Omega.{arith}
-use Prim.Native.Nat.{◌≤◌, ◌-◌}
-use mathlib.Core.Path.{◌≡◌, refl}
-use Rattle.rules.specs.Names.{widest_tie}
+use Prim.Native.Nat.{◌-◌}
+use mathlib.Core.Path.{refl}
 use Rattle.arrays.proofs.Laws.{fill_next}
 use Rattle.arrays.specs.Sets.{fill}
-use Rattle.combinations.specs.Combinations.{no_list, one_year_at}
+use Rattle.combinations.specs.Combinations.{no_list}
 use Rattle.combinations.proofs.Laws.{one_year_is}
 use Rattle.combinations.proofs.Parts.{one_years_end}
 use Rattle.combinations.proofs.tables.one_years.Goals as goal

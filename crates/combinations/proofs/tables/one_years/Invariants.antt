@@ -1,14 +1,9 @@
 -- The invariant: each place passed holds its years.
-use borrow.Author.Rules.{rules}
-use native.Mathlib.Omega.{arith}
 use Prim.Native.Nat.{◌≤◌, ◌-◌}
-use mathlib.Core.Path.{◌≡◌, refl}
+use mathlib.Core.Path.{◌≡◌}
 use Rattle.rules.specs.Names.{widest_tie}
-use Rattle.arrays.proofs.Laws.{fill_next}
 use Rattle.arrays.specs.Sets.{fill}
 use Rattle.combinations.specs.Combinations.{no_list, one_year_at}
-use Rattle.combinations.proofs.Laws.{one_year_is}
-use Rattle.combinations.proofs.Parts.{one_years_end}
 use Rattle.combinations.proofs.tables.one_years.Given as goal
 
 abbrev pub invariant-loop-i : goal.invariant-loop-i

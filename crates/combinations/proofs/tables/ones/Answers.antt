@@ -1,13 +1,10 @@
 -- The invariant: each place passed holds its sum.
-use borrow.Author.Rules.{rules}
 use native.Mathlib.Omega.{arith}
-use Prim.Native.Nat.{◌≤◌, ◌-◌, ◌*◌}
-use mathlib.Core.Path.{◌≡◌, refl}
-use Rattle.rules.specs.Names.{widest_tie}
+use Prim.Native.Nat.{◌-◌}
+use mathlib.Core.Path.{refl}
 use Rattle.arrays.proofs.Laws.{fill_next}
 use Rattle.arrays.specs.Sets.{fill}
-use Rattle.sheet.specs.Sheet.{columns}
-use Rattle.combinations.specs.Combinations.{no_own, one_at}
+use Rattle.combinations.specs.Combinations.{no_own}
 use Rattle.combinations.proofs.Laws.{one_is}
 use Rattle.combinations.proofs.Parts.{ones_end}
 use Rattle.combinations.proofs.tables.ones.Goals as goal

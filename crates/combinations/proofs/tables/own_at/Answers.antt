@@ -1,5 +1,4 @@
 -- `combinations::tables::own_at` meets its contract.
-use borrow.Author.Rules.{rules}
 use Rattle.combinations.proofs.Laws.{own_in, own_out}
 use Rattle.combinations.proofs.tables.own_at.Goals as goal
 

@@ -1,9 +1,8 @@
 -- The invariant: each place passed holds its value.
 use borrow.Author.Rules.{rules}
 use native.Mathlib.Omega.{arith}
-use Prim.Native.Nat.{◌≤◌, ◌-◌}
-use mathlib.Core.Path.{◌≡◌}
-use Rattle.arrays.proofs.Laws.{done, fill_next}
+use Prim.Native.Nat.{◌-◌}
+use Rattle.arrays.proofs.Laws.{fill_next}
 use Rattle.arrays.specs.Sets.{fill}
 use Rattle.combinations.specs.Combinations.{own_at, no_own}
 use Rattle.combinations.proofs.tables.owns.Goals as goal

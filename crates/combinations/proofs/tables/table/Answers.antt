@@ -1,11 +1,10 @@
 -- The invariant: each place passed holds its number.
 use borrow.Author.Rules.{rules}
 use native.Mathlib.Omega.{arith}
-use Prim.Native.Nat.{◌≤◌, ◌-◌}
-use mathlib.Core.Path.{◌≡◌}
+use Prim.Native.Nat.{◌-◌}
 use Rattle.arrays.proofs.Laws.{fill_next}
 use Rattle.arrays.specs.Sets.{fill}
-use Rattle.combinations.specs.Combinations.{table_length, table_at, no_table}
+use Rattle.combinations.specs.Combinations.{table_at, no_table}
 use Rattle.combinations.proofs.Laws.{table_ends}
 use Rattle.combinations.proofs.tables.table.Goals as goal
 

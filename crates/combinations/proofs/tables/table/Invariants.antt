@@ -1,12 +1,8 @@
 -- The invariant: each place passed holds its number.
-use borrow.Author.Rules.{rules}
-use native.Mathlib.Omega.{arith}
 use Prim.Native.Nat.{◌≤◌, ◌-◌}
 use mathlib.Core.Path.{◌≡◌}
-use Rattle.arrays.proofs.Laws.{fill_next}
 use Rattle.arrays.specs.Sets.{fill}
 use Rattle.combinations.specs.Combinations.{table_length, table_at, no_table}
-use Rattle.combinations.proofs.Laws.{table_ends}
 use Rattle.combinations.proofs.tables.table.Given as goal
 
 abbrev pub invariant-loop-i : goal.invariant-loop-i

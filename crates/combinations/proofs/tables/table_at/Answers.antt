@@ -1,5 +1,4 @@
 -- `combinations::tables::table_at` meets its contract.
-use borrow.Author.Rules.{rules}
 use Rattle.combinations.proofs.Laws.{base_part, costs_part, dates_part}
 use Rattle.combinations.proofs.tables.table_at.Goals as goal
 

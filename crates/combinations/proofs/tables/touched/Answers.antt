@@ -1,11 +1,9 @@
 -- The invariant: `t` has the years of the bids passed that are in the combination.
 use borrow.Author.Rules.{rules}
 use native.Mathlib.Omega.{arith}
-use Prim.Native.Nat.{◌≤◌, ◌<◌, ◌-◌}
-use mathlib.Core.Path.{◌≡◌, ◌∙◌}
-use mathlib.Core.Logic.{⊎_elim}
-use Rattle.arrays.proofs.Laws.{done}
-use Rattle.combinations.specs.Combinations.{year_sets, touched_of}
+use Prim.Native.Nat.{◌-◌}
+use mathlib.Core.Path.{◌∙◌}
+use Rattle.combinations.specs.Combinations.{touched_of}
 use Rattle.combinations.proofs.Laws.{touched_hit, touched_miss}
 use Rattle.combinations.proofs.tables.touched.Goals as goal
 use Rattle.combinations.proofs.tables.touched.Goals.{else-member, then-member}

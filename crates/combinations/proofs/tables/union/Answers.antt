@@ -1,5 +1,4 @@
 -- `combinations::tables::union` meets its contract.
-use borrow.Author.Rules.{rules}
 use Rattle.combinations.proofs.Parts.{union_is, union_low}
 use Rattle.combinations.proofs.tables.union.Goals as goal
 

@@ -1,13 +1,10 @@
 -- The invariant: each place passed holds its years, of whatever bids the places alone are.
-use borrow.Author.Rules.{rules}
 use native.Mathlib.Omega.{arith}
-use Prim.Native.Nat.{ℕ, ◌*◌, ◌≤◌, ◌<◌, ◌-◌}
-use mathlib.Core.Path.{◌≡◌, refl, ◌∙◌}
-use mathlib.Core.Logic.{⊎_elim}
-use mathlib.Core.List.{List}
+use Prim.Native.Nat.{◌*◌, ◌<◌, ◌-◌}
+use mathlib.Core.Path.{refl, ◌∙◌}
 use Rattle.arrays.proofs.Laws.{fill_next}
 use Rattle.arrays.specs.Sets.{fill}
-use Rattle.combinations.specs.Combinations.{parts, part_size, one_years_of, year_at, no_years}
+use Rattle.combinations.specs.Combinations.{parts, part_size, no_years}
 use Rattle.combinations.proofs.Parts.{year_stays, year_next, years_end}
 use Rattle.combinations.proofs.tables.years.Goals as goal
 use Rattle.combinations.proofs.tables.years.Goals.{else-v-gt0, then-v-gt0}

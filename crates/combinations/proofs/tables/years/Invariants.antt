@@ -1,14 +1,9 @@
 -- The invariant: each place passed holds its years, of whatever bids the places alone are.
-use borrow.Author.Rules.{rules}
-use native.Mathlib.Omega.{arith}
-use Prim.Native.Nat.{ℕ, ◌*◌, ◌≤◌, ◌<◌, ◌-◌}
-use mathlib.Core.Path.{◌≡◌, refl, ◌∙◌}
-use mathlib.Core.Logic.{⊎_elim}
+use Prim.Native.Nat.{ℕ, ◌*◌, ◌≤◌, ◌-◌}
+use mathlib.Core.Path.{◌≡◌}
 use mathlib.Core.List.{List}
-use Rattle.arrays.proofs.Laws.{fill_next}
 use Rattle.arrays.specs.Sets.{fill}
 use Rattle.combinations.specs.Combinations.{parts, part_size, one_years_of, year_at, no_years}
-use Rattle.combinations.proofs.Parts.{year_stays, year_next, years_end}
 use Rattle.combinations.proofs.tables.years.Given as goal
 
 abbrev pub invariant-loop-i : goal.invariant-loop-i

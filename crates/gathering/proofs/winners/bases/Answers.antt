@@ -1,13 +1,10 @@
 -- The invariant: each row passed has its totals.
 use borrow.Author.Rules.{rules}
 use native.Mathlib.Omega.{arith}
-use Prim.Native.Nat.{◌*◌, ◌≤◌, ◌-◌}
-use mathlib.Core.Path.{◌≡◌}
-use Rattle.arrays.proofs.Laws.{done_by}
+use Prim.Native.Nat.{◌-◌}
 use Rattle.arrays.specs.Sets.{fill}
-use Rattle.sheet.specs.Sheet.{columns}
 use Rattle.sheet.proofs.Columns.{columns_few}
-use Rattle.combinations.specs.Combinations.{year_sets, base_at, no_base}
+use Rattle.combinations.specs.Combinations.{no_base}
 use Rattle.combinations.proofs.Laws.{bases_next}
 use Rattle.gathering.proofs.winners.bases.Goals as goal
 

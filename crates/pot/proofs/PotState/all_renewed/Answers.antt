@@ -1,9 +1,7 @@
 -- The invariant: the years passed are renewed.
 use borrow.Author.Rules.{rules}
 use native.Mathlib.Omega.{arith}
-use Prim.Native.Nat.{◌≤◌, ◌-◌}
-use mathlib.Core.Path.{◌≡◌}
-use Rattle.arrays.proofs.Laws.{done}
+use Prim.Native.Nat.{◌-◌}
 use Rattle.pot.specs.Marks.{renewed_to}
 use Rattle.pot.proofs.Sums.{renewed_next}
 use Rattle.pot.proofs.PotState.all_renewed.Goals as goal

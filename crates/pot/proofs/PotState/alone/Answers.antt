@@ -1,7 +1,5 @@
 -- `pot::PotState::alone` meets its contract.
-use borrow.Author.Rules.{rules}
-use native.Mathlib.Omega.{arith}
-use Rattle.pot.proofs.Laws.{year_ok, others_turned, alone_hung, alone_shut}
+use Rattle.pot.proofs.Laws.{others_turned, alone_hung, alone_shut}
 use Rattle.pot.proofs.PotState.alone.Goals as goal
 
 pub follows-requires : goal.follows-requires

@@ -1,13 +1,11 @@
 -- The invariant: `l` has seen the live bids passed.
 use borrow.Author.Rules.{rules}
 use native.Mathlib.Omega.{arith}
-use Prim.Native.Nat.{◌≤◌, ◌-◌}
-use mathlib.Core.Path.{◌≡◌, ◌∙◌}
-use mathlib.Core.Logic.{⊎_elim}
-use Rattle.rules.specs.Lists.{sift}
+use Prim.Native.Nat.{◌-◌}
+use mathlib.Core.Path.{◌∙◌}
 use Rattle.sheet.specs.Sheet.{entrants}
 use Rattle.sheet.proofs.Entrants.{entrant_small, entrants_few}
-use Rattle.pot.specs.Marks.{live_of, look_of}
+use Rattle.pot.specs.Marks.{look_of}
 use Rattle.pot.proofs.Laws.{app_ok, year_ok, live_is}
 use Rattle.pot.proofs.Seen.{pass_hit, pass_miss, pass_few, pass_looked}
 use Rattle.pot.proofs.PotState.look.Goals as goal

@@ -1,6 +1,4 @@
 -- `pot::PotState::renewed` meets its contract.
-use borrow.Author.Rules.{rules}
-use Rattle.sheet.proofs.Columns.{columns_few}
 use Rattle.pot.proofs.Sums.{renewed_is}
 use Rattle.pot.proofs.PotState.renewed.Goals as goal
 

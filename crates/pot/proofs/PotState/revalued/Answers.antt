@@ -1,5 +1,4 @@
 -- `pot::PotState::revalued` meets its contract.
-use borrow.Author.Rules.{rules}
 use Rattle.sheet.proofs.Columns.{columns_few}
 use Rattle.pot.proofs.Sums.{parted_renewed, sum_most, revalued_is}
 use Rattle.pot.proofs.PotState.revalued.Goals as goal

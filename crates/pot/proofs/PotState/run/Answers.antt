@@ -1,10 +1,7 @@
 -- The invariant: the state stands for a trace from which the auction runs on, no tie was too wide, `l` has seen the state, and its sums are right.
 use native.Mathlib.Omega.{arith}
 use mathlib.Core.Bool.{false}
-use mathlib.Core.Path.{◌≡◌}
-use Rattle.sheet.specs.Sheet.{pot_in}
-use Rattle.pot.specs.Marks.{Looked, Summed}
-use Rattle.pot.proofs.Runs.{Going, start, start_narrow, unlooked, run_others, run_less, run_again, run_wide, run_ends}
+use Rattle.pot.proofs.Runs.{start, start_narrow, run_others, run_less, run_again, run_wide, run_ends}
 use Rattle.pot.proofs.PotState.run.Goals as goal
 
 pub look-seen-requires : goal.look-seen-requires

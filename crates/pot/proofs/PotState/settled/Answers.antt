@@ -1,5 +1,4 @@
 -- `pot::PotState::settled` meets its contract.
-use borrow.Author.Rules.{rules}
 use Rattle.pot.proofs.Laws.{settled_shut, settled_none}
 use Rattle.pot.proofs.PotState.settled.Goals as goal
 

@@ -1,5 +1,4 @@
 -- `pot::PotState::several` meets its contract.
-use borrow.Author.Rules.{rules}
 use mathlib.Core.Path.{◌∙◌}
 use Rattle.sheet.proofs.Columns.{columns_few}
 use Rattle.pot.proofs.Sums.{summed_settled, summed_trial, summed_tie}

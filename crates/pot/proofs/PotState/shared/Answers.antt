@@ -1,5 +1,4 @@
 -- `pot::PotState::shared` meets its contract.
-use borrow.Author.Rules.{rules}
 use Rattle.pot.proofs.Laws.{shared_is}
 use Rattle.pot.proofs.PotState.shared.Goals as goal
 

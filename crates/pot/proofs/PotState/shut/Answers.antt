@@ -1,5 +1,4 @@
 -- `pot::PotState::shut` meets its contract.
-use borrow.Author.Rules.{rules}
 use mathlib.Core.Path.{refl}
 use Rattle.pot.specs.Marks.{shut_of}
 use Rattle.pot.proofs.PotState.shut.Goals as goal

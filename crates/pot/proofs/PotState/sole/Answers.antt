@@ -1,5 +1,4 @@
 -- `pot::PotState::sole` meets its contract.
-use borrow.Author.Rules.{rules}
 use Rattle.sheet.proofs.Columns.{columns_few}
 use Rattle.pot.proofs.Seen.{sole_small, sole_fresh}
 use Rattle.pot.proofs.Sums.{summed_settled, summed_one, summed_alone}

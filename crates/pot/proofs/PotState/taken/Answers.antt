@@ -1,12 +1,10 @@
 -- The invariant: each place passed holds its test.
 use borrow.Author.Rules.{rules}
 use native.Mathlib.Omega.{arith}
-use Prim.Native.Nat.{◌≤◌, ◌-◌}
-use mathlib.Core.Path.{◌≡◌}
-use Rattle.arrays.proofs.Laws.{done, fill_next}
-use Rattle.arrays.specs.Sets.{fill, none, built}
-use Rattle.pot.specs.Marks.{at_of}
-use Rattle.pot.proofs.Laws.{app_ok, year_ok, at_is}
+use Prim.Native.Nat.{◌-◌}
+use Rattle.arrays.proofs.Laws.{fill_next}
+use Rattle.arrays.specs.Sets.{fill, none}
+use Rattle.pot.proofs.Laws.{at_is}
 use Rattle.pot.proofs.PotState.taken.Goals as goal
 
 pub loop-k-init : goal.loop-k-init

@@ -1,9 +1,6 @@
 -- `pot::PotState::tie` meets its contract.
-use borrow.Author.Rules.{rules}
 use Rattle.combinations.proofs.Lists.{base_ok, tied_gathered}
-use Rattle.sheet.proofs.Columns.{columns_few}
 use Rattle.pot.proofs.Laws.{tie_wide, tie_shared}
-use Rattle.pot.proofs.Sums.{shared_size}
 use Rattle.pot.proofs.PotState.tie.Goals as goal
 
 pub rest-rest-requires : goal.rest-rest-requires

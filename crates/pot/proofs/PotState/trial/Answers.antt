@@ -1,7 +1,5 @@
 -- `pot::PotState::trial` meets its contract.
-use borrow.Author.Rules.{rules}
-use Rattle.sheet.proofs.Columns.{columns_few}
-use Rattle.pot.proofs.Sums.{win_size, trial_is}
+use Rattle.pot.proofs.Sums.{trial_is}
 use Rattle.pot.proofs.PotState.trial.Goals as goal
 
 pub returns : goal.returns

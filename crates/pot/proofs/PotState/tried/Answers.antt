@@ -1,8 +1,5 @@
 -- `pot::PotState::tried` meets its contract.
-use borrow.Author.Rules.{rules}
-use native.Mathlib.Omega.{arith}
 use Rattle.sheet.proofs.Columns.{columns_few}
-use Rattle.pot.proofs.Laws.{year_ok}
 use Rattle.pot.proofs.Sums.{parted_win, sum_most, tried_is}
 use Rattle.pot.proofs.PotState.tried.Goals as goal
 

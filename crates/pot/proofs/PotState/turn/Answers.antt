@@ -1,6 +1,5 @@
 -- `pot::PotState::turn` meets its contract.
-use borrow.Author.Rules.{rules}
-use Rattle.pot.proofs.Laws.{year_ok, turn_is}
+use Rattle.pot.proofs.Laws.{turn_is}
 use Rattle.pot.proofs.PotState.turn.Goals as goal
 
 pub returns : goal.returns

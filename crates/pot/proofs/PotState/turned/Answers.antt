@@ -1,5 +1,4 @@
 -- `pot::PotState::turned` meets its contract.
-use borrow.Author.Rules.{rules}
 use mathlib.Core.Path.{refl}
 use Rattle.pot.specs.Marks.{turned_of}
 use Rattle.pot.proofs.PotState.turned.Goals as goal

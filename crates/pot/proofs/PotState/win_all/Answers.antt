@@ -1,10 +1,8 @@
 -- The invariant: those of the set that were passed are marked.
 use borrow.Author.Rules.{rules}
 use native.Mathlib.Omega.{arith}
-use Prim.Native.Nat.{◌≤◌, ◌-◌}
-use mathlib.Core.Path.{◌≡◌, ◌∙◌}
-use mathlib.Core.Logic.{⊎_elim}
-use Rattle.arrays.proofs.Laws.{done_by}
+use Prim.Native.Nat.{◌-◌}
+use mathlib.Core.Path.{◌∙◌}
 use Rattle.arrays.specs.Sets.{members}
 use Rattle.pot.specs.Marks.{win_all}
 use Rattle.pot.proofs.Laws.{win_all_hit, win_all_miss}

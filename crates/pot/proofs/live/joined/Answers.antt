@@ -1,5 +1,4 @@
 -- `pot::live::joined` meets its contract.
-use borrow.Author.Rules.{rules}
 use Rattle.pot.proofs.Seen.{joined_higher, joined_lower, joined_equal}
 use Rattle.pot.proofs.live.joined.Goals as goal
 

@@ -1,13 +1,9 @@
 -- The invariant: the bids that were passed have their first marks.
-use borrow.Author.Rules.{rules}
-use native.Mathlib.Omega.{arith}
 use Prim.Native.Nat.{◌≤◌, ◌-◌}
-use mathlib.Core.Path.{◌≡◌, ◌∙◌, ap}
+use mathlib.Core.Path.{◌≡◌}
 use Rattle.arrays.specs.Sets.{fill}
-use Rattle.arrays.proofs.Laws.{fill_next}
 use Rattle.sheet.specs.Sheet.{in_auction}
 use Rattle.pot.specs.Marks.{first_mark, no_marks}
-use Rattle.pot.proofs.Laws.{started_done}
 use Rattle.pot.proofs.start.started.Given as goal
 
 abbrev pub invariant-loop-k : goal.invariant-loop-k

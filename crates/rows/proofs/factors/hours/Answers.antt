@@ -1,5 +1,4 @@
 -- `rows::factors::hours` meets its contract, by the three cases of its definition.
-use borrow.Author.Rules.{rules}
 use native.Mathlib.Omega.{arith}
 use Rattle.rows.proofs.Laws.{hours_before, hours_first, hours_later}
 use Rattle.rows.proofs.factors.hours.Goals as goal

@@ -1,8 +1,5 @@
 -- `search::kept::rise` meets its contract.
-use native.Mathlib.Omega.{arith}
 use mathlib.Core.Path.{refl}
-use Rattle.branches.proofs.Best.{lasting}
-use Rattle.branches.proofs.Over.{passed_left, passed_others}
 use Rattle.search.proofs.kept.rise.Goals as goal
 
 pub passed-three-requires : goal.passed-three-requires

@@ -1,8 +1,6 @@
 -- The invariant: the stretches passed end with too few.
-use native.Mathlib.Omega.{arith}
 use Prim.Native.Nat.{ℕ, ◌+◌, ◌-◌, ◌≤◌, ◌<◌}
 use lib.ListN.{get_or}
-use Rattle.arrays.proofs.Laws.{below_more}
 use Rattle.search.specs.Search.{stretches}
 use Rattle.search.proofs.kept.stretch_of.Given as goal
 

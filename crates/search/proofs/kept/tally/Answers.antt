@@ -1,11 +1,10 @@
 -- The invariant: of the stretches passed those kept are counted.
 use native.Mathlib.Omega.{arith}
-use Prim.Native.Nat.{◌+◌, ◌-◌, ◌^◌, ◌≤◌}
-use mathlib.Core.Path.{◌≡◌, sym, ap, ◌∙◌}
-use Rattle.ties.specs.Ties.{kept_by, listed_of}
+use Prim.Native.Nat.{◌+◌, ◌-◌, ◌^◌}
+use mathlib.Core.Path.{sym, ap, ◌∙◌}
+use Rattle.ties.specs.Ties.{listed_of}
 use Rattle.ties.proofs.Laws.{listed_none, power_low}
-use Rattle.search.specs.Search.{stretches, stretch_end, Tallied}
-use Rattle.search.proofs.Ways.{stretch_start, stretch_up, stretch_same, tally_none, tally_more, tally_all}
+use Rattle.search.proofs.Ways.{stretch_start, stretch_up, stretch_same, tally_none, tally_more}
 use Rattle.search.proofs.kept.tally.Goals as goal
 
 pub loop-k-init : goal.loop-k-init

@@ -1,11 +1,8 @@
 -- The invariant: of the stretches passed those kept are counted.
-use native.Mathlib.Omega.{arith}
-use Prim.Native.Nat.{◌+◌, ◌-◌, ◌^◌, ◌≤◌}
-use mathlib.Core.Path.{◌≡◌, sym, ap, ◌∙◌}
+use Prim.Native.Nat.{◌-◌, ◌^◌, ◌≤◌}
+use mathlib.Core.Path.{◌≡◌}
 use Rattle.ties.specs.Ties.{kept_by, listed_of}
-use Rattle.ties.proofs.Laws.{listed_none, power_low}
 use Rattle.search.specs.Search.{stretches, stretch_end, Tallied}
-use Rattle.search.proofs.Ways.{stretch_start, stretch_up, stretch_same, tally_none, tally_more, tally_all}
 use Rattle.search.proofs.kept.tally.Given as goal
 
 abbrev pub invariant-loop-k : goal.invariant-loop-k

@@ -1,8 +1,5 @@
 -- `ties::alone::alone_total` meets its contract.
-use borrow.Author.Rules.{rules}
 use native.Mathlib.Omega.{arith}
-use Prim.Native.Nat.{◌+◌, ◌*◌}
-use Rattle.sheet.specs.Sheet.{columns}
 use Rattle.sheet.proofs.Columns.{columns_few}
 use Rattle.ties.proofs.Laws.{pow_at, alone_is}
 use Rattle.ties.proofs.alone.alone_total.Goals as goal

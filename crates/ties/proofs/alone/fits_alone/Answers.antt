@@ -1,11 +1,8 @@
 -- The invariant: `ok` says whether every column passed fits.
 use borrow.Author.Rules.{rules}
 use native.Mathlib.Omega.{arith}
-use Prim.Native.Nat.{◌≤◌, ◌-◌}
-use mathlib.Core.Path.{◌≡◌, ◌∙◌}
-use mathlib.Core.Logic.{⊎_elim}
-use Rattle.arrays.proofs.Laws.{done}
-use Rattle.sheet.proofs.Columns.{columns_few}
+use Prim.Native.Nat.{◌-◌}
+use mathlib.Core.Path.{◌∙◌}
 use Rattle.totals.specs.Totals.{fits_to}
 use Rattle.totals.proofs.Laws.{fits_not, fits_more}
 use Rattle.ties.specs.Ties.{alone_total}

@@ -1,11 +1,9 @@
 -- The invariant: each place passed holds its test.
 use borrow.Author.Rules.{rules}
 use native.Mathlib.Omega.{arith}
-use Prim.Native.Nat.{◌≤◌, ◌-◌}
-use mathlib.Core.Path.{◌≡◌}
-use Rattle.arrays.proofs.Laws.{done, fill_next}
-use Rattle.arrays.specs.Sets.{fill, none, built}
-use Rattle.ties.specs.Ties.{keeps_of}
+use Prim.Native.Nat.{◌-◌}
+use Rattle.arrays.proofs.Laws.{fill_next}
+use Rattle.arrays.specs.Sets.{fill, none}
 use Rattle.ties.proofs.Laws.{keeps_is}
 use Rattle.ties.proofs.alone.rest.Goals as goal
 

@@ -1,14 +1,11 @@
 -- The invariant: every column passed fits.
 use borrow.Author.Rules.{rules}
 use native.Mathlib.Omega.{arith}
-use Prim.Native.Nat.{◌≤◌, ◌-◌}
+use Prim.Native.Nat.{◌-◌}
 use mathlib.Core.Bool.{true}
-use mathlib.Core.Path.{◌≡◌}
 use Rattle.arrays.proofs.Laws.{done}
-use Rattle.sheet.proofs.Columns.{columns_few}
 use Rattle.totals.specs.Totals.{fits_to}
 use Rattle.totals.proofs.Laws.{fits_more}
-use Rattle.combinations.specs.Combinations.{joint_of}
 use Rattle.ties.proofs.Laws.{fits_stops, ok_is}
 use Rattle.ties.proofs.best.fitting.Goals as goal
 

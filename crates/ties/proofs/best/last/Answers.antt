@@ -1,5 +1,4 @@
 -- `ties::best::last` meets its contract.
-use native.Mathlib.Omega.{arith}
 use Rattle.ties.proofs.Laws.{last_is}
 use Rattle.ties.proofs.best.last.Goals as goal
 

@@ -1,11 +1,7 @@
 -- The invariant: `b` is the best of the combinations passed.
-use borrow.Author.Rules.{rules}
-use native.Mathlib.Omega.{arith}
 use Prim.Native.Nat.{◌≤◌, ◌-◌}
-use mathlib.Core.Path.{◌≡◌, ◌∙◌}
-use mathlib.Core.Logic.{⊎_elim}
+use mathlib.Core.Path.{◌≡◌}
 use Rattle.ties.specs.Ties.{ok_by, last_by, best_of}
-use Rattle.ties.proofs.Laws.{best_none, best_more, best_same, ends, mask_low}
 use Rattle.ties.proofs.best.top.Given as goal
 
 abbrev pub invariant-loop-mask : goal.invariant-loop-mask

@@ -1,5 +1,4 @@
 -- `ties::listing::addable` meets its contract.
-use native.Mathlib.Omega.{arith}
 use Rattle.ties.proofs.Laws.{addable_in, addable_out, add_low}
 use Rattle.ties.proofs.listing.addable.Goals as goal
 

@@ -1,5 +1,4 @@
 -- `ties::listing::counted` meets its contract.
-use borrow.Author.Rules.{rules}
 use Rattle.ties.proofs.Laws.{counted_at, counted_past}
 use Rattle.ties.proofs.listing.counted.Goals as goal
 

@@ -1,11 +1,9 @@
 -- The invariant: none of the bids passed can be added.
 use borrow.Author.Rules.{rules}
 use native.Mathlib.Omega.{arith}
-use Prim.Native.Nat.{◌≤◌, ◌-◌}
+use Prim.Native.Nat.{◌-◌}
 use mathlib.Core.Bool.{true}
-use mathlib.Core.Path.{◌≡◌}
-use Rattle.arrays.proofs.Laws.{done}
-use Rattle.ties.specs.Ties.{ok_by, full_to}
+use Rattle.ties.specs.Ties.{full_to}
 use Rattle.ties.proofs.Laws.{full_more, full_stops}
 use Rattle.ties.proofs.listing.full.Goals as goal
 

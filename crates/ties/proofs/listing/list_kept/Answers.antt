@@ -1,10 +1,8 @@
 -- The invariant: `list` has counted those kept of the combinations passed.
 use native.Mathlib.Omega.{arith}
-use Prim.Native.Nat.{◌≤◌, ◌-◌}
-use mathlib.Core.Path.{◌≡◌, ◌∙◌}
-use mathlib.Core.Logic.{⊎_elim}
-use Rattle.ties.specs.Ties.{kept_by, listed_of}
-use Rattle.ties.proofs.Laws.{ends, listed_none, listed_few, listed_more, listed_same, mask_low}
+use Prim.Native.Nat.{◌-◌}
+use mathlib.Core.Path.{◌∙◌}
+use Rattle.ties.proofs.Laws.{listed_none, listed_few, listed_more, listed_same, mask_low}
 use Rattle.ties.proofs.listing.list_kept.Goals as goal
 use Rattle.ties.proofs.listing.list_kept.Goals.{else-kept, then-kept}
 

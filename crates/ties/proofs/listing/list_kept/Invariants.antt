@@ -1,10 +1,7 @@
 -- The invariant: `list` has counted those kept of the combinations passed.
-use native.Mathlib.Omega.{arith}
 use Prim.Native.Nat.{◌≤◌, ◌-◌}
-use mathlib.Core.Path.{◌≡◌, ◌∙◌}
-use mathlib.Core.Logic.{⊎_elim}
+use mathlib.Core.Path.{◌≡◌}
 use Rattle.ties.specs.Ties.{kept_by, listed_of}
-use Rattle.ties.proofs.Laws.{ends, listed_none, listed_few, listed_more, listed_same, mask_low}
 use Rattle.ties.proofs.listing.list_kept.Given as goal
 
 abbrev pub invariant-loop-mask : goal.invariant-loop-mask

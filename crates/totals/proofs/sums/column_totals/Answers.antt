@@ -1,11 +1,10 @@
 -- The invariant: the places of the columns passed hold their totals.
 use borrow.Author.Rules.{rules}
 use native.Mathlib.Omega.{arith}
-use Prim.Native.Nat.{◌≤◌, ◌-◌}
-use mathlib.Core.Path.{◌≡◌}
-use Rattle.arrays.proofs.Laws.{done, fill_next}
+use Prim.Native.Nat.{◌-◌}
+use Rattle.arrays.proofs.Laws.{fill_next}
 use Rattle.arrays.specs.Sets.{fill}
-use Rattle.totals.specs.Totals.{no_row, filled, column_sum}
+use Rattle.totals.specs.Totals.{no_row}
 use Rattle.totals.proofs.Laws.{column_is, column_low}
 use Rattle.totals.proofs.sums.column_totals.Goals as goal
 

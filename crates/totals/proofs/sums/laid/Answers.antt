@@ -1,12 +1,10 @@
 -- The invariant: the places of the columns passed are written.
 use borrow.Author.Rules.{rules}
 use native.Mathlib.Omega.{arith}
-use Prim.Native.Nat.{◌*◌, ◌≤◌, ◌-◌}
-use mathlib.Core.Path.{◌≡◌, refl}
-use lib.ListN.{get_or}
-use Rattle.arrays.proofs.Laws.{done, place_next}
+use Prim.Native.Nat.{◌-◌}
+use mathlib.Core.Path.{refl}
+use Rattle.arrays.proofs.Laws.{place_next}
 use Rattle.arrays.specs.Sets.{placed}
-use Rattle.sheet.specs.Sheet.{columns}
 use Rattle.totals.proofs.sums.laid.Goals as goal
 
 pub loop-c-init : goal.loop-c-init

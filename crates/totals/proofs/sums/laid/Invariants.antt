@@ -1,10 +1,7 @@
 -- The invariant: the places of the columns passed are written.
-use borrow.Author.Rules.{rules}
-use native.Mathlib.Omega.{arith}
 use Prim.Native.Nat.{◌*◌, ◌≤◌, ◌-◌}
-use mathlib.Core.Path.{◌≡◌, refl}
+use mathlib.Core.Path.{◌≡◌}
 use lib.ListN.{get_or}
-use Rattle.arrays.proofs.Laws.{done, place_next}
 use Rattle.arrays.specs.Sets.{placed}
 use Rattle.sheet.specs.Sheet.{columns}
 use Rattle.totals.proofs.sums.laid.Given as goal

@@ -1,8 +1,6 @@
 -- `value::wide::Wide::over` meets its contract: the lower column alone is divided.
-use borrow.Author.Rules.{rules}
 use mathlib.Core.Path.{refl, ap, ◌∙◌}
 use Prim.Native.Nat.{ℕ, ◌+◌, ◌*◌, ◌/◌}
-use native.Mathlib.Omega.{arith}
 use Rattle.value.specs.Wide.{lower_alone, no_more}
 use Rattle.value.proofs.wide.Wide.over.Goals as goal
 
