@@ -23,8 +23,8 @@ abbrev pub bid_shown : b.Bid → Bid
 bid_shown x = record { app = x.application; year = x.year; days = x.days; capacity = x.capacity; price = x.price }
 
 -- the sections with these counts and places
-abbrev pub laid_out : (years deliveries gained pots technologies applications bids pots_at_lem technologies-at applications-at bids_at_lem : ℕ) → Sections
-laid_out years deliveries gained pots technologies applications bids pots_at_lem technologies-at applications-at bids_at_lem = record {
+abbrev pub laid_out : (years deliveries gained pots technologies applications bids pots_from technologies_from applications_from bids_from : ℕ) → Sections
+laid_out years deliveries gained pots technologies applications bids pots_from technologies_from applications_from bids_from = record {
   years = years;
   deliveries = deliveries;
   gained = gained;
@@ -32,10 +32,10 @@ laid_out years deliveries gained pots technologies applications bids pots_at_lem
   technologies = technologies;
   applications = applications;
   bids = bids;
-  pots_at = pots_at_lem;
-  technologies_at = technologies-at;
-  applications_at = applications-at;
-  bids_at = bids_at_lem;
+  pots_at = pots_from;
+  technologies_at = technologies_from;
+  applications_at = applications_from;
+  bids_at = bids_from;
 }
 
 -- "Five sections stand in this order, each after its 2-byte count": the part of a file that each section's records occupy
