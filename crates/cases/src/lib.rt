@@ -32,7 +32,8 @@ pub fn blank() -> [u8; ROOM]
 // Reads until `buf` is full or the input ends, and answers how many bytes it put at the start of `buf`. On an empty `buf` it makes no call. Where a read fails,
 // what the reads before it gave stands at the start of `buf`, and the reader stands after it.
 pub fn read_full<R: Read>(reader: &mut R, buf: &mut [u8]) -> io::Result<usize>
-    ensures { ReadsAtMost result buf.new }
+    ensures at_most { ReadsAtMost result buf.new }
+    ensures as_long { length buf.new ≡ length buf.old }
 {
     let mut done: usize = 0;
     while done < buf.len() {
@@ -49,7 +50,8 @@ pub fn read_full<R: Read>(reader: &mut R, buf: &mut [u8]) -> io::Result<usize>
 // in `file`.
 pub fn next<R: Read>(reader: &mut R, file: &mut [u8]) -> io::Result<Got>
     requires { room ≡ length file.old }
-    ensures { IfOk result Within }
+    ensures within { IfOk result Within }
+    ensures as_long { length file.new ≡ length file.old }
 {
     let mut head = [0u8; names::COUNT_WIDTH];
     let got = read_full(reader, &mut head)?;
