@@ -1,7 +1,7 @@
 -- The combinations that a tie keeps and draws among (02, CR 6): there is always one, the choice of document 01 is one of them, each is taken by some drawn
 -- number, and whichever is taken fits and leaves no other tied bid that could be added. Assumes nothing.
 use Prim.Native.Nat.{ℕ, zero, suc, ◌%◌, ◌^◌, ◌≤◌, ◌<◌}
-use Rattle.std.specs.Prelude.{◌≡◌, refl, Bool, true, false, ◌&&◌, ◌||◌, ◌⊎◌, eqb, ltb}
+use Rattle.std.specs.Prelude.{◌≡◌, refl, Bool, true, false, ◌||◌, ◌⊎◌, eqb, ltb}
 use Rattle.std.proofs.Common.{sym, ◌∙◌, inl, inr, arith, mod-lt, mod-eq_of_lt}
 use Rattle.std.proofs.Math.Path.{ap, subst}
 use Rattle.std.proofs.Math.Bool.{not}

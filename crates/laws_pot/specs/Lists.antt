@@ -2,7 +2,7 @@
 --   split b            a test is true or false, with the equation: `⊎_elim (λ t. ..) (λ f. ..) (split b)` is a case split inside a term
 --   In k l             k stands in l: a data type, so that k and l are found where a proof of it is given (a type that computes would not show them)
 --   memb, keep, sift   membership, and the members that pass a test, as functions
-use Rattle.std.specs.Prelude.{ℕ, zero, suc, ◌+◌, ◌≤◌, ◌<◌, ◌≡◌, refl, Bool, true, false, not, ◌&&◌, ◌||◌, ◌⊎◌, List, [], ◌∷◌, ◌++◌, map, length, eqb}
+use Rattle.std.specs.Prelude.{ℕ, zero, suc, ◌≤◌, ◌<◌, ◌≡◌, refl, Bool, true, false, not, ◌&&◌, ◌||◌, ◌⊎◌, List, [], ◌∷◌, ◌++◌, map, length, eqb}
 use Rattle.std.proofs.Common.{sym, ap, ◌∙◌, true≢false, inl, inr, ⊎_elim, arith, eqb-true, eq-eqb}
 use Rattle.rules.specs.Lists.{pick, memb, keep, sift, below}
 use Rattle.std.proofs.lemmas.Bool.{eqb-false}

@@ -11,7 +11,7 @@ use mathlib.Core.List.{List, [], ◌∷◌, ◌++◌, append_assoc}
 use native.Mathlib.Omega.{arith}
 use borrow.Author.Tests.{eqb-true, eq-eqb, ne_eqb}
 use Rattle.rules.specs.Lists.{pick, memb}
-use Rattle.rules.specs.Pot.{Pot, Event, Trace, winners, downs, seen, closed, hanging, value, price_from, clearing, tally, summed, total, summed_capacity, fits}
+use Rattle.rules.specs.Pot.{Pot, Event, Trace, winners, seen, closed, hanging, value, price_from, clearing, tally, summed, total, summed_capacity, fits}
 use Rattle.rules.specs.Pot.{live, taken, won, down, ended_wide, follows, alone, lost, look, run, onward, auction}
 use Rattle.laws_pot.specs.Lists.{case, clash, and_true, In, here, memb_in, in_memb, in_none, in_one, in_tail, in_left, in_right, in_cases, memb_parts}
 use Rattle.laws_pot.specs.Lists.{memb_join}

@@ -1,1 +1,2 @@
 // Theorems about the auction of one pot, by the definitions of document 01 alone: see specs/. There is no code here.
+#![tactic(auto)]

@@ -1,7 +1,7 @@
 -- The worked cases of document 01, restated in pence (02, CR 11), from the file's bytes to the result's, as rows under a single theorem; and rows of our own
 -- for what they leave open. Assumes nothing.
 use Rattle.std.specs.Prelude.{ℕ, ◌+◌, ◌*◌, ◌/◌, ◌^◌, ◌≡◌, refl, Bool, true, false, List, [], ◌∷◌, ◌++◌, ltb, length, replicate}
-use Rattle.std.proofs.Math.Option.{Option, none}
+use Rattle.std.proofs.Math.Option.{none}
 use Rattle.std.proofs.Math.Decide.{dec_le, dec_lt, ℕ_discrete}
 use Rattle.rules.specs.Names.{no_cap, no_price}
 use Rattle.rules.specs.Lists.{pick, below, given, both, when, never, one_more, every, how_many, sum}

@@ -1,6 +1,8 @@
 // The sheet of a pot: its limits, its drawn number, its bids, its applications' administrative prices, the rows of all bids, and the capacities and yearly
 // figures of bids and applications, as numbers in one lent array, which the first test and the auction read; and its size. specs/Sheet.antt says what stands
 // where.
+#![tactic(auto)]
+
 ghost use Rattle.std.specs.Prelude.{◌≡◌, ◌<◌};
 ghost use Rattle.rules.specs.Names.{most_bids, most_apps, most_years};
 ghost use Rattle.sheet.specs.Sheet.{columns, places, limit_at, drawn_in, entrant_at, admin_at, in_auction, in_test, row_app, row_year, row_price, row_draw};
