@@ -1,4 +1,4 @@
--- Files on standard input. Assumes nothing.
+-- Files from a reader. Assumes nothing.
 use Rattle.std.specs.Prelude.{ℕ, ◌≤◌}
 use Rattle.cases.specs.declared.Got.{Got}
 use Rattle.cases.specs.declared.Got.TheVariants.{File, End}

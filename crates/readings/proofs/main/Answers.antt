@@ -5,7 +5,7 @@ use Rattle.cases.proofs.Rooms.{in_room}
 use Rattle.readings.proofs.main.Goals as goal
 
 pub slice_bounds-file-end : goal.slice_bounds-file-end
-slice_bounds-file-end c = omega (arith, in_room c.in_ok-got.ensures c.in-File.is)
+slice_bounds-file-end c = omega (arith, in_room c.in_ok-got.ensures.within c.in-File.is)
 
 pub slice_bounds-read-end : goal.slice_bounds-read-end
-slice_bounds-read-end c = simp length-take (omega (arith, in_room c.in_ok-got.ensures c.in-File.is))
+slice_bounds-read-end c = simp length-take (omega (arith, in_room c.in_ok-got.ensures.within c.in-File.is))
