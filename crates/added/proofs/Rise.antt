@@ -17,7 +17,6 @@ use Rattle.laws_pot.specs.Lists.{case, clash, or_left, or_right, or_cases}
 use Rattle.laws_pot.specs.Bits.{has_suc, has_none, add_lt, add_adds, add_other}
 use Rattle.sheet.specs.declared.Size.{Size}
 use Rattle.sheet.specs.Sheet.{columns}
-use Rattle.arrays.proofs.Laws.{below_more}
 use Rattle.combinations.specs.Combinations.{year_sets, combinations, part_places, touch_of, touched_of, combined_of, table_by, joint_of, union_of}
 use Rattle.combinations.proofs.Parts.{touched_low, joint_total, sum_at}
 use Rattle.ties.specs.Ties.{ok_by, last_by, Within, Cuttable}
@@ -64,11 +63,6 @@ climbs f (suc n) h t u a b w =
         let c = eqb-false (u / 1 % 2) 1 x in
         let e : t / 2 * 2 + u % 2 ≡ t = omega arith in
         omega (arith, ap f e)))
-
-pub busy_more : (own : List ℕ) (last : ℕ) {n : ℕ} → ((j : ℕ) → j < n → 0 < last_worth own last j) → (get_or own (n * columns + last) 0 ≡ 0 → ⊥)
-    → (j : ℕ) → j < n + 1 → 0 < last_worth own last j
-unfolding last_worth
-busy_more own last h e = below_more (λ j. 0 < get_or own (j * columns + last) 0) h (omega (arith, e))
 
 -- ---- the test of the winners' totals
 pub more_years : (t d : ℕ) {p : ℕ} {b : Bool} → b ≡ has t d → b ≡ false → t < year_sets → d < most_deliveries → p ≡ 2 ^ d → t + p < year_sets

@@ -1,5 +1,5 @@
 -- What the functions of `added` compute and need: bids added to a combination. Assumes nothing.
-use Rattle.std.specs.Prelude.{ℕ, ◌+◌, ◌-◌, ◌*◌, ◌/◌, ◌%◌, ◌^◌, ◌≤◌, ◌<◌, ◌≡◌, Bool, true, false, ◌⊎◌, List, get_or}
+use Rattle.std.specs.Prelude.{ℕ, ◌+◌, ◌-◌, ◌*◌, ◌/◌, ◌%◌, ◌^◌, ◌≤◌, ◌<◌, ◌≡◌, ⊤, Bool, true, false, List, get_or, Option, None, Some}
 use Rattle.rules.specs.Names.{most_deliveries, widest_tie}
 use Rattle.rules.specs.Pot.{has}
 use Rattle.sheet.specs.declared.Size.{Size}
@@ -70,19 +70,18 @@ pub record Narrows (of : Size) (table : List ℕ) (count : ℕ) (r : Narrow) : T
   pub column : r.column < of.columns
   pub least : Least table count r.column r.least
 
--- what is left in a column of the pot; that this is less than the bid at a binary place counts, or no column; and that it cannot be added, or no column and it can
+-- what is left in a column of the pot; that this is less than the bid at a binary place counts, or none; and that it cannot be added, or none and it can
 pub record Roomed (sheet : List ℕ) (of : Size) (table : List ℕ) (m t : ℕ) (r : Room) : Type 0 where
   pub column : r.column < of.columns
   pub is : r.left ≡ left_by sheet table m t r.column
 
-abbrev pub Bars : (sheet : List ℕ) (of : Size) (table : List ℕ) (m t place : ℕ) (r : Room) → Type 0
-Bars sheet of table m t place r =
-    (Roomed sheet of table m t r × (r.left < alone_by table place r.column)) ⊎ (r.column ≡ columns)
+abbrev pub Bars : (sheet : List ℕ) (of : Size) (table : List ℕ) (m t place : ℕ) → Option Room → Type 0
+Bars sheet of table m t place (Some r) = Roomed sheet of table m t r × (r.left < alone_by table place r.column)
+Bars sheet of table m t place None = ⊤
 
-abbrev pub Asks : (sheet : List ℕ) (of : Size) (table : List ℕ) (m t place : ℕ) (r : Room) → Type 0
-Asks sheet of table m t place r =
-    (Roomed sheet of table m t r × (addable_of (ok_by sheet of table) m place ≡ false))
-    ⊎ ((r.column ≡ columns) × (addable_of (ok_by sheet of table) m place ≡ true))
+abbrev pub Asks : (sheet : List ℕ) (of : Size) (table : List ℕ) (m t place : ℕ) → Option Room → Type 0
+Asks sheet of table m t place (Some r) = Roomed sheet of table m t r × (addable_of (ok_by sheet of table) m place ≡ false)
+Asks sheet of table m t place None = addable_of (ok_by sheet of table) m place ≡ true
 
 -- a bid at a binary place below n can be added to the combination m; and that none can be, or one
 pub record Addable (ok : ℕ → Bool) (m n : ℕ) : Type 0 where

@@ -20,25 +20,14 @@ fn rises(base: &Base, i: usize) -> bool
     let c = i % COLUMNS;
     let d = (i / COLUMNS % MOST_DELIVERIES) as u32;
     let t = i / COLUMNS / MOST_DELIVERIES;
-    if member(t as u32, d) {
-        return true;
-    }
-    let more = t + power(d) as usize;
-    base[t * COLUMNS + c] <= base[more * COLUMNS + c]
+    member(t as u32, d) || base[t * COLUMNS + c] <= base[(t + power(d) as usize) * COLUMNS + c]
 }
 
 // The same of all.
 fn rising(base: &Base) -> bool
     ensures { result ≡ true → Rising base.now }
 {
-    let mut i: usize = 0;
-    while i < SETS * MOST_DELIVERIES * COLUMNS {
-        if !rises(base, i) {
-            return false;
-        }
-        i += 1;
-    }
-    true
+    (0..SETS * MOST_DELIVERIES * COLUMNS).all(|i| rises(base, i))
 }
 
 // Is a binary place that of a bid?
@@ -46,15 +35,9 @@ fn held(tied: Tied, place: usize) -> bool
     requires { Placed tied }
     ensures { result ≡ true → Held tied place }
 {
-    let count = tied.count;
-    let mut j: usize = 0;
-    while j < count {
-        if tied.ranks[j] as usize == place {
-            return true;
-        }
-        j += 1;
-    }
-    false
+    tied.ranks[..tied.count]
+        .iter()
+        .any(|&rank| rank as usize == place)
 }
 
 // The same of each binary place of the tie.
@@ -62,15 +45,7 @@ fn onto(tied: Tied) -> bool
     requires { Placed tied }
     ensures { result ≡ true → Onto tied }
 {
-    let count = tied.count;
-    let mut place: usize = 0;
-    while place < count {
-        if !held(tied, place) {
-            return false;
-        }
-        place += 1;
-    }
-    true
+    (0..tied.count).all(|place| held(tied, place))
 }
 
 // Does all of it hold?
@@ -78,10 +53,7 @@ pub fn sound(base: &Base, tied: Tied) -> bool
     requires { Placed tied }
     ensures { result ≡ true → Sound base.now tied }
 {
-    if onto(tied) {
-        return rising(base);
-    }
-    false
+    onto(tied) && rising(base)
 }
 
 // Is some bid worth nothing in the last year?
@@ -89,14 +61,6 @@ pub fn idle(of: Size, own: &Owns, tied: Tied) -> bool
     requires { Placed tied × (0 < of.years) × (of.years < columns) }
     ensures { result ≡ false → Busy of own.now tied }
 {
-    let count = tied.count;
     let last = of.years - 1;
-    let mut j: usize = 0;
-    while j < count {
-        if own[j * COLUMNS + last] == 0 {
-            return true;
-        }
-        j += 1;
-    }
-    false
+    (0..tied.count).any(|j| own[j * COLUMNS + last] == 0)
 }

@@ -9,7 +9,7 @@ ghost use Rattle.added.specs.Added.{alone_by, left_by, Adds, Known, Least, Narro
 
 use combinations::places::{PART_PLACES, member, power};
 use combinations::tables::{Table, joint, part_cost, union};
-use sheet::{COLUMNS, Sheet, Size};
+use sheet::Sheet;
 use ties::best::fitting;
 use ties::listing::addable;
 
@@ -38,14 +38,12 @@ fn least(table: &Table, count: u32, c: usize) -> Narrow
 {
     let mut least = alone(table, 0, c);
     let mut first: u32 = 0;
-    let mut place: u32 = 1;
-    while place < count {
+    for place in 1..count {
         let own = alone(table, place, c);
         if own < least {
             least = own;
             first = place;
         }
-        place += 1;
     }
     Narrow {
         column: c,
@@ -55,19 +53,16 @@ fn least(table: &Table, count: u32, c: usize) -> Narrow
 }
 
 // In the first column that all of so many bids together are too much for.
-pub fn narrow_column(sheet: &Sheet, of: Size, table: &Table, count: u32) -> Narrow
-    requires { Searching sheet.now of table.now × (count ≤ widest_tie) }
-    ensures { Narrows of table.now count result }
+pub fn narrow_column(sheet: &Sheet, table: &Table, count: u32) -> Narrow
+    requires { Searching sheet.now.cells.now sheet.now.size table.now × (count ≤ widest_tie) }
+    ensures { Narrows sheet.now.size table.now count result }
 {
     let all = power(count) - 1;
     let years = union(table, all);
-    let columns = of.columns;
-    let mut c: usize = 0;
-    while c < columns {
-        if joint(table, all, years, c) > sheet::limit(sheet, c) {
+    for c in 0..sheet.size.columns {
+        if joint(table, all, years, c) > sheet::limit(sheet.cells, c) {
             return least(table, count, c);
         }
-        c += 1;
     }
     least(table, count, 0)
 }
@@ -82,14 +77,9 @@ pub struct At {
 // What it leaves of the limit of column c.
 fn left(sheet: &Sheet, table: &Table, at: At, c: usize) -> u64
     requires { Joining table.now at.mask at.years × (c < columns) }
-    ensures { result ≡ left_by sheet.now table.now at.mask at.years c }
+    ensures { result ≡ left_by sheet.now.cells.now table.now at.mask at.years c }
 {
-    let total = joint(table, at.mask, at.years, c);
-    let limit = sheet::limit(sheet, c);
-    if total > limit {
-        return 0;
-    }
-    limit - total
+    sheet::limit(sheet.cells, c).saturating_sub(joint(table, at.mask, at.years, c))
 }
 
 // A column, and what the combination leaves of its limit.
@@ -99,51 +89,41 @@ pub struct Room {
     pub left: u64,
 }
 
-// A column that has less left than the bid at a binary place counts in it; where there is none, one past all columns.
-fn bar(sheet: &Sheet, of: Size, table: &Table, at: At, place: u32) -> Room
-    requires { Joining table.now at.mask at.years × (place < widest_tie) × (of.columns ≤ columns) }
-    ensures { Bars sheet.now of table.now at.mask at.years place result }
+// A column that has less left than the bid at a binary place counts in it, if there is one.
+fn bar(sheet: &Sheet, table: &Table, at: At, place: u32) -> Option<Room>
+    requires { Joining table.now at.mask at.years × (place < widest_tie) × (sheet.now.size.columns ≤ columns) }
+    ensures { Bars sheet.now.cells.now sheet.now.size table.now at.mask at.years place result }
 {
-    let columns = of.columns;
-    let mut column: usize = 0;
-    while column < columns {
+    for column in 0..sheet.size.columns {
         let left = left(sheet, table, at, column);
         if alone(table, place, column) > left {
-            return Room { column, left };
+            return Some(Room { column, left });
         }
-        column += 1;
     }
-    Room {
-        column: COLUMNS,
-        left: 0,
-    }
+    None
 }
 
-// The column to be asked first of the next bid, where this one, at a binary place, cannot be added; where it can, one past all columns.
-fn ask(sheet: &Sheet, of: Size, table: &Table, at: At, place: u32, room: Room) -> Room
-    requires { Searching sheet.now of table.now × Adds table.now × Known table.now at.mask at.years × (place < widest_tie) × Roomed sheet.now of table.now at.mask at.years room }
-    ensures { Asks sheet.now of table.now at.mask at.years place result }
+// The column to be asked first of the next bid, where this one, at a binary place, cannot be added; where it can, none.
+fn ask(sheet: &Sheet, table: &Table, at: At, place: u32, room: Room) -> Option<Room>
+    requires { Searching sheet.now.cells.now sheet.now.size table.now × Adds table.now × Known table.now at.mask at.years × (place < widest_tie) × Roomed sheet.now.cells.now sheet.now.size table.now at.mask at.years room }
+    ensures { Asks sheet.now.cells.now sheet.now.size table.now at.mask at.years place result }
 {
-    if member(at.mask, place) {
-        return room;
+    if member(at.mask, place) || alone(table, place, room.column) > room.left {
+        return Some(room);
     }
-    if alone(table, place, room.column) > room.left {
-        return room;
+    if let Some(next) = bar(sheet, table, at, place) {
+        return Some(next);
     }
-    let next = bar(sheet, of, table, at, place);
-    if next.column < COLUMNS {
-        return next;
+    if fitting(sheet, table, at.mask + power(place)) {
+        return None;
     }
-    if fitting(sheet, of, table, at.mask + power(place)) {
-        return next;
-    }
-    room
+    Some(room)
 }
 
 // Can none of so many bids be added?
-pub fn whole(sheet: &Sheet, of: Size, table: &Table, count: u32, narrow: Narrow, mask: u32) -> bool
-    requires { Searching sheet.now of table.now × Adds table.now × (count ≤ widest_tie) × Narrows of table.now count narrow × (mask < combinations) }
-    ensures { Closes (ok_by sheet.now of table.now) mask count result }
+pub fn whole(sheet: &Sheet, table: &Table, count: u32, narrow: Narrow, mask: u32) -> bool
+    requires { Searching sheet.now.cells.now sheet.now.size table.now × Adds table.now × (count ≤ widest_tie) × Narrows sheet.now.size table.now count narrow × (mask < combinations) }
+    ensures { Closes (ok_by sheet.now.cells.now sheet.now.size table.now) mask count result }
 {
     let at = At {
         mask,
@@ -155,19 +135,15 @@ pub fn whole(sheet: &Sheet, of: Size, table: &Table, count: u32, narrow: Narrow,
         return true;
     }
     // the bid that counts least is the likeliest to fit
-    if narrow.place < count {
-        if addable(sheet, of, table, mask, narrow.place) {
-            return false;
-        }
+    if narrow.place < count && addable(sheet, table, mask, narrow.place) {
+        return false;
     }
     let mut room = Room { column, left };
-    let mut place: u32 = 0;
-    while place < count {
-        room = ask(sheet, of, table, at, place, room);
-        if room.column >= COLUMNS {
+    for place in 0..count {
+        let Some(next) = ask(sheet, table, at, place, room) else {
             return false;
-        }
-        place += 1;
+        };
+        room = next;
     }
     true
 }

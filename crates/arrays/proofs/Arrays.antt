@@ -2,15 +2,20 @@
 use Prim.Native.Nat.{ℕ, zero, suc, ◌+◌, ◌≤◌, ◌<◌}
 use mathlib.Core.Path.{◌≡◌, refl, sym, ap, ◌∙◌}
 use mathlib.Core.Bool.{Bool, true, false, ◌||◌}
-use mathlib.Core.List.{List, [], ◌∷◌}
+use mathlib.Core.List.{List, [], ◌∷◌, ◌++◌}
 use native.Mathlib.Nat.{add-suc}
 use native.Mathlib.Numerals.{add-one}
 use native.Mathlib.Omega.{arith}
-use lib.ListN.{length, get_or, set, replicate, length-set}
-use lib.Seq.{get_or-set_same, get_or-set_other}
+use lib.ListN.{length, get_or, set, take, drop, replicate, length-set, length-append}
+use lib.Seq.{get_or-set_same, get_or-set_other, take-suc, drop-cons}
+use Rattle.std.proofs.lemmas.List.{append_assoc, append-nil, take-append-drop, length-take-le, get_or-take, set_at}
+use Rattle.std.proofs.lemmas.Slice.{put_mid-paste}
+use borrow.Rule.Slice.PartMut.{put_mid}
 use native.Mathlib.Decide.{dec_le, dec_lt}
 use lib.Dec.{eqb, ltb}
 use borrow.Author.Tests.{eqb-true, eqb-false, eq-eqb, ne_eqb, lt-ltb, le-ltb}
+use Rattle.std.specs.List.{count_by}
+use Rattle.std.proofs.lemmas.List.Sums.{count_by_more_yes, count_by_more_no}
 use Rattle.rules.specs.Names.{most_bids}
 use Rattle.rules.specs.Lists.{pick, memb, sift, below}
 use Rattle.laws_pot.specs.Lists.{case, clash, memb_in, in_memb, in_sift, sift_in, sift_same, in_below, below_in}
@@ -155,3 +160,50 @@ members_less l n (suc m) h =
     case (eqb n (suc m)) (λ t. rw (eqb-true n (suc m) t) (omega arith))
     (λ f. let r = members_less l n m (let d = eqb-false n (suc m) f in omega arith) in
     case (get_or l m false) (λ t. rw t (omega arith)) (λ u. rw u (omega arith)))
+
+-- as many of the first n places of a set are taken as it has members below n
+pub members_counted : (l : List Bool) (n : ℕ) → n ≤ length l → count_by (λ t. t) (take n l) ≡ length (members l n)
+unfolding members
+members_counted l zero h = refl
+members_counted l (suc n) h =
+    let r = members_counted l n (omega arith) in
+    rw (← add-one n)
+    (case (get_or l n false)
+    (λ t. rw t (count_by_more_yes (λ t. t) l n false (omega arith) t ∙ ap (λ x. x + 1) r ∙ add-one (length (members l n))))
+    (λ f. rw f (count_by_more_no (λ t. t) l n false (omega arith) f ∙ r)))
+
+-- a row written over a part of an array is laid there
+pasted : (l s : List ℕ) (at n : ℕ) → at + n ≤ length l → n ≤ length s → take at l ++ take n s ++ drop (at + n) l ≡ placed (λ c. get_or s c 0) l at n
+unfolding placed
+pasted l s at zero h g = let e : at + 0 ≡ at = omega arith in rw (e, append-nil (take at l)) (take-append-drop at l)
+pasted l s at (suc n) h g =
+    let p = take at l ++ take n s in
+    let x = get_or s n 0 in
+    let rest = drop (suc (at + n)) l in
+    let size : length p ≡ at + n = omega (arith, length-append (take at l) (take n s), length-take-le at l, length-take-le n s) in
+    let more : take (suc n) s ≡ take n s ++ (x ∷ []) = take-suc s n 0 g in
+    let cut : drop (at + n) l ≡ get_or l (at + n) 0 ∷ rest = drop-cons l (at + n) 0 (omega arith) in
+    rw (
+      add-suc at n,
+      more,
+      ← append_assoc (take at l) (take n s) (x ∷ []),
+      append_assoc p (x ∷ []) rest,
+      ← set_at p (get_or l (at + n) 0) rest x (at + n) size,
+      ← cut,
+      pasted l s at n (omega arith) (omega arith),
+    )
+
+pub placed_over : (l s : List ℕ) (at k : ℕ) {part : List ℕ} → at + length s ≤ length l → k ≡ length s → part ≡ s
+    → put_mid at k l part ≡ placed (λ c. get_or s c 0) l at (length s)
+placed_over l s at k {part} h e ep = put_mid-paste at k l part s (length s) ep (sym e) refl ∙ pasted l s at (length s) h (omega arith)
+
+-- and the first n values of a row
+placed_same : (f g : ℕ → ℕ) (l : List ℕ) (at n : ℕ) → ((k : ℕ) → k < n → f k ≡ g k) → placed f l at n ≡ placed g l at n
+unfolding placed
+placed_same f g l at zero h = refl
+placed_same f g l at (suc n) h = rw (placed_same f g l at n (λ k i. h k (omega arith)), h n (omega arith))
+
+pub placed_part : (l s : List ℕ) (at n : ℕ) → n ≤ length s
+    → placed (λ c. get_or (take n s) c 0) l at (length (take n s)) ≡ placed (λ c. get_or s c 0) l at n
+placed_part l s at n h =
+    rw (length-take-le n s h) (placed_same (λ c. get_or (take n s) c 0) (λ c. get_or s c 0) l at n (λ k i. get_or-take n s k 0 i))

@@ -1,9 +1,9 @@
-// Sets of bids, as arrays with a place for each bid by number. specs/Sets.antt says what each function computes.
+// Sets of bids, as arrays with a place for each bid by number; and arrays into which values are laid. specs/Sets.antt says what each function computes.
 #![tactic(auto)]
 
-ghost use Rattle.std.specs.Prelude.{◌≡◌, not, ◌&&◌, ◌≤◌, ◌<◌, length};
+ghost use Rattle.std.specs.Prelude.{◌≡◌, ◌+◌, ◌≤◌, length, get_or};
 ghost use Rattle.rules.specs.Names.{most_bids};
-ghost use Rattle.arrays.specs.Sets.{built, members, without};
+ghost use Rattle.arrays.specs.Sets.{built, members, placed, without};
 
 use names::BIDS;
 
@@ -12,22 +12,7 @@ pub fn count(set: [bool; BIDS], bids: usize) -> usize
     requires { bids ≤ most_bids }
     ensures { result ≡ length (members set bids) }
 {
-    let mut count: usize = 0;
-    let mut k: usize = 0;
-    while k < bids {
-        if set[k] {
-            count += 1;
-        }
-        k += 1;
-    }
-    count
-}
-
-// Of a set, and not of another?
-fn stays(within: bool, out: bool) -> bool
-    ensures { result ≡ (within && not out) }
-{
-    if within { !out } else { false }
+    set[..bids].iter().filter(|taken| **taken).count()
 }
 
 // A set without the bids of another.
@@ -36,10 +21,16 @@ pub fn others(set: [bool; BIDS], out: [bool; BIDS], bids: usize) -> [bool; BIDS]
     ensures { result ≡ built (without set out) bids }
 {
     let mut rest = [false; BIDS];
-    let mut k: usize = 0;
-    while k < bids {
-        rest[k] = stays(set[k], out[k]);
-        k += 1;
+    for k in 0..bids {
+        rest[k] = set[k] && !out[k];
     }
     rest
+}
+
+// Lays a row in an array, from place `at` on.
+pub fn lay(out: &mut [u64], row: &[u64], at: usize)
+    requires { at + length row.now ≤ length out.old }
+    ensures { out.new ≡ placed (λ c. get_or row.now c 0) out.old at (length row.now) }
+{
+    out[at..at + row.len()].copy_from_slice(row);
 }

@@ -1,18 +1,22 @@
 -- Laws over plain variables: each answers one need of a proof. Assumes nothing.
-use Prim.Native.Nat.{ℕ, ◌+◌, ◌≤◌, ◌<◌, min}
-use mathlib.Core.Path.{◌≡◌}
+use Prim.Native.Nat.{ℕ, zero, suc, ◌+◌, ◌≤◌, ◌<◌}
+use mathlib.Core.Path.{◌≡◌, refl, sym, ap, ◌∙◌}
 use mathlib.Core.Bool.{Bool, true, false}
-use mathlib.Core.List.{List}
+use mathlib.Core.List.{List, ◌++◌}
 use native.Mathlib.Omega.{arith}
 use native.Mathlib.Numerals.{add-one}
-use lib.ListN.{get_or, set}
-use borrow.Author.Tests.{eq-eqb, ne_eqb, lt-ltb, le-ltb}
-use Rattle.rules.specs.Names.{no_bid, because_won, most_bids}
-use Rattle.rules.specs.declared.Told.{Told}
+use lib.ListN.{length, get_or, set, take, drop}
+use lib.Seq.{take-suc, drop-cons}
+use Rattle.std.proofs.lemmas.List.{append_assoc, set_at, length-take-le}
+use Rattle.arrays.specs.Sets.{fill}
+use borrow.Author.Tests.{eq-eqb, ne_eqb}
+use Rattle.rules.specs.Names.{because_won, most_bids}
 use Rattle.sheet.specs.declared.Size.{Size}
-use Rattle.sheet.specs.Sheet.{Ready, entrant_at, admin_at, row_app, row_year, row_admin}
+use Rattle.sheet.specs.Sheet.{Ready, entrant_at, row_app}
+use Rattle.auction.specs.declared.Winning.{Winning}
+use Rattle.auction.specs.declared.Winning.TheVariants.{Bid}
 use Rattle.sheet.proofs.Entrants.{entrant_small, entrants_few}
-use Rattle.auction.specs.Numbers.{reason_by, reason_at, reasons_of, automatics_of, winning_of, at_admin, told_by}
+use Rattle.auction.specs.Numbers.{reason_by, reason_at, reasons_of, automatics_of, winning_of}
 
 -- ---- reasons
 
@@ -43,42 +47,33 @@ automatic_next sheet why j e q p = rw (add-one j, p, e, q)
 
 -- ---- winning bids
 
-pub winning_hit : (sheet marks : List ℕ) (k : ℕ) {l : List ℕ} {a : ℕ} → l ≡ winning_of sheet marks k → a ≡ row_app sheet k → get_or marks k 0 ≡ because_won
-    → set l a k ≡ winning_of sheet marks (k + 1)
+pub winning_hit : (sheet marks : List ℕ) (k : ℕ) {l : List Winning} {a : ℕ} → l ≡ winning_of sheet marks k → a ≡ row_app sheet k → get_or marks k 0 ≡ because_won
+    → set l a (Bid k) ≡ winning_of sheet marks (k + 1)
 unfolding winning_of
 winning_hit sheet marks k e p h = rw (add-one k, eq-eqb (get_or marks k 0) because_won h, e, p)
 
-pub winning_miss : (sheet marks : List ℕ) (k : ℕ) {l : List ℕ} → l ≡ winning_of sheet marks k → (get_or marks k 0 ≡ because_won → ⊥)
+pub winning_miss : (sheet marks : List ℕ) (k : ℕ) {l : List Winning} → l ≡ winning_of sheet marks k → (get_or marks k 0 ≡ because_won → ⊥)
     → l ≡ winning_of sheet marks (k + 1)
 unfolding winning_of
 winning_miss sheet marks k e h = rw (add-one k, ne_eqb (get_or marks k 0) because_won h) e
 
--- ---- what is told of an application
+-- ---- the money of a row of totals: the first n values of r were copied over those of l
 
-module _ (sheet : List ℕ) (of : Size) (prices : List ℕ) (a w why : ℕ) where
-  pub told_bid : {paid d admin : ℕ} → w < of.bids → d ≡ row_year sheet w → admin ≡ row_admin sheet w
-      → paid ≡ min (get_or prices d 0) admin
-      → ◌≡◌ {A = Told} (record { won = 1; bid = w; reason = why; paid = paid }) (told_by sheet of prices a w why)
-  unfolding told_by
-  told_bid h ed ea ep = rw (lt-ltb w of.bids h, ep, ed, ea)
-
-  pub told_admin : {paid : ℕ} → of.bids ≤ w → w ≡ at_admin → paid ≡ admin_at sheet a
-      → ◌≡◌ {A = Told} (record { won = 1; bid = no_bid; reason = why; paid = paid }) (told_by sheet of prices a w why)
-  unfolding told_by
-  told_admin h e p = rw (le-ltb w of.bids h, eq-eqb w at_admin e, p)
-
-  pub told_lost : of.bids ≤ w → (w ≡ at_admin → ⊥)
-      → ◌≡◌ {A = Told} (record { won = 0; bid = no_bid; reason = why; paid = 0 }) (told_by sheet of prices a w why)
-  unfolding told_by
-  told_lost h n = rw (le-ltb w of.bids h, ne_eqb w at_admin n)
+pub copied : {A : Type 0} (l r : List A) (d : A) (n : ℕ) → n ≤ length l → n ≤ length r → take n r ++ drop n l ≡ fill l (λ k. get_or r k d) n
+unfolding fill
+copied {A} l r d zero h g = refl
+copied {A} l r d (suc n) h g =
+    let v = get_or r n d in
+    let s : n < length l = omega arith in
+    let e : n < length r = omega arith in
+    rw (take-suc r n d e, append_assoc)
+    (sym (ap (λ (z : List A). set z n v) (sym (copied l r d n (omega arith) (omega arith)) ∙ ap (λ (z : List A). take n r ++ z) (drop-cons l n d s))
+    ∙ set_at (take n r) (get_or l n d) (drop (suc n) l) v n (length-take-le n r (omega arith))))
 
 -- ---- what an accessor answered is below its bound
 
 pub app_below : (sheet : List ℕ) (of : Size) (k : ℕ) {a : ℕ} → Ready sheet of → k < of.bids → a ≡ row_app sheet k → a < 64
 app_below sheet of k ok h e = omega (arith, ok.app k h)
-
-pub year_below : (sheet : List ℕ) (of : Size) (k : ℕ) {d : ℕ} → Ready sheet of → k < of.bids → d ≡ row_year sheet k → d < 4
-year_below sheet of k ok h e = omega (arith, ok.year k h)
 
 pub row_there : (sheet : List ℕ) (of : Size) (k : ℕ) → Ready sheet of → k < of.bids → k < most_bids
 row_there sheet of k ok h = omega (arith, ok.few)

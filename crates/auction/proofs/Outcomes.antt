@@ -6,18 +6,19 @@ use mathlib.Core.List.{List, [], ◌∷◌, map}
 use native.Mathlib.Omega.{arith}
 use lib.ListN.{length, get_or, replicate}
 use lib.Dec.{eqb, ltb}
-use borrow.Author.Tests.{lt-ltb, le-ltb, ne_eqb}
-use Rattle.rules.specs.Names.{most_bids, most_apps, most_deliveries, no_price, no_bid, no_reason, because_won, because_administrative, because_too_wide}
+use borrow.Author.Tests.{lt-ltb, ne_eqb}
+use Rattle.rules.specs.Names.{most_bids, most_apps, most_deliveries, no_price, no_reason, because_won, because_administrative, because_too_wide}
 use Rattle.rules.specs.Names.{because_silent}
 use Rattle.rules.specs.Lists.{pick, memb, sift, below}
 use Rattle.rules.specs.Pot.{Pot, winners, seen, price_from, clearing, total, auction, wide_end, admin_fits, winners_of}
 use Rattle.rules.specs.Pot.{by, outcome, price_in, total_in, paid, unlooked_reason, auction_reason, reason, silent, automatic_reason}
 use Rattle.rules.specs.Result.{told, told_in}
+use Rattle.auction.specs.declared.Outcome.TheVariants.{Administrative, TooWide}
 use Rattle.result.specs.Tells.{untold}
 use Rattle.rules.specs.declared.Told.{Told}
 use Rattle.laws_pot.specs.Lists.{case, clash, In, here, memb_in, sift_in, sift_same, sift_both, below_in}
 use Rattle.sheet.specs.declared.Size.{Size}
-use Rattle.sheet.specs.Sheet.{columns, admin_at, row_app, row_year, row_admin, in_auction, entrant_at, entrants, pot_in, Ready}
+use Rattle.sheet.specs.Sheet.{columns, row_app, row_year, row_admin, in_auction, entrant_at, entrants, pot_in, Ready}
 use Rattle.sheet.proofs.Entrants.{entrant_small}
 use Rattle.arrays.proofs.Arrays.{at_start, fill_each, repeated}
 use Rattle.totals.specs.Totals.{filled, row_fits, admin_total_of, column_sum}
@@ -29,9 +30,11 @@ use Rattle.pot.specs.Rep.{Rep, Stands}
 use Rattle.pot.proofs.Sums.{sum_total}
 use Rattle.pot.proofs.Link as held
 use Rattle.auction.specs.declared.End.{End}
+use Rattle.auction.specs.declared.Winning.{Winning}
+use Rattle.auction.specs.declared.Winning.TheVariants.{Lost, AtAdmin}
 use Rattle.auction.specs.Cleared.{ClearedAs, EndedAs}
-use Rattle.auction.specs.Numbers.{reason_by, reason_at, reasons_of, automatics_of, winning_of, at_admin, told_by, no_apps, apps_of, flat_of, sold_of, money_of}
-use Rattle.auction.proofs.Places.{money_each, reasons_at, automatics_at, bid_or, won_for, winning_at}
+use Rattle.auction.specs.Numbers.{reason_by, reason_at, reasons_of, automatics_of, winning_of, told_by, no_apps, apps_of, flat_of, sold_of, money_of}
+use Rattle.auction.proofs.Places.{money_each, reasons_at, automatics_at, bid_or, won_for, winning_at, winning_known, known_flat}
 
 module _ (sheet : List ℕ) (of : Size) (ok : Ready sheet of) where
   abbrev P : Pot
@@ -71,7 +74,7 @@ module _ (sheet : List ℕ) (of : Size) (ok : Ready sheet of) where
         opened : sift (λ k. eqb (row_app sheet k) a && memb k ws) (sift (in_auction sheet) (below of.bids)) ≡ winners_of P a
         opened = unfold pot_in winners_of in refl
 
-    winning_told : (a : ℕ) → a < most_apps → get_or (winning_of sheet marks of.bids) a 0 ≡ bid_or (winners_of P a)
+    winning_told : (a : ℕ) → a < most_apps → get_or (winning_of sheet marks of.bids) a Lost ≡ bid_or (winners_of P a)
     winning_told a h = winning_at sheet marks of.bids a ok.app h ∙ ap bid_or (its_winners a)
 
     -- what a winner is paid
@@ -88,12 +91,12 @@ module _ (sheet : List ℕ) (of : Size) (ok : Ready sheet of) where
         opened = unfold paid pot_in in refl
 
     -- what is told of an application whose winners are listed
-    told_by_lem : (a why : ℕ) (l : List ℕ) → winners_of P a ≡ l → told_by sheet of s.prices a (bid_or l) why ≡ told P why l
+    told_by_lem : (a why : ℕ) (l : List ℕ) → winners_of P a ≡ l → told_by sheet s.prices a (bid_or l) why ≡ told P why l
     unfolding told_by told
-    told_by_lem a why [] e = rw (le-ltb no_bid of.bids (omega (arith, ok.few)))
+    told_by_lem a why [] e = refl
     told_by_lem a why (w ∷ l) e =
         let z = its w l e in
-        rw (lt-ltb w of.bids (bid_lt w z.0), paid_told w z.0 z.1)
+        rw (paid_told w z.0 z.1)
       where
         its : (w : ℕ) (l : List ℕ) → winners_of P a ≡ w ∷ l → In w P.bids × In w ws
         its w l e =
@@ -142,9 +145,10 @@ module _ (sheet : List ℕ) (of : Size) (ok : Ready sheet of) where
       total = λ y g. total_told Q y g ∙ (unfold total_in in rw (t, u));
       reason = λ k i. reason_told k i ∙ (unfold reason in rw (t, u));
       app = λ a h.
-          ap (λ (w : ℕ). told_by sheet of s.prices a w (automatic_reason P a)) (winning_told a (omega (arith, ok.apps)))
+          ap (λ (w : Winning). told_by sheet s.prices a w (automatic_reason P a)) (winning_told a (omega (arith, ok.apps)))
           ∙ told_by_lem a (automatic_reason P a) (winners_of P a) refl
           ∙ (unfold told_in in rw (t, u));
+      known = winning_known sheet marks of of.bids (omega arith) ok.app;
       automatic = rw (t, u);
     }
 
@@ -158,16 +162,12 @@ module _ (sheet : List ℕ) (of : Size) (ok : Ready sheet of) where
   unfolding reason_at reason_by
   flat_reason mark k n i = rw (at_start most_bids k mark 0 (link.small sheet of ok k (bid_lt k i)), ne_eqb mark no_reason n)
 
-  won_admin : (a x : ℕ) → told_by sheet of none a at_admin x ≡ record { won = 1; bid = no_bid; reason = x; paid = admin_at sheet a }
-  unfolding told_by
-  won_admin a x = rw (le-ltb at_admin of.bids ok.few)
-
-  lost : (a x : ℕ) → told_by sheet of none a no_bid x ≡ record { won = 0; bid = no_bid; reason = x; paid = 0 }
-  unfolding told_by
-  lost a x = rw (le-ltb no_bid of.bids (omega (arith, ok.few)))
+  -- what all applications won with stands at each place
+  told_flat : (a why : ℕ) (w : Winning) → a < of.applications → told_by sheet none a (get_or (replicate most_apps w) a Lost) why ≡ told_by sheet none a w why
+  told_flat a why w h = ap (λ (v : Winning). told_by sheet none a v why) (at_start most_apps a w Lost (omega (arith, ok.apps)))
 
   admin : admin_fits P ≡ true → {totals : List ℕ} → totals ≡ filled (λ c. admin_total_of sheet of c of.applications) of.columns
-      → EndedAs sheet of (flat_of 0 totals because_administrative at_admin)
+      → EndedAs sheet of (flat_of Administrative totals because_administrative AtAdmin)
   unfolding flat_of
   admin t {totals} e = record {
     outcome = unfold outcome in rw t;
@@ -177,13 +177,12 @@ module _ (sheet : List ℕ) (of : Size) (ok : Ready sheet of) where
         ∙ link.admin_total_is sheet of ok y g ∙ (unfold total_in in rw t);
     reason = λ k i. flat_reason because_administrative k (λ e. omega arith) i ∙ (unfold reason in rw t);
     app = λ a h.
-        ap (λ (w : ℕ). told_by sheet of none a w (automatic_reason P a)) (at_start most_apps a at_admin 0 (omega (arith, ok.apps)))
-        ∙ won_admin a (automatic_reason P a)
-        ∙ (unfold told_in pot_in in rw (t, lt-ltb a of.applications h));
+        told_flat a (automatic_reason P a) AtAdmin h ∙ (unfold told_by told_in pot_in in rw (t, lt-ltb a of.applications h));
+    known = λ a. known_flat of AtAdmin most_apps a tt;
     automatic = rw t;
   }
 
-  wide : admin_fits P ≡ false → wide_end (auction P) ≡ true → EndedAs sheet of (flat_of 2 (replicate columns 0) because_too_wide no_bid)
+  wide : admin_fits P ≡ false → wide_end (auction P) ≡ true → EndedAs sheet of (flat_of TooWide (replicate columns 0) because_too_wide Lost)
   unfolding flat_of
   wide t u = record {
     outcome = unfold outcome in rw (t, u);
@@ -191,9 +190,8 @@ module _ (sheet : List ℕ) (of : Size) (ok : Ready sheet of) where
     total = λ y g. repeated columns y 0 ∙ (unfold total_in in rw (t, u));
     reason = λ k i. flat_reason because_too_wide k (λ e. omega arith) i ∙ (unfold reason in rw (t, u));
     app = λ a h.
-        ap (λ (w : ℕ). told_by sheet of none a w (automatic_reason P a)) (at_start most_apps a no_bid 0 (omega (arith, ok.apps)))
-        ∙ lost a (automatic_reason P a)
-        ∙ (unfold told_in in rw (t, u));
+        told_flat a (automatic_reason P a) Lost h ∙ (unfold told_by told_in in rw (t, u));
+    known = λ a. known_flat of Lost most_apps a tt;
     automatic = rw (t, u);
   }
 
@@ -203,11 +201,11 @@ module _ (sheet : List ℕ) (of : Size) (ok : Ready sheet of) where
     fits_first : t ≡ admin_fits P
     fits_first = link.admin_fits_lem sheet of ok ef et
 
-    pub ended_admin : {r : End} → t ≡ true → r ≡ flat_of 0 first because_administrative at_admin → EndedAs sheet of r
+    pub ended_admin : {r : End} → t ≡ true → r ≡ flat_of Administrative first because_administrative AtAdmin → EndedAs sheet of r
     ended_admin h e = rw e (admin (sym fits_first ∙ h) ef)
 
     module _ (s : PotState) (S : Stands P (auction P) s × Summed sheet of s) (h : t ≡ false) where
-      pub ended_wide_lem : {r : End} → s.wide ≡ true → r ≡ flat_of 2 (replicate columns 0) because_too_wide no_bid → EndedAs sheet of r
+      pub ended_wide_lem : {r : End} → s.wide ≡ true → r ≡ flat_of TooWide (replicate columns 0) because_too_wide Lost → EndedAs sheet of r
       ended_wide_lem w e = rw e (wide (sym fits_first ∙ h) (sym S.0.wide ∙ w))
 
       pub ended_sold : {r : End} → s.wide ≡ false → r ≡ sold_of sheet of s → EndedAs sheet of r
@@ -228,7 +226,7 @@ module _ (sheet : List ℕ) (of : Size) (ok : Ready sheet of) where
   pub cleared : {e : End} → EndedAs sheet of e → {reasons automatics : List ℕ} {apps : List Told}
       → reasons ≡ reasons_of sheet e.marks e.won of.entered
       → automatics ≡ automatics_of sheet e.automatic of.entered
-      → apps ≡ apps_of sheet of e.prices e.winning automatics of.applications
+      → apps ≡ apps_of sheet e.prices e.winning automatics of.applications
       → {totals : List ℕ} → totals ≡ money_of e.totals of.years
       → ClearedAs of P (record { outcome = e.outcome; prices = e.prices; totals = totals; apps = apps; reasons = reasons })
   cleared {e} E {reasons} {automatics} {apps} er em ea et = record {
@@ -245,11 +243,11 @@ module _ (sheet : List ℕ) (of : Size) (ok : Ready sheet of) where
           ∙ reasons_at sheet e.marks e.won of.entered k (λ i l. omega (arith, entrant_small ok i l, ok.few))
           ∙ rw (in_auction_lem k) (case (memb k P.bids) (λ t. rw t (E.reason k (memb_in k P.bids t))) (λ f. rw f))
 
-      each_app : (a : ℕ) → get_or (apps_of sheet of e.prices e.winning automatics of.applications) a untold
+      each_app : (a : ℕ) → get_or (apps_of sheet e.prices e.winning automatics of.applications) a untold
           ≡ pick (ltb a of.applications) (told_in P a) untold
       each_app =
-          fill_each no_apps (λ a. told_by sheet of e.prices a (get_or e.winning a 0) (get_or automatics a 0)) (told_in P) of.applications untold long blank
-          (λ a h. ap (told_by sheet of e.prices a (get_or e.winning a 0))
+          fill_each no_apps (λ a. told_by sheet e.prices a (get_or e.winning a Lost) (get_or automatics a 0)) (told_in P) of.applications untold long blank
+          (λ a h. ap (told_by sheet e.prices a (get_or e.winning a Lost))
           (ap (λ (l : List ℕ). get_or l a 0) em ∙ automatic_told e.automatic a (omega (arith, ok.apps)) E.automatic)
           ∙ E.app a h)
         where

@@ -1,18 +1,21 @@
 -- What stands at each place of the arrays of a clearing. Assumes nothing.
 use Prim.Native.Nat.{ℕ, zero, suc, ◌≤◌, ◌<◌}
-use mathlib.Core.Path.{◌≡◌, refl, ◌∙◌}
+use mathlib.Core.Path.{◌≡◌, refl, sym, subst, ◌∙◌}
 use mathlib.Core.Bool.{Bool, not, ◌&&◌}
 use mathlib.Core.List.{List, [], ◌∷◌, map}
 use native.Mathlib.Omega.{arith}
-use lib.ListN.{length, get_or, length-set}
+use lib.ListN.{length, get_or, replicate, length-set}
 use lib.Dec.{eqb, ltb}
 use borrow.Author.Tests.{eqb-true}
-use Rattle.rules.specs.Names.{most_years, most_bids, most_apps, no_bid, no_reason, because_won}
+use Rattle.rules.specs.Names.{most_years, most_bids, most_apps, no_reason, because_won}
 use Rattle.rules.specs.Lists.{pick, memb, sift, below}
 use Rattle.laws_pot.specs.Lists.{case}
 use Rattle.sheet.specs.Sheet.{row_app, entrant_at, entrants}
 use Rattle.arrays.proofs.Arrays.{eqb_sym, put_is, at_start, fill_each, zeros}
-use Rattle.auction.specs.Numbers.{reason_at, no_reasons, reasons_of, automatics_of, winning_of, no_money, money_of}
+use Rattle.auction.specs.declared.Winning.{Winning}
+use Rattle.auction.specs.declared.Winning.TheVariants.{Lost, Bid}
+use Rattle.sheet.specs.declared.Size.{Size}
+use Rattle.auction.specs.Numbers.{Known, AllKnown, reason_at, no_reasons, reasons_of, automatics_of, winning_of, no_money, money_of}
 
 -- the money of a row of totals
 pub money_each : (row : List ℕ) (g : ℕ → ℕ) (n : ℕ) → n ≤ most_years → ((y : ℕ) → y < n → get_or row y 0 ≡ g y)
@@ -62,9 +65,9 @@ automatics_at sheet why (suc j) a h l =
 -- ---- winning bids
 
 -- an application's winning bid, where those that won for it are listed
-abbrev pub bid_or : List ℕ → ℕ
-bid_or [] = no_bid
-bid_or (w ∷ ws) = w
+abbrev pub bid_or : List ℕ → Winning
+bid_or [] = Lost
+bid_or (w ∷ ws) = Bid w
 
 -- the winning bid of application a among the bids below n: the last that is marked as won for it
 abbrev pub won_for : (sheet marks : List ℕ) (a w : ℕ) → Bool
@@ -74,16 +77,32 @@ winning_length : (sheet marks : List ℕ) (n : ℕ) → length (winning_of sheet
 unfolding winning_of
 winning_length sheet marks zero = refl
 winning_length sheet marks (suc n) =
-    case (eqb (get_or marks n 0) because_won) (λ t. rw t (length-set (winning_of sheet marks n) (row_app sheet n) n ∙ winning_length sheet marks n))
+    case (eqb (get_or marks n 0) because_won) (λ t. rw t (length-set (winning_of sheet marks n) (row_app sheet n) (Bid n) ∙ winning_length sheet marks n))
     (λ f. rw f (winning_length sheet marks n))
 
 pub winning_at : (sheet marks : List ℕ) (n a : ℕ) → ((k : ℕ) → k < n → row_app sheet k < most_apps) → a < most_apps
-    → get_or (winning_of sheet marks n) a 0 ≡ bid_or (sift (won_for sheet marks a) (below n))
+    → get_or (winning_of sheet marks n) a Lost ≡ bid_or (sift (won_for sheet marks a) (below n))
 unfolding winning_of
-winning_at sheet marks zero a h l = at_start most_apps a no_bid 0 l
+winning_at sheet marks zero a h l = at_start most_apps a Lost Lost l
 winning_at sheet marks (suc n) a h l =
     let ih = winning_at sheet marks n a (λ k g. h k (omega arith)) l in
     case (eqb (get_or marks n 0) because_won)
-    (λ t. rw t (put_is (winning_of sheet marks n) (row_app sheet n) a n 0 (omega (arith, winning_length sheet marks n, h n (omega arith)))
+    (λ t. rw t (put_is (winning_of sheet marks n) (row_app sheet n) a (Bid n) Lost (omega (arith, winning_length sheet marks n, h n (omega arith)))
     ∙ rw (eqb_sym a (row_app sheet n)) (case (eqb (row_app sheet n) a) (λ u. rw u) (λ u. rw u ih))))
     (λ f. rw f (case (eqb (row_app sheet n) a) (λ u. rw u ih) (λ u. rw u ih)))
+
+-- all of them are the sheet's; and so is what all applications won with, if that is
+pub known_flat : (of : Size) (w : Winning) (n a : ℕ) → Known of w → Known of (get_or (replicate n w) a Lost)
+known_flat of w zero a k = tt
+known_flat of w (suc n) zero k = k
+known_flat of w (suc n) (suc a) k = known_flat of w n a k
+
+pub winning_known : (sheet marks : List ℕ) (of : Size) (n : ℕ) → n ≤ of.bids → ((k : ℕ) → k < n → row_app sheet k < most_apps) → AllKnown of (winning_of sheet marks n)
+unfolding winning_of
+winning_known sheet marks of zero h r a = known_flat of Lost most_apps a tt
+winning_known sheet marks of (suc n) h r a =
+    let ih = winning_known sheet marks of n (omega arith) (λ k g. r k (omega arith)) a in
+    case (eqb (get_or marks n 0) because_won)
+    (λ t. rw t (subst (Known of) (sym (put_is (winning_of sheet marks n) (row_app sheet n) a (Bid n) Lost (omega (arith, winning_length sheet marks n, r n (omega arith)))))
+    (case (eqb a (row_app sheet n)) (λ u. rw u (let l : n < of.bids = omega arith in l)) (λ u. rw u ih))))
+    (λ f. rw f ih)

@@ -1,8 +1,10 @@
 -- What the functions of `auction` compute from the arrays of a pot that has come to its end. Assumes nothing.
-use Rattle.std.specs.Prelude.{ℕ, zero, suc, min, Bool, false, List, get_or, set, replicate, eqb, ltb}
-use Rattle.rules.specs.Names.{most_years, most_bids, most_apps, most_deliveries, auctioned, no_price, no_bid, no_reason, because_won, unlooked_won}
+use Rattle.std.specs.Prelude.{ℕ, zero, suc, ◌<◌, min, Bool, false, List, get_or, set, replicate, eqb}
+use Rattle.rules.specs.Names.{most_years, most_bids, most_apps, most_deliveries, no_price, no_bid, no_reason, because_won, unlooked_won}
 use Rattle.rules.specs.Names.{unlooked_else, because_silent}
 use Rattle.rules.specs.Lists.{pick}
+use Rattle.auction.specs.declared.Outcome.{Outcome}
+use Rattle.auction.specs.declared.Outcome.TheVariants.{Auctioned}
 use Rattle.result.specs.Tells.{untold}
 use Rattle.rules.specs.declared.Told.{Told}
 use Rattle.sheet.specs.declared.Size.{Size}
@@ -10,6 +12,8 @@ use Rattle.sheet.specs.Sheet.{entrant_at, admin_at, row_app, row_year, row_admin
 use Rattle.arrays.specs.Sets.{fill}
 use Rattle.pot.specs.declared.PotState.{PotState}
 use Rattle.auction.specs.declared.End.{End}
+use Rattle.auction.specs.declared.Winning.{Winning}
+use Rattle.auction.specs.declared.Winning.TheVariants.{Lost, AtAdmin, Bid}
 
 -- ---- reasons
 
@@ -36,34 +40,38 @@ automatics_of sheet why zero = replicate most_apps why
 automatics_of sheet why (suc j) = set (automatics_of sheet why j) (row_app sheet (entrant_at sheet j)) no_reason
 
 -- the winning bid of each application, among the bids below m
-unfoldable pub winning_of : (sheet marks : List ℕ) → (m : ℕ) → List ℕ
-winning_of sheet marks zero = replicate most_apps no_bid
-winning_of sheet marks (suc k) = pick (eqb (get_or marks k 0) because_won) (set (winning_of sheet marks k) (row_app sheet k) k) (winning_of sheet marks k)
+unfoldable pub winning_of : (sheet marks : List ℕ) → (m : ℕ) → List Winning
+winning_of sheet marks zero = replicate most_apps Lost
+winning_of sheet marks (suc k) =
+    pick (eqb (get_or marks k 0) because_won) (set (winning_of sheet marks k) (row_app sheet k) (Bid k)) (winning_of sheet marks k)
 
--- no bid's number: the application won at its administrative price
-abbrev pub at_admin : ℕ
-at_admin = most_bids
+-- a bid that an application won with is one of the sheet's; in all places
+abbrev pub Known : Size → Winning → Type 0
+Known of Lost = Unit {0}
+Known of AtAdmin = Unit {0}
+Known of (Bid w) = w < of.bids
+
+abbrev pub AllKnown : Size → List Winning → Type 0
+AllKnown of winning = (a : ℕ) → Known of (get_or winning a Lost)
 
 -- what is told of application a: it won with bid w, or at its administrative price, or it lost
-unfoldable pub told_by : (sheet : List ℕ) (of : Size) (prices : List ℕ) (a w why : ℕ) → Told
-told_by sheet of prices a w why =
-    pick (ltb w of.bids)
-    (record { won = 1; bid = w; reason = why; paid = min (get_or prices (row_year sheet w) 0) (row_admin sheet w) })
-    (pick (eqb w at_admin)
-    (record { won = 1; bid = no_bid; reason = why; paid = admin_at sheet a })
-    (record { won = 0; bid = no_bid; reason = why; paid = 0 }))
+unfoldable pub told_by : (sheet prices : List ℕ) (a : ℕ) → Winning → (why : ℕ) → Told
+told_by sheet prices a (Bid w) why =
+    record { won = 1; bid = w; reason = why; paid = min (get_or prices (row_year sheet w) 0) (row_admin sheet w) }
+told_by sheet prices a AtAdmin why = record { won = 1; bid = no_bid; reason = why; paid = admin_at sheet a }
+told_by sheet prices a Lost why = record { won = 0; bid = no_bid; reason = why; paid = 0 }
 
 unfoldable pub no_apps : List Told
 no_apps = replicate most_apps untold
 
 -- of the first n applications, from what each won with and their automatic reasons
-abbrev pub apps_of : (sheet : List ℕ) (of : Size) (prices winning automatics : List ℕ) → (n : ℕ) → List Told
-apps_of sheet of prices winning automatics n = fill no_apps (λ a. told_by sheet of prices a (get_or winning a 0) (get_or automatics a 0)) n
+abbrev pub apps_of : (sheet prices : List ℕ) → List Winning → (automatics : List ℕ) → (n : ℕ) → List Told
+apps_of sheet prices winning automatics n = fill no_apps (λ a. told_by sheet prices a (get_or winning a Lost) (get_or automatics a 0)) n
 
 -- ---- how a pot ended
 
 -- outcomes 0 and 2
-unfoldable pub flat_of : (outcome : ℕ) → (totals : List ℕ) → (mark w : ℕ) → End
+unfoldable pub flat_of : Outcome → (totals : List ℕ) → (mark : ℕ) → Winning → End
 flat_of outcome totals mark w = record {
   outcome = outcome;
   prices = replicate most_deliveries no_price;
@@ -77,7 +85,7 @@ flat_of outcome totals mark w = record {
 -- outcome 1
 unfoldable pub sold_of : (sheet : List ℕ) (of : Size) → PotState → End
 sold_of sheet of s = record {
-  outcome = auctioned;
+  outcome = Auctioned;
   prices = s.prices;
   totals = s.totals;
   marks = s.marks;

@@ -2,6 +2,7 @@
 use Prim.Native.Nat.{ℕ, zero, suc, ◌+◌, ◌-◌, ◌≤◌, ◌<◌}
 use mathlib.Core.Path.{◌≡◌, refl, sym, ap, subst, ◌∙◌}
 use mathlib.Core.List.{List, [], ◌∷◌}
+use mathlib.Core.Bool.{true, false}
 use mathlib.Core.Logic.{◌⊎◌, inl, inr, ⊎_elim}
 use native.Mathlib.Omega.{arith}
 use native.Mathlib.Decide.{dec_lt, ℕ_discrete}
@@ -12,7 +13,8 @@ use Rattle.rules.specs.Names.{bids_each, bids_a_year, bids_too_many, price_twice
 use Rattle.rules.specs.File.{bid_at}
 use Rattle.rules.specs.Lists.{given, both, how_many}
 use Rattle.rules.specs.Refusals.{or_fault, eight_of, nine_of, same_app?, same_year?}
-use Rattle.laws_reading.specs.Walk.{given_yes, given_no, is_one, not_one, one_counted, found, passed}
+use Rattle.laws_reading.specs.Walk.{given_yes, given_no, one_counted, found, passed}
+use Rattle.bids.proofs.Laws.{is_true, not_true}
 use Rattle.bids.specs.Bids.{alone, same_price?, Free, Latest, Previous}
 
 -- ---- places of a list
@@ -130,12 +132,12 @@ walk_start recs i left f = record {
   prices = λ j h l e. f.none j h l e.0;
 }
 
-pub walk_on : (recs : List ℕ) (i left r of-app of-year : ℕ) {p n m : ℕ} → Walked recs i left of-app of-year → 0 < left
+pub walk_on : (recs : List ℕ) (i left r of-app of-year : ℕ) {n m : ℕ} → Walked recs i left of-app of-year → 0 < left
     → Free recs (bid_at recs i).app r (left - 1)
-    → p ≡ given (same_price? recs (left - 1) i) 1 0 → (p ≡ 1 → ⊥)
+    → false ≡ given (same_price? recs (left - 1) i) true false
     → (n ≡ given (same_app? (alone recs i) (left - 1) i) 1 0) × (n ≤ 1) → (m ≡ given (same_year? (alone recs i) (left - 1) i) 1 0) × (m ≤ 1)
     → Walked recs i r (of-app + n) (of-year + m)
-walk_on recs i left r of-app of-year w h f p z n m = record {
+walk_on recs i left r of-app of-year w h f z n m = record {
   within = omega (arith, f.within, w.within);
   apps_few = omega (arith, f.within, w.apps_few, n.1);
   years_few = omega (arith, f.within, w.years_few, m.1);
@@ -149,14 +151,14 @@ walk_on recs i left r of-app of-year w h f p z n m = record {
     at j a b e (no l) q = w.prices j (omega arith) b e
     at j a b e (yes l) (no q) = f.none j a (omega arith) e.0
     at j a b e (yes l) (yes q) =
-        not_one (same_price? recs (left - 1) i) p z
+        not_true (same_price? recs (left - 1) i) z
         (subst (λ (x : ℕ). ((bid_at recs x).app ≡ (bid_at recs i).app) × ((bid_at recs x).price ≡ (bid_at recs i).price)) q e)
 
 -- an earlier bid of the application is at the price
-pub eight_found : (recs : List ℕ) (i k : ℕ) {p : ℕ} → k < i → p ≡ given (same_price? recs k i) 1 0 → p ≡ 1
+pub eight_found : (recs : List ℕ) (i k : ℕ) → k < i → true ≡ given (same_price? recs k i) true false
     → price_twice ≡ or_fault (eight_of (alone recs i) i) (nine_of (alone recs i) i)
 unfolding eight_of
-eight_found recs i k h p o = found _ _ (sym (given_no _ _ _ (λ f. f k h (is_one (same_price? recs k i) p o)))) (λ z. omega arith)
+eight_found recs i k h t = found _ _ (sym (given_no _ _ _ (λ f. f k h (is_true (same_price? recs k i) t)))) (λ z. omega arith)
 
 -- all earlier bids are walked, and none is at the price
 pub nine_counted : (recs : List ℕ) (i left of-app of-year : ℕ) {r : ℕ} → Walked recs i left of-app of-year → left ≤ 0

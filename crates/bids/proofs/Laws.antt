@@ -1,17 +1,20 @@
--- Equal numbers are judged alike; the rules that read nothing but the bids; and records judged from the last to the first. Assumes nothing.
-use Prim.Native.Nat.{ℕ, suc, ◌+◌, ◌-◌, ◌*◌, ◌≤◌, ◌<◌}
+-- Equal numbers are judged alike; and the rules that read nothing but the bids. Assumes nothing.
+use Prim.Native.Nat.{ℕ, ◌+◌, ◌*◌, ◌≤◌, ◌<◌}
 use mathlib.Core.List.{List}
 use mathlib.Core.Path.{◌≡◌, refl, sym, ap, ◌∙◌}
 use native.Mathlib.Omega.{arith}
 use native.Mathlib.Nat.{mul-le-mul_right}
+use Rattle.std.specs.Prelude.{Bool, true, false, eqb}
+use Rattle.std.specs.Int.{from_bool}
+use mathlib.Core.Logic.{⊎_elim}
+use Rattle.std.proofs.lemmas.Bool.Decides.{eqb_tells}
+use Rattle.rules.specs.Lists.{given}
 use Rattle.rules.specs.File.{Round, App, Bid, year_at, tech_at, app_at, bid_at}
-use Rattle.rules.specs.Refusals.{or_else, or_fault, scan, seven_of, eight_of, nine_of, bid_fault}
+use Rattle.rules.specs.Refusals.{or_fault, seven_of, eight_of, nine_of, bid_fault}
 use Rattle.rules.specs.declared.Sections.{Sections}
-use Rattle.rules.specs.declared.Reading.{Reading}
-use Rattle.rules.specs.declared.Reading.TheVariants.{Refused}
 use Rattle.layout.specs.Layout.{years_in, technologies_in, applications_in}
 use Rattle.layout.proofs.Laws.{read_in}
-use Rattle.laws_reading.specs.Walk.{refuses, same_rule}
+use Rattle.laws_reading.specs.Walk.{given_yes, given_no, same_rule, found, passed}
 use Rattle.bids.specs.Bids.{judge_of, held_of, tables_of, TablesRight, alone}
 
 -- the rule of the numbers that were read in the parts of the file is the rule of the bid
@@ -43,50 +46,37 @@ tech_known s g n T ea p l = rw (p ∙ ap (λ (x : List ℕ). app_at x n) ea) (T.
 pub record_whole : (x t w : ℕ) {l : ℕ} → x < t → t * w ≤ l → x * w + w ≤ l
 record_whole x t w h e = omega (arith, mul-le-mul_right w h)
 
--- "for bids 7, then 8, then 9"; the last two read nothing but the bids
-pub in_order : (R : Round) (i : ℕ) {r a b : ℕ} → r ≡ or_fault a b → a ≡ seven_of R i → b ≡ or_fault (eight_of (alone R.bids i) i) (nine_of (alone R.bids i) i)
-    → r ≡ bid_fault R i
-unfolding bid_fault eight_of nine_of
-in_order R i p e f =
-    let f' = f ∙ both_alone in
-    cc
-  where
-    both_alone : or_fault (eight_of (alone R.bids i) i) (nine_of (alone R.bids i) i) ≡ or_fault (eight_of R i) (nine_of R i)
-    both_alone = refl
+-- "for bids 7, then 8, then 9": 7 is broken, or it is kept and 8 and 9 are asked, which read nothing but the bids
+module _ (R : Round) (i : ℕ) where
+  pub seven_first : {r : ℕ} → r ≡ seven_of R i → (r ≡ 0 → ⊥) → r ≡ bid_fault R i
+  unfolding bid_fault
+  seven_first e z = found _ _ e z
 
--- ---- records judged from the last to the first
+  pub seven_kept : {r : ℕ} → 0 ≡ seven_of R i → r ≡ or_fault (eight_of (alone R.bids i) i) (nine_of (alone R.bids i) i) → r ≡ bid_fault R i
+  unfolding bid_fault eight_of nine_of
+  seven_kept e f = passed _ _ e refl f
 
--- none is judged yet, and none is at fault
-pub back_none : (f : ℕ → ℕ) (w base n at : ℕ) (r : Reading) → scan f w base n (n - n) r ≡ or_else 0 at r
-unfolding scan or_else
-back_none f w base n at r = let q : n - n ≡ 0 = omega arith in rw q
+-- ---- tests of what a rule is about
 
--- fault m at `at` is the answer of those from `left` on
-module _ (f : ℕ → ℕ) (w base n left : ℕ) (r : Reading) (m at : ℕ) (inv : scan f w base left (n - left) r ≡ or_else m at r) where
-  pub back_at_fault : {x : ℕ} → 0 < left → left ≤ n → x ≡ f (left - 1) → (x ≡ 0 → ⊥)
-      → scan f w base (left - 1) (n - (left - 1)) r ≡ or_else x (base + (left - 1) * w) r
-  unfolding scan
-  back_at_fault {x} h l e z =
-      let q : n - (left - 1) ≡ suc (n - left) = omega arith in
-      rw (q, sym e) (refuses x (base + (left - 1) * w) _ z ∙ sym (refuses x (base + (left - 1) * w) r z))
+-- two numbers are compared that are equal just where the rule holds
+pub tests : {P : Type 0} (d : Dec P) {a b : ℕ} → (a ≡ b → P) → (P → a ≡ b) → eqb a b ≡ given d true false
+tests d {a} {b} f g =
+    ⊎_elim (λ (e : (eqb a b ≡ true) × (a ≡ b)). e.0 ∙ sym (given_yes d true false (f e.1)))
+    (λ e. e.0 ∙ sym (given_no d true false (λ h. e.1 (g h)))) (eqb_tells a b)
 
-  pub back_passed : {x : ℕ} → 0 < left → left ≤ n → x ≡ f (left - 1) → x ≡ 0 → scan f w base (left - 1) (n - (left - 1)) r ≡ or_else m at r
-  unfolding scan or_else
-  back_passed {x} h l e z =
-      let q : n - (left - 1) ≡ suc (n - left) = omega arith in
-      let p : left - 1 + 1 ≡ left = omega arith in
-      let y : f (left - 1) ≡ 0 = sym e ∙ z in
-      rw (q, y, p) inv
+-- what a test says that came out true, and one that came out false
+pub is_true : {P : Type 0} (d : Dec P) → true ≡ given d true false → P
+unfolding given
+is_true (yes p) e = p
+is_true (no n) e = let f : ⊥ = cc in absurd f
 
-  pub back_refused : left ≤ 0 → (m ≡ 0 → ⊥) → Refused m at ≡ scan f w base 0 n r
-  back_refused h z =
-      let q : left ≡ 0 = omega arith in
-      let p : n - 0 ≡ n = omega arith in
-      sym (refuses m at r z) ∙ sym (rw (q, p) at inv)
+pub not_true : {P : Type 0} (d : Dec P) → false ≡ given d true false → P → ⊥
+unfolding given
+not_true (yes p) e h = cc
+not_true (no n) e h = n h
 
-  pub back_accepted : left ≤ 0 → m ≡ 0 → r ≡ scan f w base 0 n r
-  unfolding or_else
-  back_accepted h z =
-      let q : left ≡ 0 = omega arith in
-      let p : n - 0 ≡ n = omega arith in
-      sym (rw (q, p, z) at inv)
+-- a test as a number
+pub counted : {P : Type 0} (d : Dec P) {b : Bool} {r : ℕ} → b ≡ given d true false → r ≡ from_bool b → (r ≡ given d 1 0) × (r ≤ 1)
+unfolding given
+counted (yes p) {b} {r} e q = let k : r ≡ 1 = q ∙ ap from_bool e in (k, omega arith)
+counted (no n) {b} {r} e q = let k : r ≡ 0 = q ∙ ap from_bool e in (k, omega arith)

@@ -6,8 +6,7 @@ use Rattle.rules.specs.Lists.{given, both, when}
 use Rattle.rules.specs.File.{Round, App, Bid, year_at, tech_at, app_at, bid_at}
 use Rattle.rules.specs.Refusals.{scan, record_fault, bid_fault, same_app?, eleven_of}
 use Rattle.rules.specs.declared.Sections.{Sections}
-use Rattle.rules.specs.declared.Reading.{Reading}
-use Rattle.rules.specs.declared.Reading.TheVariants.{Accepted}
+use Rattle.rules.specs.Reading.{Reading, Accepted}
 use Rattle.layout.specs.Layout.{years_in, technologies_in, applications_in}
 
 -- ---- rule 7, where the numbers have been read

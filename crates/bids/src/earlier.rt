@@ -1,16 +1,18 @@
 // Rules 8 and 9: a bid beside the earlier bids of its application, which are chained from the latest to the first so that no other bid is
 // looked at. A link is how many bids of the file there are up to the one that it leads to: `latest` has one for each application, `previous`
 // one for each bid. A number that has no place in them leads to the bid just before, and no bid is passed over.
-ghost use Rattle.std.specs.Prelude.{◌≡◌, ◌+◌, ◌≤◌, ◌<◌, get_or, set};
+ghost use Rattle.std.specs.Prelude.{◌≡◌, ◌+◌, ◌<◌, get_or, set, true, false};
 ghost use Rattle.std.proofs.Math.Decide.{dec_lt};
 ghost use Rattle.rules.specs.Names.{bid_width, bids_each, bids_a_year, bids_too_many};
 ghost use Rattle.rules.specs.File.{bid_at};
 ghost use Rattle.rules.specs.Lists.{given, both};
+ghost use Rattle.rules.specs.Reading.{fault_in};
 ghost use Rattle.rules.specs.Refusals.{or_fault, eight_of, nine_of, same_app?, same_year?};
 ghost use Rattle.layout.specs.Layout.{Room};
 ghost use Rattle.bids.specs.Bids.{alone, same_price?, Free, Latest, Previous};
 
 use layout::bid;
+use rules::Rule;
 
 // ---- the chains
 
@@ -18,10 +20,7 @@ use layout::bid;
 fn link(links: &[usize], k: usize, none: usize) -> usize
     ensures { result ≡ get_or links.now k none }
 {
-    if k < links.len() {
-        return links[k];
-    }
-    none
+    links.get(k).copied().unwrap_or(none)
 }
 
 // Place k, where there is one, holds a link r.
@@ -38,8 +37,7 @@ fn start(recs: &[u8], latest: &[usize], i: usize) -> usize
     requires { Room recs.now bid_width i × Latest recs.now latest.now i }
     ensures { Free recs.now (bid_at recs.now i).app result i }
 {
-    let a = bid::application(recs, i);
-    link(latest, a, i)
+    link(latest, bid::application(recs, i), i)
 }
 
 // The bids from the answer to bid k are not of the application of bid i, which is a later one.
@@ -48,9 +46,10 @@ fn next(recs: &[u8], previous: &[usize], k: usize, i: usize) -> usize
     ensures { Free recs.now (bid_at recs.now i).app result k }
 {
     if bid::application(recs, k) == bid::application(recs, i) {
-        return link(previous, k, k);
+        link(previous, k, k)
+    } else {
+        k
     }
-    k
 }
 
 // Bid i is accepted: it is the latest of its application.
@@ -59,83 +58,63 @@ pub fn accept(recs: &[u8], latest: &mut [usize], previous: &mut [usize], i: usiz
     requires latest { Latest recs.now latest.old i × Previous recs.now previous.old i }
     ensures { Latest recs.now latest.new (i + 1) × Previous recs.now previous.new (i + 1) }
 {
-    let r = start(recs, latest, i);
-    put(previous, i, r);
-    let a = bid::application(recs, i);
-    put(latest, a, i + 1);
+    put(previous, i, start(recs, latest, i));
+    put(latest, bid::application(recs, i), i + 1);
 }
 
 // ---- the rules
 
-// 1 if bids k and i are of one application, else 0.
-fn same_app(recs: &[u8], k: usize, i: usize) -> usize
+// Are bids k and i of one application?
+fn same_app(recs: &[u8], k: usize, i: usize) -> bool
     requires { Room recs.now bid_width k × Room recs.now bid_width i }
-    ensures { (result ≡ given (same_app? (alone recs.now i) k i) 1 0) × (result ≤ 1) }
+    ensures { result ≡ given (same_app? (alone recs.now i) k i) true false }
 {
-    if bid::application(recs, k) == bid::application(recs, i) {
-        1
-    } else {
-        0
-    }
+    bid::application(recs, k) == bid::application(recs, i)
 }
 
-// 1 if bids k and i are of one application and in one year, else 0.
-pub fn same_year(recs: &[u8], k: usize, i: usize) -> usize
+// Are they in one year, too?
+pub fn same_year(recs: &[u8], k: usize, i: usize) -> bool
     requires { Room recs.now bid_width k × Room recs.now bid_width i }
-    ensures { (result ≡ given (same_year? (alone recs.now i) k i) 1 0) × (result ≤ 1) }
+    ensures { result ≡ given (same_year? (alone recs.now i) k i) true false }
 {
-    if bid::application(recs, k) == bid::application(recs, i) {
-        if bid::year(recs, k) == bid::year(recs, i) {
-            return 1;
-        }
-        return 0;
-    }
-    0
+    same_app(recs, k, i) && bid::year(recs, k) == bid::year(recs, i)
 }
 
-// 1 if bids k and i are of one application and at one price, else 0.
-fn same_price(recs: &[u8], k: usize, i: usize) -> usize
+// Are they at one price, too?
+fn same_price(recs: &[u8], k: usize, i: usize) -> bool
     requires { Room recs.now bid_width k × Room recs.now bid_width i }
-    ensures { result ≡ given (same_price? recs.now k i) 1 0 }
+    ensures { result ≡ given (same_price? recs.now k i) true false }
 {
-    if bid::application(recs, k) == bid::application(recs, i) {
-        if bid::price(recs, k) == bid::price(recs, i) {
-            return 1;
-        }
-        return 0;
-    }
-    0
+    same_app(recs, k, i) && bid::price(recs, k) == bid::price(recs, i)
 }
 
-// Rule 9 of a bid beside so many earlier ones of its application, and of those so many in its year. 0 if it is kept.
-fn nine(of_app: usize, of_year: usize) -> u64
-    ensures { result ≡ given (both (dec_lt of_app bids_each) (dec_lt of_year bids_a_year)) 0 bids_too_many }
+// Rule 9 of a bid beside so many earlier ones of its application, and of those so many in its year.
+fn nine(of_app: usize, of_year: usize) -> Result<(), Rule>
+    ensures { fault_in result ≡ given (both (dec_lt of_app bids_each) (dec_lt of_year bids_a_year)) 0 bids_too_many }
 {
-    if names::BIDS_EACH <= of_app {
-        return names::BIDS_TOO_MANY;
+    if names::BIDS_EACH <= of_app || names::BIDS_A_YEAR <= of_year {
+        return Err(Rule::BidsTooMany);
     }
-    if names::BIDS_A_YEAR <= of_year {
-        return names::BIDS_TOO_MANY;
-    }
-    0
+    Ok(())
 }
 
-// Rules 8 and 9 of bid i. 0 if both are kept.
-pub fn eight_nine(recs: &[u8], latest: &[usize], previous: &[usize], i: usize) -> u64
+// Rules 8 and 9 of bid i.
+pub fn eight_nine(recs: &[u8], latest: &[usize], previous: &[usize], i: usize) -> Result<(), Rule>
     requires room { Room recs.now bid_width i }
     requires latest { Latest recs.now latest.now i × Previous recs.now previous.now i }
-    ensures { result ≡ or_fault (eight_of (alone recs.now i) i) (nine_of (alone recs.now i) i) }
+    ensures { fault_in result ≡ or_fault (eight_of (alone recs.now i) i) (nine_of (alone recs.now i) i) }
 {
     let mut left = start(recs, latest, i);
     let mut of_app: usize = 0;
     let mut of_year: usize = 0;
+    // from link to link
     while 0 < left {
         let k = left - 1;
-        if same_price(recs, k, i) == 1 {
-            return names::PRICE_TWICE;
+        if same_price(recs, k, i) {
+            return Err(Rule::PriceTwice);
         }
-        of_app += same_app(recs, k, i);
-        of_year += same_year(recs, k, i);
+        of_app += usize::from(same_app(recs, k, i));
+        of_year += usize::from(same_year(recs, k, i));
         left = next(recs, previous, k, i);
     }
     nine(of_app, of_year)

@@ -2,12 +2,12 @@
 use Prim.Native.Nat.{ℕ, ◌+◌, ◌-◌, ◌^◌, ◌≤◌, ◌<◌}
 use mathlib.Core.Path.{◌≡◌, ap, ◌∙◌}
 use mathlib.Core.Bool.{Bool, true, false}
-use mathlib.Core.Logic.{inl, inr}
+use mathlib.Core.Logic.{inr}
 use native.Mathlib.Omega.{arith}
 use borrow.Author.Tests.{eq-eqb, ne_eqb}
 use Rattle.laws_pot.specs.Bits.{free_place}
 use Rattle.ties.specs.Ties.{Cuttable}
-use Rattle.branches.specs.Branches.{Branch, Past, Other, Open, Passed, near_by}
+use Rattle.branches.specs.Branches.{Branch, Open, Passed, near_by}
 use Rattle.branches.proofs.Branch.{place_free, added_low, within_all, some_size}
 
 -- one that fits and has the greatest total
@@ -20,13 +20,7 @@ module _ (ok : ℕ → Bool) (tot : ℕ → ℕ) (most m : ℕ) {w : ℕ} (ew : 
   unfolding near_by
   near_other n = rw (← ew, ne_eqb w most n)
 
-pub passed_none : {ok : ℕ → Bool} {tot : ℕ → ℕ} {most mask left : ℕ} → Passed ok tot most mask left 0
-passed_none = record { few = omega arith; none = λ j l. absurd (omega arith) }
-
 module _ {ok : ℕ → Bool} {tot : ℕ → ℕ} {most mask left size : ℕ} (B : Branch mask size) (room : size ≤ left) where
-  pub passed_cut : Past ok tot most mask size → Passed ok tot most mask left size
-  passed_cut p = record { few = room; none = λ j l. inl (p j l) }
-
   -- all undecided bids fit: to any combination but the last one of them can be added
   pub passed_open : Cuttable ok tot → ok (mask + (size - 1)) ≡ true → Passed ok tot most mask left (size - 1)
   passed_open C t = record { few = omega arith; none = λ j l. inr (inr (open_at j l)) }
@@ -45,10 +39,3 @@ module _ {ok : ℕ → Bool} {tot : ℕ → ℕ} {most mask left size : ℕ} (B 
             fits = ap ok more
                 ∙ C.down (mask + (j + 2 ^ i)) (mask + (size - 1)) (omega (arith, B.room, h)) (omega (arith, B.room, some_size B)) (within_all B (j + 2 ^ i) h) t;
           }
-
-module _ {ok : ℕ → Bool} {tot : ℕ → ℕ} {most mask left n : ℕ} (O : Other tot most mask n) where
-  pub passed_others : n ≤ left → Passed ok tot most mask left n
-  passed_others h = record { few = h; none = λ j l. inr (inl (O.none j l)) }
-
-  pub passed_left : left < n → Passed ok tot most mask left left
-  passed_left h = record { few = omega arith; none = λ j l. inr (inl (O.none j (omega arith))) }

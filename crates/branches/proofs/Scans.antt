@@ -15,7 +15,7 @@ use Rattle.sheet.specs.Sheet.{columns}
 use Rattle.combinations.specs.Combinations.{year_sets, part_size, two_parts, three_parts, part_cost, part_years, joint_of, union_of}
 use Rattle.ties.specs.Ties.{last_by}
 use Rattle.branches.specs.declared.scan.Upper.{Upper}
-use Rattle.branches.specs.Branches.{upper_of, total_at, Short}
+use Rattle.branches.specs.Branches.{upper_of, total_at}
 
 -- ---- what is read
 pub upper_is : (of : Size) (table : List ℕ) (h : ℕ) {a b d e f g : ℕ} → a ≡ part_years table 1 (h % part_size) → b ≡ part_years table 2 (h / part_size % part_size)
@@ -82,11 +82,3 @@ module _ (of : Size) (table : List ℕ) {u : Upper} (h : ℕ) (eu : u ≡ upper_
       (λ t. subst (λ (x : ℕ). (x < goal) ⊎ (limit < x)) (ew ∙ rw eu (total_last h (end - 1) (omega arith) of table)
       ∙ ap (last_by of table) (sym (eqb-true m (h * part_size + (end - 1)) t))) n)
       (λ f. let d = eqb-false m (h * part_size + (end - 1)) f in P m (omega arith) b)
-
-pub shorts_are : {tot : ℕ → ℕ} {goal limit : ℕ} (from end left : ℕ) → from + end ≤ left → Passing tot goal limit (from + end) left
-    → Short tot goal limit left (left - from - end)
-shorts_are from end left h P = record { few = omega arith; none = λ m a b. P m (omega arith) b }
-
-pub shorts_from : {tot : ℕ → ℕ} {goal limit : ℕ} (from left : ℕ) {end : ℕ} → end ≤ 0 → from ≤ left → Passing tot goal limit (from + end) left
-    → Short tot goal limit left (left - from)
-shorts_from from left e h P = record { few = omega arith; none = λ m a b. P m (omega arith) b }

@@ -1,5 +1,5 @@
 -- What the functions of `branches` compute and need: branches of combinations, and when nothing in one is looked for. Assumes nothing.
-use Rattle.std.specs.Prelude.{ℕ, ◌+◌, ◌-◌, ◌*◌, ◌/◌, ◌%◌, ◌^◌, ◌≤◌, ◌<◌, ◌≡◌, Bool, true, false, ◌&&◌, ◌⊎◌, List, get_or, eqb, leb}
+use Rattle.std.specs.Prelude.{ℕ, ◌+◌, ◌-◌, ◌*◌, ◌/◌, ◌%◌, ◌^◌, ◌≤◌, ◌<◌, ◌≡◌, Bool, true, false, ◌&&◌, ◌⊎◌, List, get_or, eqb, leb, Option, None, Some}
 use Rattle.std.specs.Int.Bits.{bit_or}
 use Rattle.rules.specs.Names.{most_years}
 use Rattle.rules.specs.Lists.{pick}
@@ -7,7 +7,7 @@ use Rattle.rules.specs.Pot.{has}
 use Rattle.sheet.specs.declared.Size.{Size}
 use Rattle.sheet.specs.Sheet.{columns}
 use Rattle.combinations.specs.Combinations.{year_sets, combinations, part_size, most_base, part_cost, part_years, Tabled}
-use Rattle.branches.specs.declared.greatest.Found.{Found}
+use Rattle.ties.specs.declared.best.Best.{Best}
 use Rattle.branches.specs.declared.scan.Upper.{Upper}
 
 -- ---- branches: the combinations, so many, from `mask` on, which have the higher binary places of `mask` and differ in the lower ones
@@ -31,9 +31,13 @@ pub record Fallen (ok : ℕ → Bool) (tot : ℕ → ℕ) (goal left n : ℕ) : 
 
 -- ---- the best, with the larger numbers first
 
--- a look at one more
-unfoldable pub met_of : (ok : ℕ → Bool) (tot : ℕ → ℕ) (mask : ℕ) → Found → Found
-met_of ok tot mask f = pick (ok mask && leb f.goal (tot mask)) (record { mask = mask; goal = tot mask + 1 }) f
+-- what another must have to be better than the one found, if one is; and a look at one more
+abbrev pub goal_of : Option Best → ℕ
+goal_of None = 0
+goal_of (Some b) = b.total + 1
+
+unfoldable pub met_of : (ok : ℕ → Bool) (tot : ℕ → ℕ) (goal mask : ℕ) → Option Best
+met_of ok tot goal mask = pick (ok mask && leb goal (tot mask)) (Some (record { mask = mask; total = tot mask })) None
 
 -- ---- the numbers whose upper parts are those of h: which years these touch and what they count in the last year; and the total with the lowest part v
 pub record Lasting (of : Size) (table : List ℕ) : Type 0 where

@@ -56,12 +56,10 @@ pub fn others(of: Size, table: &Table, most: u64, mask: u32) -> u32
 {
     let up = above(of, table, (mask / ONE_LOW) as usize);
     let low = mask % ONE_LOW;
-    let mut v = low;
-    while v < ONE_LOW {
+    for v in low..ONE_LOW {
         if total(of, table, up, v as usize) == most {
             return v - low;
         }
-        v += 1;
     }
     ONE_LOW - low
 }
@@ -74,15 +72,11 @@ pub fn shorts(of: Size, table: &Table, goal: u64, limit: u64, left: u32) -> u32
     let head = (left - 1) / ONE_LOW;
     let up = above(of, table, head as usize);
     let from = head * ONE_LOW;
-    let mut end = left - from;
-    while end > 0 {
-        let w = total(of, table, up, (end - 1) as usize);
-        if w >= goal {
-            if w <= limit {
-                return left - from - end;
-            }
+    for v in (0..left - from).rev() {
+        let w = total(of, table, up, v as usize);
+        if w >= goal && w <= limit {
+            return left - from - (v + 1);
         }
-        end -= 1;
     }
     left - from
 }

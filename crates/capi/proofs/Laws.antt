@@ -4,8 +4,7 @@ use mathlib.Core.Path.{◌≡◌, ap}
 use native.Mathlib.Omega.{arith}
 use Rattle.rules.specs.Names.{result_short}
 use Rattle.rules.specs.Result.{refused_as, refused_at, code_of}
-use Rattle.rules.specs.declared.Answer.{Answer}
-use Rattle.rules.specs.declared.Answer.TheVariants.{Cleared, Refused}
+use Rattle.rules.specs.Answer.{Answer, Cleared, Refused}
 use Rattle.laws_reading.specs.Small.{largest}
 use Rattle.round.specs.Round.{SmallAnswer}
 

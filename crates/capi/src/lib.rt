@@ -2,23 +2,24 @@
 #![tactic(auto)]
 
 ghost use Rattle.std.specs.Prelude.{◌≡◌};
+ghost use Rattle.rules.specs.Answer.{answer_in};
 ghost use Rattle.rules.specs.Result.{code_of, length_of};
 ghost use Rattle.capi.specs.One.{Codes};
 ghost use Rattle.round.specs.Round.{SmallAnswer};
 
-use rules::Answer;
+use rules::Refusal;
 
 // 2^32, above every offset.
 const NUMBER: u64 = 4294967296;
 
 // An answer as one number.
-fn code(r: Answer) -> u64
-    requires { SmallAnswer r }
-    ensures { result ≡ code_of r }
+fn code(r: Result<usize, Refusal>) -> u64
+    requires { SmallAnswer (answer_in r) }
+    ensures { result ≡ code_of (answer_in r) }
 {
     match r {
-        Answer::Cleared { length: _ } => 0,
-        Answer::Refused { number, at } => number * NUMBER + at as u64,
+        Ok(_) => 0,
+        Err(refusal) => refusal.rule.number() * NUMBER + refusal.at as u64,
     }
 }
 
@@ -27,8 +28,7 @@ fn code(r: Answer) -> u64
 pub extern "C" fn gustmirror_clear(file: &[u8], res: &mut [u8]) -> u64
     ensures { Codes file.now res.old result res.new }
 {
-    let r = round::clear(file, res);
-    code(r)
+    code(round::clear(file, res))
 }
 
 // How long a result the file needs, 0 where it is refused.

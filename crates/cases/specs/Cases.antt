@@ -1,13 +1,10 @@
 -- Files from a reader. Assumes nothing.
-use Rattle.std.specs.Prelude.{ℕ, ◌≤◌}
-use Rattle.cases.specs.declared.Got.{Got}
-use Rattle.cases.specs.declared.Got.TheVariants.{File, End}
+use Rattle.std.specs.Prelude.{ℕ, ◌≤◌, Option, IfSome}
 
 -- room for the longest round file and bytes after it
 abbrev pub room : ℕ
 room = 8192
 
 -- a file that was read is within the room
-unfoldable pub Within : Got → Type 0
-Within (File length) = length ≤ room
-Within End = Unit {0}
+abbrev pub Within : Option ℕ → Type 0
+Within got = IfSome got (λ length. length ≤ room)

@@ -7,9 +7,9 @@ fn main(rt: HostRuntime) -> io::Result<()> {
     let mut file = layout::blank_file();
     let n = cases::read_full(&mut rt.reader(), &mut file)?;
     let mut text = listing::blank();
-    let m = round::list(&file[..n], &mut text);
-    if m <= text.len() {
-        rt.write_all(&text[..m])?;
+    let length = round::list(&file[..n], &mut text);
+    if let Some(listed) = text.get(..length) {
+        rt.write_all(listed)?;
     }
     Ok(())
 }

@@ -1,11 +1,16 @@
 -- Laws of combinations over plain variables: each answers one need of a proof. Assumes nothing.
 use Prim.Native.Nat.{ℕ, ◌+◌, ◌-◌, ◌*◌, ◌/◌, ◌%◌, ◌^◌, ◌≤◌, ◌<◌}
-use mathlib.Core.Path.{◌≡◌, sym, ap, ◌∙◌}
+use mathlib.Core.Path.{◌≡◌, sym, ap, ap₂, ◌∙◌}
 use mathlib.Core.Bool.{Bool, true, false}
-use mathlib.Core.List.{List}
+use mathlib.Core.List.{List, ◌++◌}
+use borrow.Author.Rules.{rules}
+use borrow.Rule.Slice.PartMut.{put_mid}
+use Rattle.std.proofs.lemmas.List.{same_lists, places, get_or_append_left, get_or-append_right, length-replicate}
 use native.Mathlib.Numerals.{add-one}
 use native.Mathlib.Omega.{arith}
-use lib.ListN.{length, get_or, set}
+use lib.ListN.{length, get_or, set, drop, length-append}
+use lib.Seq.{ext_get_or}
+use native.Mathlib.Decide.{dec_lt}
 use lib.Dec.{ltb}
 use borrow.Author.Tests.{ltb-true, ltb-false, lt-ltb, le-ltb}
 use Rattle.rules.specs.Pot.{has}
@@ -13,15 +18,14 @@ use Rattle.laws_pot.specs.Lists.{case}
 use Rattle.laws_pot.specs.Bits.{add_lt}
 use Rattle.rules.specs.Names.{most_deliveries}
 use Rattle.arrays.specs.Sets.{fill, placed, members}
-use Rattle.arrays.proofs.Arrays.{fill_at, fill_rest, placed_fill, zeros}
-use Rattle.arrays.proofs.Laws.{done}
+use Rattle.arrays.proofs.Arrays.{fill_at, fill_length, fill_rest, placed_fill, zeros}
 use Rattle.sheet.specs.declared.Size.{Size}
 use Rattle.sheet.specs.Sheet.{columns, row_year, row_draw}
 use Rattle.totals.specs.Totals.{worth_of, total_of, no_row, filled}
 use Rattle.combinations.specs.declared.Tied.{Tied}
 use Rattle.combinations.specs.Combinations.{part_size, two_parts, three_parts, repriced_to, base_at, no_base, compact_of, listed, above_of, rank_of, start_of}
 use Rattle.combinations.specs.Combinations.{ranks_of, starts_of, tied_of, own_at, touch_of, touched_of, combined_of, one_at, costs_of, one_year_at, years_of}
-use Rattle.combinations.specs.Combinations.{costs_at, dates_at, table_length, table_at, no_table, table_by, part_cost, joint_of}
+use Rattle.combinations.specs.Combinations.{parts, part_rows, cost_at, no_costs, year_at, no_years, costs_at, dates_at, table_length, table_at, no_table, table_by, part_cost, joint_of}
 
 -- ---- the present winners
 module _ (prices : List ℕ) (p t d : ℕ) {b : Bool} {row : List ℕ} (eb : b ≡ has t d) (er : row ≡ repriced_to prices p t d) where
@@ -54,16 +58,22 @@ row_is sheet of marks prices p t c h g =
 
 pub bases_next : (sheet : List ℕ) (of : Size) (marks prices : List ℕ) (p t : ℕ) {trial row base r : List ℕ} → of.columns ≤ columns
     → trial ≡ repriced_to prices p t most_deliveries → row ≡ filled (λ c. total_of sheet of marks trial c of.bids) of.columns
-    → base ≡ fill no_base (base_at sheet of marks prices p) (t * columns) → r ≡ placed (λ c. get_or row c 0) base (t * columns) columns
+    → base ≡ fill no_base (base_at sheet of marks prices p) (t * columns) → r ≡ placed (λ c. get_or row c 0) base (t * columns) (length row)
     → r ≡ fill no_base (base_at sheet of marks prices p) ((t + 1) * columns)
 bases_next sheet of marks prices p t {trial} {row} {base} {r} h et ew eb er =
-    er ∙ ap (λ (l : List ℕ). placed (λ c. get_or row c 0) l (t * columns) columns) eb
+    er ∙ ap₂ (λ (l : List ℕ) (n : ℕ). placed (λ c. get_or row c 0) l (t * columns) n) eb long
     ∙ placed_fill no_base (base_at sheet of marks prices p) (λ c. get_or row c 0) (t * columns) columns
     (λ c g. ap (λ (l : List ℕ). get_or l c 0) ew' ∙ row_is sheet of marks prices p t c h g)
     ∙ ap (fill no_base (base_at sheet of marks prices p)) next
   where
     ew' : row ≡ filled (λ c. total_of sheet of marks (repriced_to prices p t 4) c of.bids) of.columns
     ew' = ew ∙ ap (λ (u : List ℕ). filled (λ c. total_of sheet of marks u c of.bids) of.columns) et
+
+    blank : length no_row ≡ columns
+    blank = unfold no_row in length-replicate {A = ℕ} columns 0
+
+    long : length row ≡ columns
+    long = ap length ew ∙ fill_length no_row (λ c. total_of sheet of marks trial c of.bids) of.columns ∙ blank
 
     next : t * columns + columns ≡ (t + 1) * columns
     next = omega arith
@@ -157,10 +167,63 @@ pub dates_part : (base costs dates : List ℕ) (i : ℕ) → costs_at ≤ i → 
 unfolding table_at
 dates_part base costs dates i h g = rw (le-ltb i costs_at h, le-ltb i dates_at g)
 
-pub table_ends : (base own ranks starts : List ℕ) (k : ℕ) {costs dates out : List ℕ} {n : ℕ} → costs ≡ costs_of own ranks k → dates ≡ years_of ranks starts k
-    → out ≡ fill no_table (table_at base costs dates) n → n ≤ table_length → table_length ≤ n → out ≡ table_by base own ranks starts k
-unfolding table_by
-table_ends base own ranks starts k {costs} {dates} {out} ec ed eo h g = rw (ec, ed) at (done (fill no_table (table_at base costs dates)) eo h g)
+-- the three parts of the table, written one after the other over what is as long as they are
+module _ (old base costs : List ℕ) (a b n : ℕ) (eo : length old ≡ n) (eb : length base ≡ a) (ec : length costs ≡ b - a) (h : a ≤ b) (g : b ≤ n) where
+  room : length (put_mid a (b - a) (base ++ drop a old) costs) ≡ n
+  room = search (rules, places)
+
+  written : (dates : List ℕ) → length dates ≡ n - b → put_mid b (n - b) (put_mid a (b - a) (base ++ drop a old) costs) dates ≡ base ++ (costs ++ dates)
+  written dates ed = same_lists _ _ (search (rules, places)) (λ k d l. grind (arith, places))
+
+costs_long : (own ranks : List ℕ) (k : ℕ) → length (costs_of own ranks k) ≡ parts * part_rows
+unfolding no_costs
+costs_long own ranks k = fill_length no_costs (cost_at own ranks k) (parts * part_rows) ∙ length-replicate {A = ℕ} (parts * part_rows) 0
+
+years_long : (ranks starts : List ℕ) (k : ℕ) → length (years_of ranks starts k) ≡ parts * part_size
+unfolding no_years
+years_long ranks starts k = fill_length no_years (year_at ranks starts k) (parts * part_size) ∙ length-replicate {A = ℕ} (parts * part_size) 0
+
+parts_at : (base costs dates : List ℕ) (i : ℕ) → length base ≡ costs_at → length costs ≡ parts * part_rows
+    → get_or (base ++ (costs ++ dates)) i 0 ≡ table_at base costs dates i
+parts_at base costs dates i eb ec =
+    elim (dec_lt i costs_at) [
+      | yes h ↦ get_or_append_left base (costs ++ dates) 0 i (omega arith) ∙ base_part base costs dates i h
+      | no z ↦
+          let g : costs_at ≤ i = omega (arith, z) in
+          get_or-append_right base (costs ++ dates) costs_at i 0 eb g
+          ∙ elim (dec_lt i dates_at) [
+            | yes h ↦ get_or_append_left costs dates 0 (i - costs_at) (omega arith) ∙ costs_part base costs dates i g h
+            | no y ↦
+                let h : dates_at ≤ i = omega (arith, y) in
+                let e : i - costs_at - parts * part_rows ≡ i - dates_at = omega arith in
+                get_or-append_right costs dates (parts * part_rows) (i - costs_at) 0 ec (omega arith)
+                ∙ ap (λ (x : ℕ). get_or dates x 0) e ∙ dates_part base costs dates i g h
+          ]
+    ]
+
+module _ (base own ranks starts : List ℕ) (k : ℕ) (eb : length base ≡ costs_at) {costs dates first second : List ℕ} (ec : costs ≡ costs_of own ranks k)
+    (ed : dates ≡ years_of ranks starts k) (e1 : first ≡ base) (e2 : second ≡ costs) where
+  pub table_room : (old : List ℕ) → length old ≡ table_length → table_length ≤ length (put_mid costs_at (dates_at - costs_at) (first ++ drop costs_at old) second)
+  table_room old eo = rw (e1, e2, ec) (omega (
+    arith,
+    room old base (costs_of own ranks k) costs_at dates_at table_length eo eb (costs_long own ranks k)
+        (omega arith) (omega arith),
+  ))
+
+  pub table_laid : (old : List ℕ) {third : List ℕ} → length old ≡ table_length → third ≡ dates
+      → put_mid dates_at (table_length - dates_at) (put_mid costs_at (dates_at - costs_at) (first ++ drop costs_at old) second) third
+      ≡ table_by base own ranks starts k
+  unfolding table_by no_table
+  table_laid old eo e3 =
+      let cs = costs_of own ranks k in
+      let ds = years_of ranks starts k in
+      let at = table_at base cs ds in
+      let long : length (base ++ (cs ++ ds)) ≡ table_length =
+      omega (arith, length-append base (cs ++ ds), length-append cs ds, costs_long own ranks k, years_long ranks starts k) in
+      rw (e1, e2, e3, ec, ed) (
+      written old base cs costs_at dates_at table_length eo eb (costs_long own ranks k) (omega arith) (omega arith) ds (years_long ranks starts k)
+      ∙ ext_get_or 0 (base ++ (cs ++ ds)) (fill no_table at table_length) (omega (arith, long, fill_length no_table at table_length))
+      (λ i l. parts_at base cs ds i eb (costs_long own ranks k) ∙ sym (fill_at no_table at table_length i 0 (omega arith) (omega (arith, long)))))
 
 pub joint_is : (table : List ℕ) (mask t c : ℕ) {low second third high : ℕ} → low ≡ part_cost table 0 (mask % part_size) c
     → second ≡ part_cost table 1 (mask / part_size % part_size) c → third ≡ part_cost table 2 (mask / two_parts % part_size) c

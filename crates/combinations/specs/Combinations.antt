@@ -7,7 +7,7 @@ use Rattle.rules.specs.Lists.{pick, sift}
 use Rattle.rules.specs.Pot.{has}
 use Rattle.arrays.specs.Sets.{fill, members}
 use Rattle.sheet.specs.declared.Size.{Size}
-use Rattle.sheet.specs.Sheet.{columns, row_year, row_draw, Ready}
+use Rattle.sheet.specs.Sheet.{columns, row_year, row_draw}
 use Rattle.totals.specs.Totals.{worth_of, total_of}
 use Rattle.combinations.specs.declared.Tied.{Tied}
 

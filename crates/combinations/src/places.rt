@@ -39,19 +39,7 @@ pub fn top(v: usize) -> u32
     requires { (0 < v) × (v < part_size) }
     ensures { (result < part_places) × (2 ^ result ≤ v) × (v < 2 * 2 ^ result) }
 {
-    if v < 2 {
-        return 0;
-    }
-    if v < 4 {
-        return 1;
-    }
-    if v < 8 {
-        return 2;
-    }
-    if v < 16 {
-        return 3;
-    }
-    4
+    v.ilog2()
 }
 
 // As many parts as have the places of so many bids.
@@ -59,7 +47,7 @@ pub fn parts_of(count: usize) -> usize
     requires { count ≤ widest_tie }
     ensures { (count ≤ result * part_places) × (result ≤ parts) }
 {
-    (count + PART_PLACES - 1) / PART_PLACES
+    count.div_ceil(PART_PLACES)
 }
 
 // The set t of delivery years, with year d.

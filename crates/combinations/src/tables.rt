@@ -1,9 +1,9 @@
 // What the bids of a tie count in each column, and in which delivery years they start: of each bid, and of each combination of the places of one part of its
 // number; and beside what the present winners count, in one table, off which a combination is read.
 ghost use Rattle.std.specs.Prelude.{◌≡◌, ◌*◌, ◌/◌, ◌≤◌, ◌<◌};
-ghost use Rattle.sheet.specs.Sheet.{columns, Ready};
-ghost use Rattle.combinations.specs.Combinations.{year_sets, combinations, most_base, table_length, Numbers, Placed, Owned, own_at, owns_of, touched_of};
-ghost use Rattle.combinations.specs.Combinations.{combined_of, ones_of, costs_of, one_years_of, years_of, table_at, table_by, part_cost, part_years, joint_of};
+ghost use Rattle.sheet.specs.Sheet.{columns};
+ghost use Rattle.combinations.specs.Combinations.{year_sets, combinations, most_base, Numbers, Placed, Owned, own_at, owns_of, touched_of};
+ghost use Rattle.combinations.specs.Combinations.{combined_of, ones_of, costs_of, one_years_of, years_of, table_by, part_cost, part_years, joint_of};
 ghost use Rattle.combinations.specs.Combinations.{union_of, Tabled, Parted, Joining};
 
 use super::Tied;
@@ -11,7 +11,7 @@ use super::places::{
     PART, PART_PLACES, PARTS, SETS, THREE_PARTS, TWO_PARTS, member, parts_of, power, top, touch,
 };
 use names::WIDEST_TIE;
-use sheet::{COLUMNS, Sheet, Size};
+use sheet::{COLUMNS, Sheet};
 
 // What the present winners count: a row of columns for each set of delivery years that has the price of the tie.
 pub type Base = [u64; SETS * COLUMNS];
@@ -35,28 +35,25 @@ const DATES_AT: usize = COSTS_AT + PARTS * ROWS;
 pub type Table = [u64; DATES_AT + PARTS * PART];
 
 // One place of `owns`.
-fn own_at(sheet: &Sheet, of: Size, tied: Tied, price: u64, i: usize) -> u64
-    requires { Ready sheet.now of × Numbers tied.bids tied.count of.bids × (i / columns < tied.count) }
-    ensures { result ≡ own_at sheet.now of tied.bids price i }
+fn own_at(sheet: &Sheet, tied: Tied, price: u64, i: usize) -> u64
+    requires { Numbers tied.bids tied.count sheet.now.size.bids × (i / columns < tied.count) }
+    ensures { result ≡ own_at sheet.now.cells.now sheet.now.size tied.bids price i }
 {
     let c = i % COLUMNS;
-    if c < of.columns {
-        return totals::worth(sheet, of, tied.bids[i / COLUMNS], price, c);
+    if c < sheet.size.columns {
+        return totals::worth(sheet, tied.bids[i / COLUMNS], price, c);
     }
     0
 }
 
 // What each bid counts at a price.
-pub fn owns(sheet: &Sheet, of: Size, tied: Tied, price: u64) -> Owns
-    requires { Ready sheet.now of × Numbers tied.bids tied.count of.bids }
-    ensures { result ≡ owns_of sheet.now of tied.bids price tied.count }
+pub fn owns(sheet: &Sheet, tied: Tied, price: u64) -> Owns
+    requires { Numbers tied.bids tied.count sheet.now.size.bids }
+    ensures { result ≡ owns_of sheet.now.cells.now sheet.now.size tied.bids price tied.count }
 {
     let mut own = [0u64; WIDEST_TIE * COLUMNS];
-    let end = tied.count * COLUMNS;
-    let mut i: usize = 0;
-    while i < end {
-        own[i] = own_at(sheet, of, tied, price, i);
-        i += 1;
+    for i in 0..tied.count * COLUMNS {
+        own[i] = own_at(sheet, tied, price, i);
     }
     own
 }
@@ -67,13 +64,10 @@ fn touched(tied: Tied, mask: u32) -> u32
     ensures { (result ≡ touched_of tied.ranks tied.starts mask tied.count) × (result < year_sets) }
 {
     let mut t: u32 = 0;
-    let count = tied.count;
-    let mut j: usize = 0;
-    while j < count {
+    for j in 0..tied.count {
         if member(mask, tied.ranks[j]) {
             t = touch(t, tied.starts[j]);
         }
-        j += 1;
     }
     t
 }
@@ -84,13 +78,10 @@ fn combined(own: &Owns, tied: Tied, mask: u32, c: usize) -> u64
     ensures { result ≡ combined_of own.now tied.ranks mask c tied.count }
 {
     let mut sum: u64 = 0;
-    let count = tied.count;
-    let mut j: usize = 0;
-    while j < count {
+    for j in 0..tied.count {
         if member(mask, tied.ranks[j]) {
             sum += own[j * COLUMNS + c];
         }
-        j += 1;
     }
     sum
 }
@@ -101,12 +92,9 @@ fn ones(own: &Owns, tied: Tied) -> Owns
     ensures { result ≡ ones_of own.now tied.ranks tied.count }
 {
     let mut out = [0u64; WIDEST_TIE * COLUMNS];
-    let end = tied.count * COLUMNS;
-    let mut i: usize = 0;
-    while i < end {
+    for i in 0..tied.count * COLUMNS {
         let place = power((i / COLUMNS) as u32);
         out[i] = combined(own, tied, place, i % COLUMNS);
-        i += 1;
     }
     out
 }
@@ -118,17 +106,14 @@ fn costs(own: &Owns, tied: Tied) -> Costs
 {
     let one = ones(own, tied);
     let mut out = [0u64; PARTS * ROWS];
-    let end = parts_of(tied.count) * ROWS;
-    let mut i: usize = 0;
-    while i < end {
+    for i in 0..parts_of(tied.count) * ROWS {
         let v = i / COLUMNS % PART;
         if v > 0 {
-            let r = top(v) as usize;
-            let less = power(r as u32) as usize;
-            let alone = one[(i / ROWS * PART_PLACES + r) * COLUMNS + i % COLUMNS];
+            let r = top(v);
+            let less = power(r) as usize;
+            let alone = one[(i / ROWS * PART_PLACES + r as usize) * COLUMNS + i % COLUMNS];
             out[i] = out[i - less * COLUMNS] + alone;
         }
-        i += 1;
     }
     out
 }
@@ -139,11 +124,8 @@ fn one_years(tied: Tied) -> [u64; WIDEST_TIE]
     ensures { result ≡ one_years_of tied.ranks tied.starts tied.count }
 {
     let mut out = [0u64; WIDEST_TIE];
-    let count = tied.count;
-    let mut i: usize = 0;
-    while i < count {
-        out[i] = touched(tied, power(i as u32)) as u64;
-        i += 1;
+    for i in 0..tied.count {
+        out[i] = u64::from(touched(tied, power(i as u32)));
     }
     out
 }
@@ -155,32 +137,15 @@ fn years(tied: Tied) -> Dates
 {
     let one = one_years(tied);
     let mut out = [0u64; PARTS * PART];
-    let end = parts_of(tied.count) * PART;
-    let mut i: usize = 0;
-    while i < end {
+    for i in 0..parts_of(tied.count) * PART {
         let v = i % PART;
         if v > 0 {
-            let r = top(v) as usize;
-            let less = power(r as u32) as usize;
-            out[i] = out[i - less] | one[i / PART * PART_PLACES + r];
+            let r = top(v);
+            let less = power(r) as usize;
+            out[i] = out[i - less] | one[i / PART * PART_PLACES + r as usize];
         }
-        i += 1;
     }
     out
-}
-
-// One place of `table`.
-fn table_at(base: &Base, costs: &Costs, dates: &Dates, i: usize) -> u64
-    requires { i < table_length }
-    ensures { result ≡ table_at base.now costs.now dates.now i }
-{
-    if i < COSTS_AT {
-        return base[i];
-    }
-    if i < DATES_AT {
-        return costs[i - COSTS_AT];
-    }
-    dates[i - DATES_AT]
 }
 
 // All that the totals of combinations are read off.
@@ -191,11 +156,9 @@ pub fn table(base: &Base, own: &Owns, tied: Tied) -> Table
     let costs = costs(own, tied);
     let dates = years(tied);
     let mut out = [0u64; DATES_AT + PARTS * PART];
-    let mut i: usize = 0;
-    while i < DATES_AT + PARTS * PART {
-        out[i] = table_at(base, &costs, &dates, i);
-        i += 1;
-    }
+    out[..COSTS_AT].copy_from_slice(base);
+    out[COSTS_AT..DATES_AT].copy_from_slice(&costs);
+    out[DATES_AT..].copy_from_slice(&dates);
     out
 }
 

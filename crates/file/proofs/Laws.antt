@@ -11,8 +11,7 @@ use Rattle.rules.specs.Bytes.{le, part}
 use Rattle.rules.specs.File.{round_of, sections, sections_of, pots_told, gained_told, app_at, pots_at, techs_at, apps_at, bids_at, end_at}
 use Rattle.rules.specs.Refusals.{scan, plain, count_fault, section, seven_of, eight_of, nine_of, bid_fault, eleven_of, judged, reading}
 use Rattle.rules.specs.declared.Sections.{Sections}
-use Rattle.rules.specs.declared.Reading.{Reading}
-use Rattle.rules.specs.declared.Reading.TheVariants.{Accepted, Refused}
+use Rattle.rules.specs.Reading.{Reading, Accepted, Refused}
 use Rattle.laws_reading.specs.Walk.{given_yes, given_no, refuses}
 use Rattle.laws_reading.specs.Reading.{holds, GainedTold, gained_told_lem, YearRight, year_right, app_right, deliveries_most, counts}
 use Rattle.laws_reading.specs.Fault.{Table, years, pots, techs, apps, bids, tables, says, count_is, record_is, judges, judges_all, Right, AllRight, none, also}
@@ -355,23 +354,23 @@ module _ (s : List ℕ) {g : Sections} (h : read_bids s ≡ Accepted g) where
 
 -- ---- a refusal in a section is the file's
 
-module _ (s : List ℕ) {r : Reading} {m x : ℕ} (e : r ≡ Refused m x) where
-  pub years_stop : r ≡ read_years s → r ≡ reading s
+module _ (s : List ℕ) {m x : ℕ} where
+  pub years_stop : Refused m x ≡ read_years s → Refused m x ≡ reading s
   unfolding read_years reading judged
-  years_stop p = e ∙ sym (stops s (to_years (round_of s)) (after_years s) _ (sym p ∙ e))
+  years_stop p = sym (stops s (to_years (round_of s)) (after_years s) _ (sym p))
 
-  pub pots_stop : r ≡ read_pots s → r ≡ reading s
+  pub pots_stop : Refused m x ≡ read_pots s → Refused m x ≡ reading s
   unfolding read_pots reading judged
-  pots_stop p = e ∙ sym (stops s (to_pots (round_of s)) (after_pots s) _ (sym p ∙ e))
+  pots_stop p = sym (stops s (to_pots (round_of s)) (after_pots s) _ (sym p))
 
-  pub techs_stop : r ≡ read_techs s → r ≡ reading s
+  pub techs_stop : Refused m x ≡ read_techs s → Refused m x ≡ reading s
   unfolding read_techs reading judged
-  techs_stop p = e ∙ sym (stops s (to_techs (round_of s)) (after_techs s) _ (sym p ∙ e))
+  techs_stop p = sym (stops s (to_techs (round_of s)) (after_techs s) _ (sym p))
 
-  pub apps_stop : r ≡ read_apps s → r ≡ reading s
+  pub apps_stop : Refused m x ≡ read_apps s → Refused m x ≡ reading s
   unfolding read_apps reading judged
-  apps_stop p = e ∙ sym (stops s (to_apps (round_of s)) (after_apps s) _ (sym p ∙ e))
+  apps_stop p = sym (stops s (to_apps (round_of s)) (after_apps s) _ (sym p))
 
-  pub bids_stop : r ≡ read_bids s → r ≡ reading s
+  pub bids_stop : Refused m x ≡ read_bids s → Refused m x ≡ reading s
   unfolding read_bids reading judged
-  bids_stop p = e ∙ sym (stops s (tables (round_of s)) (sections_of (round_of s)) _ (sym p ∙ e))
+  bids_stop p = sym (stops s (tables (round_of s)) (sections_of (round_of s)) _ (sym p))

@@ -5,8 +5,7 @@ use Rattle.rules.specs.Names.{count_outside, count_width, pot_width, tech_width,
 use Rattle.rules.specs.Lists.{given, both}
 use Rattle.rules.specs.File.{Round, round_of, sections_of}
 use Rattle.rules.specs.declared.Sections.{Sections}
-use Rattle.rules.specs.declared.Reading.{Reading}
-use Rattle.rules.specs.declared.Reading.TheVariants.{Accepted}
+use Rattle.rules.specs.Reading.{Reading, Accepted}
 use Rattle.laws_reading.specs.Fault.{Table, judges_all, years, pots, techs, apps, tables}
 use Rattle.layout.specs.Layout.{laid_out}
 use Rattle.records.specs.Records.{with_years}

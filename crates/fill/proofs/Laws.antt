@@ -1,20 +1,20 @@
 -- The laws of the filling, over plain variables: one for each return and each turn of a loop. Assumes nothing.
-use Prim.Native.Nat.{ℕ, zero, suc, ◌+◌, ◌-◌, ◌*◌, ◌≤◌, ◌<◌}
+use Prim.Native.Nat.{ℕ, zero, suc, ◌+◌, ◌-◌, ◌≤◌, ◌<◌}
 use mathlib.Core.Path.{◌≡◌, refl, sym, ap, subst, ◌∙◌}
 use mathlib.Core.Bool.{Bool, true, false, not}
 use mathlib.Core.Option.{none, some}
 use mathlib.Core.List.{List, [], ◌∷◌}
 use native.Mathlib.Numerals.{add-one}
 use native.Mathlib.Omega.{arith}
-use native.Mathlib.Nat.{add-zero, le_antisymm, mul-le-mul_right}
+use native.Mathlib.Nat.{add-zero, mul-le-mul_right}
 use lib.ListN.{length, get_or, set, take, drop, length-set, get_or-replicate}
 use lib.Seq.{get_or-drop, get_or-set_same, get_or-set_other}
 use lib.Dec.{eqb, ltb}
 use borrow.Author.Tests.{eqb-true, eqb-false, eq-eqb, ne_eqb, lt-ltb, le-ltb}
-use Rattle.rules.specs.Names.{most_years, most_bids, most_apps, no_cap, cap_width, pot_width, pence_per_pound, highest_budget}
+use Rattle.rules.specs.Names.{most_years, most_bids, most_apps, no_cap, cap_width, pot_width}
 use Rattle.rules.specs.Lists.{pick, sift, below}
 use Rattle.rules.specs.Bytes.{part}
-use Rattle.rules.specs.File.{Round, App, Bid, app_at, bid_at, budget_at, cap_at, drawn_at}
+use Rattle.rules.specs.File.{Round, Bid, app_at, bid_at, cap_at, drawn_at}
 use Rattle.rules.specs.Round.{Row, blank, at_admin_price, mine, app_mine, row_for, cap_of, drawn_of}
 use Rattle.laws_pot.specs.Lists.{case}
 use Rattle.laws_reading.specs.Reading.{Sound}
@@ -24,9 +24,8 @@ use Rattle.sheet.specs.Sheet.{entrants_at, limit_at, absent, entered, row_standi
 use Rattle.sheet.specs.Sheet.{sheet_length, drawn_place, drawn_in, number_in, admins_at, admin_at, figures_at, places, app_place}
 use Rattle.rows.specs.Rows.{row_of, admin_row, row_numbers, figure_numbers, figures_in}
 use Rattle.rows.proofs.Laws.{figure_blank, figure_own}
-use Rattle.fill.specs.Fill.{BlankAdmins, BlankFrom, Stands, Kept, Rest, Put, Figured, placed, RowsRight, AdminsRight, FiguresRight, AllFigures}
-use Rattle.fill.specs.Fill.{LimitsRight}
-use Rattle.fill.specs.Fill.{AdminsWritten, FiguresOf, FiguresWritten, CapWritten, DrawnWritten, Entered}
+use Rattle.fill.specs.Fill.{BlankAdmins, BlankFrom, tech_of, Stands, Kept, Rest, Put, Figured, placed, RowsRight, AdminsRight, FiguresRight, AllFigures}
+use Rattle.fill.specs.Fill.{FiguresOf, CapWritten, DrawnWritten}
 
 -- ---- the record of a pot
 
@@ -43,35 +42,11 @@ take_byte (suc n) (x ∷ s) h (suc i) = take_byte n s (λ j. h (suc j)) i
 pub part_byte : (s : List ℕ) (a e : ℕ) → ((i : ℕ) → get_or s i 0 < 256) → (i : ℕ) → get_or (part s a e) i 0 < 256
 part_byte s a e h i = take_byte (e - a) (drop a s) (λ j. rw (get_or-drop a s j 0) (h (a + j))) i
 
--- ---- numbers put at a place
-
-pub put_none : (v : List ℕ) (at : ℕ) (s : List ℕ) → Put v 0 at s s
-put_none v at s = record { inside = λ j h. absurd (omega arith); kept = λ j h. refl; rest = λ j h. refl; same = refl }
-
--- one number more
-pub put_more : (v : List ℕ) (n at : ℕ) {s t : List ℕ} → Put v n at s t → at + n < length s → Put v (n + 1) at s (set t (at + n) (get_or v n 0))
-put_more v n at {s} {t} p h =
-    let l : at + n < length t = omega (arith, p.same) in
-    record {
-      inside = λ j i. case (eqb j n)
-          (λ e. let q = eqb-true j n e in rw (q) (get_or-set_same t (at + n) (get_or v n 0) 0 l))
-          (λ e.
-          let q = eqb-false j n e in
-          get_or-set_other t (at + n) (at + j) (get_or v n 0) 0 (λ z. q (omega arith)) ∙ p.inside j (let d : j < n = omega (arith, q) in d));
-      kept = λ j i. get_or-set_other t (at + n) j (get_or v n 0) 0 (λ z. omega arith) ∙ p.kept j i;
-      rest = λ j i. get_or-set_other t (at + n) j (get_or v n 0) 0 (λ z. omega arith) ∙ p.rest j (omega arith);
-      same = length-set t (at + n) (get_or v n 0) ∙ p.same;
-    }
-
 -- ---- the turns of the loops
 
 -- what holds of each number below n, and of n
 pub and_next : (P : ℕ → Type 0) (n : ℕ) → ((k : ℕ) → k < n → P k) → P n → (k : ℕ) → k < n + 1 → P k
 and_next P n f p k h = case (eqb k n) (λ t. subst P (sym (eqb-true k n t)) p) (λ t. let d = eqb-false k n t in f k (let l : k < n = omega (arith, d) in l))
-
--- at the end of a loop all have been seen to
-pub all_of : (P : ℕ → Type 0) {n i : ℕ} → P i → i ≤ n → n ≤ i → P n
-all_of P p h l = subst P (le_antisymm h l) p
 
 -- what stands before a place stays
 stays : (s t v : List ℕ) (place at : ℕ) → Stands v s at → Kept place s t → at + length v ≤ place → Stands v t at
@@ -89,40 +64,21 @@ module _ (R : Round) (p k : ℕ) {v : List ℕ} where
       (λ j l. stays s t (row_numbers R p j) (row_place k) (row_place j) (f j l) q.kept (omega arith))
       (put_stands (row_place k) e q)
 
-pub figures_more : (R : Round) (t : ℕ) (b : Bid) (k y : ℕ) {v s u : List ℕ} → Figured R t b k y s → v ≡ figures_in R t b y
+pub figures_more : (R : Round) (t : ℕ) (b : Bid) (k y : ℕ) {v s u : List ℕ} {x : ℕ} → x ≡ t → Figured R t b k y s → v ≡ figures_in R x b y
     → Put v (length v) (figure_place k y) s u → Figured R t b k (y + 1) u
 unfolding figures_in
-figures_more R t b k y {v} {s} {u} f e q =
+figures_more R t b k y {v} {s} {u} h f e q =
     and_next (λ i. Stands (figures_in R t b i) u (figure_place k i)) y
     (λ j l. stays s u (figures_in R t b j) (figure_place k y) (figure_place k j) (f j l) q.kept (omega arith))
-    (put_stands (figure_place k y) e q)
+    (put_stands (figure_place k y) (e ∙ ap (λ (x : ℕ). figures_in R x b y) h) q)
 
 -- those of a bid whose technology was read are right
-pub figures_own : (R : Round) (k : ℕ) (x : Bid) {a : App} (t s : List ℕ) → a ≡ app_at R.apps x.app → FiguresOf R a.tech x k t s
-    → FiguresRight R (row_for R x) k s
+pub figures_own : (R : Round) (k : ℕ) (x : Bid) (t s : List ℕ) → FiguresOf R (tech_of R x) x k t s → FiguresRight R (row_for R x) k s
 unfolding row_for
-figures_own R k x t s ea f = record {
+figures_own R k x t s f = record {
   capacity = f.capacity;
-  years = λ y l. subst (λ (v : List ℕ). Stands v s (figure_place k y)) (figure_own R x ea y l) (f.right y l);
+  years = λ y l. subst (λ (v : List ℕ). Stands v s (figure_place k y)) (figure_own R x refl y l) (f.right y l);
 }
-
--- a budget, read in the part that the pots occupy, is within its range
-pub budget_in : (R : Round) (p y : ℕ) {pots : List ℕ} {x : ℕ} → Sound R → pots ≡ R.pots → p < R.p → y < R.y → x ≡ budget_at R.y R.c pots p y
-    → x ≤ highest_budget
-budget_in R p y S e h l q = rw (q, e) (S.budget_most p y h l)
-
-pub limits_more : (years gained : ℕ) (pots : List ℕ) (p y : ℕ) (s : List ℕ) {x : ℕ} → y < length s → LimitsRight years gained pots p y s
-    → x ≡ pence_per_pound * budget_at years gained pots p y → LimitsRight years gained pots p (y + 1) (set s y x)
-limits_more years gained pots p y s {x} h f e =
-    and_next (λ k. get_or (set s y x) k 0 ≡ pence_per_pound * budget_at years gained pots p k) y
-    (λ j l. get_or-set_other s y j x 0 (λ z. omega arith) ∙ f j l)
-    (get_or-set_same s y x 0 h ∙ e)
-
--- all of them, read in the part that the pots occupy
-pub limits_all : (R : Round) (p : ℕ) {y : ℕ} {pots : List ℕ} (s : List ℕ) → pots ≡ R.pots → y ≤ R.y → R.y ≤ y → LimitsRight R.y R.c pots p y s
-    → LimitsRight R.y R.c R.pots p R.y s
-limits_all R p {pots = pots} s e h l f =
-    subst (λ (x : List ℕ). LimitsRight R.y R.c x p R.y s) e (all_of (λ n. LimitsRight R.y R.c pots p n s) f h l)
 
 -- the cap of a pot: of a file without caps, none, and one that is the limit after those of the years
 module _ (R : Round) (p : ℕ) (s : List ℕ) (long : length s ≡ sheet_length) where
@@ -234,9 +190,6 @@ pub record Administered (R : Round) (p n : ℕ) (s t : List ℕ) : Type 0 where
   pub rest : Rest (admins_at + n) s t
   pub same : length t ≡ sheet_length
 
-pub admins_none : (R : Round) (p : ℕ) (s : List ℕ) → length s ≡ sheet_length → Administered R p 0 s s
-admins_none R p s h = record { right = λ a l. absurd (omega arith); kept = λ j l. refl; rest = λ j l. refl; same = h }
-
 module _ (R : Round) (p a : ℕ) {s t : List ℕ} (d : Administered R p a s t) where
   pub admins_own : {g : List ℕ} {x : ℕ} → g ≡ set t (admins_at + a) x → a < most_apps → x ≡ (admin_row R p a).admin → Administered R p (a + 1) s g
   admins_own {x = x} e h q = rw e (record {
@@ -257,14 +210,6 @@ module _ (R : Round) (p a : ℕ) {s t : List ℕ} (d : Administered R p a s t) w
     same = d.same;
   })
 
-pub admins_all : (R : Round) (p : ℕ) {n : ℕ} {s t : List ℕ} → n ≤ most_apps → most_apps ≤ n → Administered R p n s t → AdminsWritten R p s t
-admins_all R p {n} {s} {t} h l d = record {
-  right = all_of (λ n. AdminsRight R p n t) d.right h l;
-  kept = d.kept;
-  rest = λ j g. d.rest j (omega arith);
-  long = d.same;
-}
-
 -- ---- the figures at all places
 
 -- in t the figures at the first k places are right; what stands before the figures, and after those, is as in s
@@ -273,22 +218,18 @@ pub record Done (R : Round) (p k : ℕ) (s t : List ℕ) : Type 0 where
   pub kept : Kept figures_at s t
   pub rest : Rest (figures_place k) s t
 
--- where nothing has been done
-pub done_yet : (R : Round) (p k : ℕ) (s : List ℕ) → AllFigures R p k s → Done R p k s s
-done_yet R p k s f = record { right = f; kept = λ j h. refl; rest = λ j h. refl }
-
 module _ (R : Round) (p k : ℕ) {s t : List ℕ} (d : Done R p k s t) where
   -- one place more, where figures were written, in u
-  pub done_own : {u g : List ℕ} (x : Bid) {a : App} → g ≡ u → R.y ≤ most_years → a ≡ app_at R.apps x.app → row_for R x ≡ placed R p k
-      → FiguresOf R a.tech x k t u → Done R p (k + 1) s g
+  pub done_own : {u g : List ℕ} (x : Bid) → g ≡ u → R.y ≤ most_years → row_for R x ≡ placed R p k → FiguresOf R (tech_of R x) x k t u
+      → Done R p (k + 1) s g
   unfolding figure_numbers
-  done_own {u} x e h ea q f = subst (Done R p (k + 1) s) (sym e) record {
+  done_own {u} x e h q f = subst (Done R p (k + 1) s) (sym e) record {
     right = and_next (λ k. FiguresRight R (placed R p k) k u) k
         (λ j g. record {
           capacity = f.kept (figures_place j) (omega arith) ∙ (d.right j g).capacity;
           years = λ i m. stays t u (figure_numbers R (placed R p j) i) (figures_place k) (figure_place j i) ((d.right j g).years i m) f.kept (omega arith);
         })
-        (subst (λ (r : Row). FiguresRight R r k u) q (figures_own R k x t u ea f));
+        (subst (λ (r : Row). FiguresRight R r k u) q (figures_own R k x t u f));
     kept = λ j g. f.kept j (omega arith) ∙ d.kept j g;
     rest = λ j g. f.rest j (omega arith) ∙ d.rest j (omega arith);
   }
@@ -312,14 +253,6 @@ module _ (R : Round) (p k : ℕ) {s t : List ℕ} (d : Done R p k s t) where
 pub done_next : (R : Round) (p a : ℕ) {s t : List ℕ} → Done R p (app_place a + 1) s t → Done R p (app_place (a + 1)) s t
 done_next R p a {s} {t} d = let e : app_place a + 1 ≡ app_place (a + 1) = omega arith in subst (λ (k : ℕ). Done R p k s t) e d
 
-pub done_all : (R : Round) (p n : ℕ) {k : ℕ} {s t : List ℕ} → k ≤ n → n ≤ k → Done R p k s t → length t ≡ sheet_length → FiguresWritten R p n s t
-done_all R p n {k} {s} {t} h l d long = record {
-  right = all_of (λ n. AllFigures R p n t) d.right h l;
-  kept = d.kept;
-  rest = λ j g. d.rest j (omega arith);
-  long = long;
-}
-
 -- whose figures stand at place k: a bid's of the pot, or of another; an application's
 module _ (R : Round) (p k : ℕ) where
   pub placed_bid : {x : Bid} → k < most_bids → mine R p k ≡ true → x ≡ bid_at R.bids k → row_for R x ≡ placed R p k
@@ -329,11 +262,6 @@ module _ (R : Round) (p k : ℕ) where
   pub placed_none : k < most_bids → mine R p k ≡ false → blank ≡ placed R p k
   unfolding placed row_of
   placed_none h m = rw (lt-ltb k most_bids h, m)
-
--- the application that an application at its administrative price is of
-pub own_app : (R : Round) (a : ℕ) {x : Bid} {y : App} → x ≡ at_admin_price R a → y ≡ app_at R.apps a → y ≡ app_at R.apps x.app
-unfolding at_admin_price
-own_app R a ex ey = ey ∙ ap (λ (x : Bid). app_at R.apps x.app) (sym ex)
 
 module _ (R : Round) (p a : ℕ) where
   pub own_place : placed R p (app_place a) ≡ admin_row R p a
@@ -396,12 +324,3 @@ module _ (s : List ℕ) (k n : ℕ) {t : List ℕ} (E : Entering s k n t) {q : B
     rest = E.rest;
     same = E.same;
   })
-
-pub entering_done : (s : List ℕ) {m k n : ℕ} {t : List ℕ} → k ≤ m → m ≤ k → Entering s k n t → Entered m s t n
-entering_done s {m} {k} {n} {t} h l E = record {
-  few = omega (arith, E.few);
-  right = E.right ∙ ap (λ (i : ℕ). sift (in_auction s) (below i)) (le_antisymm h l);
-  kept = E.kept;
-  rest = E.rest;
-  long = E.same;
-}

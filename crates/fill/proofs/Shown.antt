@@ -1,7 +1,7 @@
 -- The sheet that was filled shows the pot, and is ready to be cleared. Assumes nothing.
 use Prim.Native.Nat.{ℕ, ◌+◌, ◌-◌, ◌*◌, ◌≤◌, ◌<◌, min}
 use mathlib.Core.Path.{◌≡◌, refl, sym, ap, subst, ◌∙◌}
-use mathlib.Core.Bool.{Bool, true, false}
+use mathlib.Core.Bool.{true, false}
 use mathlib.Core.List.{List}
 use mathlib.Core.Option.{none, some}
 use native.Mathlib.Omega.{arith}
@@ -21,7 +21,7 @@ use Rattle.laws_reading.specs.Reading.{Sound}
 use Rattle.laws_reading.specs.Reading as r
 use Rattle.laws_pot.specs.Mono.{Lawful}
 use Rattle.laws_round.specs.Bids.{mine_in, mine_out, app_in, app_out, lawful}
-use Rattle.sheet.specs.Sheet.{sheet_length, limit_at, entrants, absent, entered, row_standing, row_app, row_year, row_price, row_draw, row_admin, fig_reference}
+use Rattle.sheet.specs.Sheet.{sheet_length, limit_at, entrants, entered, row_standing, row_app, row_year, row_price, row_draw, row_admin, fig_reference}
 use Rattle.sheet.specs.Sheet.{fig_energy, fig_share, parts_at, sheet_cost, in_auction, in_test, admin_at, admin_of, pot_in, Ready, places, app_place, admins_at, row_place}
 use Rattle.sheet.specs.Sheet.{drawn_place, drawn_in, number_in, capacity_at, figures_place, figure_place}
 use Rattle.rows.specs.Rows.{row_of, admin_row, row_numbers, figure_numbers}

@@ -3,7 +3,7 @@ use Rattle.std.specs.Prelude.{ℕ, ◌+◌, ◌-◌, ◌*◌, ◌≤◌, ◌<◌
 use Rattle.std.proofs.Math.Option.{none, some}
 use Rattle.rules.specs.Names.{most_bids, most_apps, pence_per_pound}
 use Rattle.rules.specs.Lists.{pick, sift, below}
-use Rattle.rules.specs.File.{Round, Bid, budget_at}
+use Rattle.rules.specs.File.{Round, Bid, app_at, budget_at}
 use Rattle.rules.specs.Round.{Row, cap_of, drawn_of}
 use Rattle.sheet.specs.declared.Size.{Size}
 use Rattle.sheet.specs.Sheet.{sheet_length, drawn_place, entrants_at, admins_at, figures_at, rows_at, figures_width, row_place, figures_place, figure_place, limit_at}
@@ -38,6 +38,10 @@ pub record Put (v : List ℕ) (n at : ℕ) (s t : List ℕ) : Type 0 where
   pub kept : Kept at s t
   pub rest : Rest (at + n) s t
   pub same : length t ≡ length s
+
+-- the technology of a bid
+abbrev pub tech_of : Round → Bid → ℕ
+tech_of R b = (app_at R.apps b.app).tech
 
 -- the figures of bid b, of technology t, stand at place k, for the first n years
 abbrev pub Figured : Round → (t : ℕ) → Bid → (k n : ℕ) → List ℕ → Type 0

@@ -5,7 +5,6 @@
 ghost use Rattle.std.specs.Prelude.{◌≡◌, ◌≤◌, length};
 ghost use Rattle.rules.specs.Names.{most_bids, widest_tie};
 ghost use Rattle.arrays.specs.Sets.{members};
-ghost use Rattle.sheet.specs.Sheet.{Ready};
 ghost use Rattle.combinations.specs.Combinations.{Few, Numbers, compact_of, above_of, ranks_of, starts_of, tied_of};
 
 pub mod winners;
@@ -21,70 +20,61 @@ fn compact(of: Size, set: [bool; BIDS]) -> [usize; WIDEST_TIE]
 {
     let mut list = [0usize; WIDEST_TIE];
     let mut c: usize = 0;
-    let bids = of.bids;
-    let mut k: usize = 0;
-    while k < bids {
+    for k in 0..of.bids {
         if set[k] {
             list[c] = k;
             c += 1;
         }
-        k += 1;
     }
     list
 }
 
 // How many of the first bids of a list, `count` of them, have a draw above x.
-fn above(sheet: &Sheet, of: Size, list: &[usize; WIDEST_TIE], count: usize, x: u64) -> u32
-    requires { Ready sheet.now of × Numbers list.now count of.bids }
-    ensures { result ≡ above_of sheet.now list.now x count }
+fn above(sheet: &Sheet, list: &[usize; WIDEST_TIE], count: usize, x: u64) -> u32
+    requires { Numbers list.now count sheet.now.size.bids }
+    ensures { result ≡ above_of sheet.now.cells.now list.now x count }
 {
     let mut n: u32 = 0;
-    let mut j: usize = 0;
-    while j < count {
-        if sheet::draw(sheet, list[j]) > x {
+    for k in &list[..count] {
+        if sheet::draw(sheet.cells, *k) > x {
             n += 1;
         }
-        j += 1;
     }
     n
 }
 
 // The binary place of each bid: the lowest draw highest.
-fn ranks(sheet: &Sheet, of: Size, list: &[usize; WIDEST_TIE], count: usize) -> [u32; WIDEST_TIE]
-    requires { Ready sheet.now of × Numbers list.now count of.bids }
-    ensures { result ≡ ranks_of sheet.now list.now count }
+fn ranks(sheet: &Sheet, list: &[usize; WIDEST_TIE], count: usize) -> [u32; WIDEST_TIE]
+    requires { Numbers list.now count sheet.now.size.bids }
+    ensures { result ≡ ranks_of sheet.now.cells.now list.now count }
 {
     let mut out = [0u32; WIDEST_TIE];
-    let mut j: usize = 0;
-    while j < count {
-        out[j] = above(sheet, of, list, count, sheet::draw(sheet, list[j]));
-        j += 1;
+    for j in 0..count {
+        out[j] = above(sheet, list, count, sheet::draw(sheet.cells, list[j]));
     }
     out
 }
 
 // The start year of each bid.
-fn starts(sheet: &Sheet, of: Size, list: &[usize; WIDEST_TIE], count: usize) -> [u32; WIDEST_TIE]
-    requires { Ready sheet.now of × Numbers list.now count of.bids }
-    ensures { result ≡ starts_of sheet.now list.now count }
+fn starts(sheet: &Sheet, list: &[usize; WIDEST_TIE], count: usize) -> [u32; WIDEST_TIE]
+    requires { Numbers list.now count sheet.now.size.bids }
+    ensures { result ≡ starts_of sheet.now.cells.now list.now count }
 {
     let mut out = [0u32; WIDEST_TIE];
-    let mut j: usize = 0;
-    while j < count {
-        out[j] = sheet::year(sheet, list[j]) as u32;
-        j += 1;
+    for j in 0..count {
+        out[j] = sheet::year(sheet.cells, list[j]) as u32;
     }
     out
 }
 
 // The bids of a set, of which there are `count`.
-pub fn gathered(sheet: &Sheet, of: Size, set: [bool; BIDS], count: usize) -> Tied
-    requires { Ready sheet.now of × Few of set count }
-    ensures { result ≡ tied_of sheet.now of set count }
+pub fn gathered(sheet: &Sheet, set: [bool; BIDS], count: usize) -> Tied
+    requires { Few sheet.now.size set count }
+    ensures { result ≡ tied_of sheet.now.cells.now sheet.now.size set count }
 {
-    let bids = compact(of, set);
-    let ranks = ranks(sheet, of, &bids, count);
-    let starts = starts(sheet, of, &bids, count);
+    let bids = compact(sheet.size, set);
+    let ranks = ranks(sheet, &bids, count);
+    let starts = starts(sheet, &bids, count);
     Tied {
         count,
         bids,

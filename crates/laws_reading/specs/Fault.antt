@@ -11,8 +11,7 @@ use Rattle.rules.specs.File.{Round, pots_told, round_of, sections, sections_of, 
 use Rattle.rules.specs.Refusals.{refusal, or_else, scan, plain, count_fault, record_fault, section, year_fault, pot_fault, tech_fault, app_fault, bid_fault, eleven_of}
 use Rattle.rules.specs.Refusals.{judged, reading, IsAccepted}
 use Rattle.rules.specs.declared.Sections.{Sections}
-use Rattle.rules.specs.declared.Reading.{Reading}
-use Rattle.rules.specs.declared.Reading.TheVariants.{Accepted, Refused}
+use Rattle.rules.specs.Reading.{Reading, Accepted, Refused}
 use Rattle.laws_reading.specs.Walk.{given_yes, given_no, refuses, or_passed}
 use Rattle.laws_reading.specs.Reading.{holds, all_passed, all_whole, Sound, accepted}
 

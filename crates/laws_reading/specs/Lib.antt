@@ -4,3 +4,4 @@ pub mod Reading
 pub mod Small
 pub mod Fault
 pub mod Longer
+pub mod Faults

@@ -15,8 +15,7 @@ use Rattle.rules.specs.File.{Round, sections, round_of, sections_of, deliveries,
 use Rattle.rules.specs.Refusals.{refusal, or_else, scan, plain, count_fault, record_fault, section, year_fault, pot_fault, tech_fault, app_fault, bid_fault, eleven_of}
 use Rattle.rules.specs.Refusals.{judged, reading}
 use Rattle.rules.specs.declared.Sections.{Sections}
-use Rattle.rules.specs.declared.Reading.{Reading}
-use Rattle.rules.specs.declared.Reading.TheVariants.{Accepted}
+use Rattle.rules.specs.Reading.{Reading, Accepted}
 use Rattle.laws_reading.specs.Walk.{given_yes, given_no}
 use Rattle.laws_reading.specs.Alike.{le_same, part_same}
 use Rattle.laws_reading.specs.Reading.{holds, gained_told_lem, gained_most}

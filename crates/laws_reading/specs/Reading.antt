@@ -13,7 +13,7 @@ use Rattle.rules.specs.File.{Round, round_of, sections, deliveries, year_at, pot
 use Rattle.rules.specs.File.{bids_at}
 use Rattle.rules.specs.Refusals.{refusal, or_fault, scan, count_fault, record_fault, section, year_fault, pot_fault, tech_fault, app_fault, seven_of, eight_of, nine_of}
 use Rattle.rules.specs.Refusals.{bid_fault, same_app?, same_year?, eleven_of, judged, reading, IsAccepted}
-use Rattle.rules.specs.declared.Reading.{Reading}
+use Rattle.rules.specs.Reading.{Reading}
 use Rattle.laws_reading.specs.Walk.{or_passed}
 
 -- a number given that is 0 though the other is not: the rule holds

@@ -10,8 +10,7 @@ use Rattle.rules.specs.Bytes.{le}
 use Rattle.rules.specs.File.{Round, round_of, sections_of, pots_at, bids_at, end_at}
 use Rattle.rules.specs.Refusals.{refusal, place, or_else, or_fault, scan, count_fault, record_fault, section, year_fault, pot_fault, tech_fault, app_fault, seven_of}
 use Rattle.rules.specs.Refusals.{eight_of, nine_of, bid_fault, eleven_of, judged, reading}
-use Rattle.rules.specs.declared.Reading.{Reading}
-use Rattle.rules.specs.declared.Reading.TheVariants.{Accepted}
+use Rattle.rules.specs.Reading.{Reading, Accepted}
 use Rattle.laws_reading.specs.Reading.{holds, Counts, counts, gained_told_lem, gained_most}
 
 -- the end of the largest round

@@ -7,8 +7,7 @@ use Rattle.rules.specs.Lists.{given, how_many}
 use Rattle.rules.specs.Bytes.{le}
 use Rattle.rules.specs.Refusals.{refusal, or_else, or_fault, scan, record_fault, section}
 use Rattle.rules.specs.declared.Sections.{Sections}
-use Rattle.rules.specs.declared.Reading.{Reading}
-use Rattle.rules.specs.declared.Reading.TheVariants.{Accepted, Refused}
+use Rattle.rules.specs.Reading.{Reading, Accepted, Refused}
 
 pub given_yes : {X P : Type 0} (q : Dec P) (a b : X) → P → given q a b ≡ a
 unfolding given

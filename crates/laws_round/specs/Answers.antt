@@ -6,10 +6,9 @@ use Rattle.rules.specs.File.{Round, round_of, sections_of}
 use Rattle.rules.specs.Refusals.{refusal, judged, reading, IsAccepted}
 use Rattle.rules.specs.Result.{result_bytes, needed, refused_as, answer_to, answer_of, after, clear_of}
 use Rattle.rules.specs.declared.Sections.{Sections}
-use Rattle.rules.specs.declared.Reading.{Reading}
-use Rattle.rules.specs.declared.Reading.TheVariants as r
-use Rattle.rules.specs.declared.Answer.{Answer}
-use Rattle.rules.specs.declared.Answer.TheVariants.{Cleared, Refused}
+use Rattle.rules.specs.Reading.{Reading}
+use Rattle.rules.specs.Reading as r
+use Rattle.rules.specs.Answer.{Answer, Cleared, Refused}
 use Rattle.laws_pot.specs.Lists.{case}
 use Rattle.laws_reading.specs.Walk.{or_then, or_passed, section_then, scan_then}
 use Rattle.laws_reading.specs.Reading.{Sound, section_right, accepted}

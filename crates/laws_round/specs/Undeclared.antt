@@ -18,10 +18,8 @@ use Rattle.rules.specs.Pot.{reason}
 use Rattle.rules.specs.Round.{blank, assemble, at_admin_price, mine, app_mine, row_for, budget_of, cap_of, drawn_of, pot_of}
 use Rattle.rules.specs.Result.{told_in, app_told, app_bytes, pot_bytes, bid_bytes, pots_part, apps_part, bids_part, result_bytes, needed, answer_to, answer_of, after}
 use Rattle.rules.specs.Result.{clear_of}
-use Rattle.rules.specs.declared.Reading.{Reading}
-use Rattle.rules.specs.declared.Reading.TheVariants.{Accepted}
-use Rattle.rules.specs.declared.Answer.{Answer}
-use Rattle.rules.specs.declared.Answer.TheVariants.{Cleared, Refused}
+use Rattle.rules.specs.Reading.{Reading, Accepted}
+use Rattle.rules.specs.Answer.{Answer, Cleared, Refused}
 use Rattle.laws_round.specs.Apart.{undeclared}
 use Rattle.laws_reading.specs.Alike.{le_same, get_d_past, part_same, part_byte, part_size_lem}
 

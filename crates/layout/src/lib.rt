@@ -4,6 +4,7 @@
 
 pub mod application;
 pub mod bid;
+pub mod kind;
 pub mod parts;
 pub mod pot;
 pub mod technology;

@@ -29,38 +29,66 @@ pub fn place(years: usize, t: usize) -> usize
     t * width(years)
 }
 
-pub fn pot(recs: &[u8], years: usize, t: usize) -> usize
-    requires { Room recs.now (tech_width years) t }
-    ensures { (result ≡ (tech_at years recs.now t).pot) × (result < 65536) }
-{
-    fields::le16(recs, place(years, t)) as usize
+// The technologies' records, in a file of so many years.
+#[derive(Clone, Copy)]
+pub struct Technologies<'a> {
+    pub recs: &'a [u8],
+    pub years: usize,
 }
 
-pub fn rqm(recs: &[u8], years: usize, t: usize) -> u64
-    requires { Room recs.now (tech_width years) t }
-    ensures { (result ≡ (tech_at years recs.now t).rqm) × (result < 65536) }
-{
-    fields::le16(recs, place(years, t) + RQM)
-}
+impl Technologies<'_> {
+    // The bytes of a record.
+    pub fn width(&self) -> usize
+        requires { tech_width self.now.years < 2 ^ 64 }
+        ensures { result ≡ tech_width self.now.years }
+    {
+        width(self.years)
+    }
 
-// The administrative price of technology t in year y.
-pub fn admin(recs: &[u8], years: usize, t: usize, y: usize) -> u64
-    requires { Room recs.now (tech_width years) t × (y < years) }
-    ensures { (result ≡ (tech_at years recs.now t).admin y) × (result < 4294967296) }
-{
-    fields::le32(recs, place(years, t) + (ADMIN + names::TECH_YEAR * y))
-}
+    // Where record t starts.
+    pub fn place(&self, t: usize) -> usize
+        requires { t * tech_width self.now.years + tech_width self.now.years < 2 ^ 64 }
+        ensures { result ≡ t * tech_width self.now.years }
+    {
+        place(self.years, t)
+    }
 
-pub fn reference(recs: &[u8], years: usize, t: usize, y: usize) -> u64
-    requires { Room recs.now (tech_width years) t × (y < years) }
-    ensures { (result ≡ (tech_at years recs.now t).reference y) × (result < 4294967296) }
-{
-    fields::le32(recs, place(years, t) + (REFERENCE + names::TECH_YEAR * y))
-}
+    pub fn pot(&self, t: usize) -> usize
+        requires { Room self.now.recs.now (tech_width self.now.years) t }
+        ensures { (result ≡ (tech_at self.now.years self.now.recs.now t).pot) × (result < 65536) }
+    {
+        fields::le16(self.recs, self.place(t)) as usize
+    }
 
-pub fn load(recs: &[u8], years: usize, t: usize, y: usize) -> u64
-    requires { Room recs.now (tech_width years) t × (y < years) }
-    ensures { (result ≡ (tech_at years recs.now t).load y) × (result < 65536) }
-{
-    fields::le16(recs, place(years, t) + (LOAD + names::TECH_YEAR * y))
+    pub fn rqm(&self, t: usize) -> u64
+        requires { Room self.now.recs.now (tech_width self.now.years) t }
+        ensures { (result ≡ (tech_at self.now.years self.now.recs.now t).rqm) × (result < 65536) }
+    {
+        fields::le16(self.recs, self.place(t) + RQM)
+    }
+
+    // The administrative price of technology t in year y.
+    pub fn admin(&self, t: usize, y: usize) -> u64
+        requires { Room self.now.recs.now (tech_width self.now.years) t × (y < self.now.years) }
+        ensures { (result ≡ (tech_at self.now.years self.now.recs.now t).admin y) × (result < 4294967296) }
+    {
+        fields::le32(self.recs, self.place(t) + (ADMIN + names::TECH_YEAR * y))
+    }
+
+    pub fn reference(&self, t: usize, y: usize) -> u64
+        requires { Room self.now.recs.now (tech_width self.now.years) t × (y < self.now.years) }
+        ensures { (result ≡ (tech_at self.now.years self.now.recs.now t).reference y) × (result < 4294967296) }
+    {
+        fields::le32(
+            self.recs,
+            self.place(t) + (REFERENCE + names::TECH_YEAR * y),
+        )
+    }
+
+    pub fn load(&self, t: usize, y: usize) -> u64
+        requires { Room self.now.recs.now (tech_width self.now.years) t × (y < self.now.years) }
+        ensures { (result ≡ (tech_at self.now.years self.now.recs.now t).load y) × (result < 65536) }
+    {
+        fields::le16(self.recs, self.place(t) + (LOAD + names::TECH_YEAR * y))
+    }
 }

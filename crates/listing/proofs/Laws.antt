@@ -1,12 +1,12 @@
 -- What is told of a round is listed as its definition says. Assumes nothing.
-use Prim.Native.Nat.{ℕ, ◌≤◌, ◌<◌}
+use Prim.Native.Nat.{ℕ, ◌<◌}
 use mathlib.Core.Path.{◌≡◌, ap, ◌∙◌}
 use mathlib.Core.List.{List}
 use native.Mathlib.Decide.{dec_lt}
 use native.Mathlib.Omega.{arith}
 use lib.ListN.{length, get_or}
 use borrow.Author.Tests.{lt-ltb, le-ltb}
-use Rattle.rules.specs.Bytes.{each, onto}
+use Rattle.rules.specs.Bytes.{onto}
 use Rattle.rules.specs.File.{Round}
 use Rattle.rules.specs.Pot.{total_in, reason}
 use Rattle.rules.specs.Round.{pot_of}
@@ -20,11 +20,6 @@ use Rattle.result.specs.Tells.{InRange, Counted, no_pot, Tells}
 use Rattle.result.proofs.Laws.{outcome_told, price_told_lem, total_told, app_told_lem, reason_told}
 use Rattle.lines.specs.Printed.{Printed}
 use Rattle.listing.specs.ToldLines.{price_told, year_line_told, pot_lines_told, pot_listed, app_line_told, bid_line_told, lines_told}
-
--- all lines stand there once the count is reached
-pub printed_all : (f : ℕ → List ℕ) (g : ℕ → ℕ) {i n : ℕ} {s u : List ℕ} {r : ℕ} → Printed (each f i) (g i) s u r → i ≤ n → n ≤ i
-    → Printed (each f n) (g n) s u r
-printed_all f g {i} {n} F h l = let e : i ≡ n = omega arith in rw (← e) F
 
 module _ {R : Round} {t : Tellings} {sections : Sections} (ok : InRange sections) (C : Counted R sections) (T : Tells R t) where
   price_is : (p y : ℕ) → p < R.p → price_told sections (get_or t.pots p no_pot) y ≡ price_listed R.d (pot_of R p) y

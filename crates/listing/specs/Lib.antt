@@ -1,1 +1,2 @@
 pub mod ToldLines
+pub mod InTurn

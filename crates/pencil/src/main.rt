@@ -5,54 +5,44 @@
 mod asked;
 mod valued;
 
-ghost use Rattle.rows.specs.Rows.{Held};
-
-use rules::{Reading, Sections};
+use rows::RoundFile;
 use std::env::{Env, FillError};
 use std::io;
 
 // Every bid.
-fn all(out: &impl Print, file: &[u8], sections: Sections) -> io::Result<()>
-    requires { Held file.now sections }
-{
-    let mut k: usize = 0;
-    while k < sections.bids {
-        valued::bid(out, file, sections, k)?;
-        k += 1;
+fn all(out: &impl Print, round: &RoundFile) -> io::Result<()> {
+    for k in 0..round.sections.bids {
+        valued::bid(out, round, k)?;
     }
     Ok(())
 }
 
 // The bid that a word names.
-fn one(out: &impl Print, file: &[u8], sections: Sections, word: &[u8]) -> io::Result<()>
-    requires { Held file.now sections }
-{
-    let k = asked::number(word);
-    if k < sections.bids {
-        return valued::bid(out, file, sections, k);
+fn one(out: &impl Print, round: &RoundFile, word: &[u8]) -> io::Result<()> {
+    match asked::number(word) {
+        Some(k) if k < round.sections.bids => valued::bid(out, round, k),
+        _ => {
+            print!(out; "no bid ")?;
+            out.write_all(word)?;
+            println!(out;)
+        }
     }
-    text::word(out, b"no bid ")?;
-    text::word(out, word)?;
-    text::word(out, b"\n")
 }
 
 // A word too long for the room names no bid, as an empty one does.
-fn accepted(rt: &(impl Print + Env), file: &[u8], sections: Sections) -> io::Result<()>
-    requires { Held file.now sections }
-{
+fn accepted(rt: &(impl Print + Env), round: &RoundFile) -> io::Result<()> {
     let mut word = [0u8; 16];
     match rt.arg(1, &mut word) {
-        Ok(length) => one(rt, file, sections, &word[..length]),
-        Err(FillError::TooLong) => one(rt, file, sections, b""),
-        Err(FillError::NotPresent) => all(rt, file, sections),
+        Ok(length) => one(rt, round, &word[..length]),
+        Err(FillError::TooLong) => one(rt, round, b""),
+        Err(FillError::NotPresent) => all(rt, round),
     }
 }
 
 fn print(rt: &(impl Print + Env), file: &[u8]) -> io::Result<()> {
-    let got = file::read(file);
-    match got {
-        Reading::Accepted { sections } => accepted(rt, file, sections),
-        Reading::Refused { number, at } => text::refused(rt, number, at),
+    match file::read(file) {
+        Ok(sections) => accepted(rt, &RoundFile { file, sections }),
+        Err(refusal) => text::refused(rt, refusal),
     }
 }
 

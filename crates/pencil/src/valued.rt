@@ -1,14 +1,13 @@
 // One bid valued line by line. The factors and the lines are those that the clearing values by: `rows::factors` and `value::Valuation`.
-ghost use Rattle.std.specs.Prelude.{◌<◌};
-ghost use Rattle.rows.specs.Rows.{Held};
-ghost use Rattle.pencil.specs.Valued.{Placed};
+ghost use Rattle.std.specs.Prelude.{◌<◌, ◌≤◌};
+ghost use Rattle.rules.specs.Names.{highest_price};
+ghost use Rattle.text.specs.Figure.{most_places, Whole};
+ghost use Rattle.rows.specs.Factors.{InScale};
 
-use layout::bid::Bid;
+use rows::RoundFile;
 use rows::factors::Factors;
-use rules::Sections;
 use std::io;
 use text::figure::Figure;
-use text::{field, word};
 use value::Valuation;
 use value::wide::Wide;
 
@@ -18,91 +17,83 @@ const NUMBER_AT: usize = 5;
 
 const MONEY_AT: usize = 4;
 
-fn wide(out: &impl Print, name: &[u8], n: Wide) -> io::Result<()> {
-    word(out, name)?;
-    let places = Figure::number(n).places;
-    word(out, &places[NUMBER_AT..])?;
-    word(out, b"\n")
+// A line: a name, and a figure with what stands before it from a place on.
+fn figure(out: &impl Print, name: &str, of: Figure, from: usize) -> io::Result<()>
+    requires { Whole of × (from ≤ most_places) }
+{
+    print!(out; "  {name:<26}")?;
+    out.write_all(&of.places[from..])?;
+    println!(out;)
+}
+
+fn wide(out: &impl Print, name: &str, n: Wide) -> io::Result<()> {
+    figure(out, name, Figure::number(n), NUMBER_AT)
 }
 
 // A number whose upper column is empty.
-fn line(out: &impl Print, name: &[u8], n: u64) -> io::Result<()> {
-    let n = Wide {
-        upper: 0,
-        column: 10,
-        lower: n,
-    };
-    wide(out, name, n)
+fn line(out: &impl Print, name: &str, n: u64) -> io::Result<()> {
+    wide(
+        out,
+        name,
+        Wide {
+            upper: 0,
+            column: 10,
+            lower: n,
+        },
+    )
 }
 
 // A number of pence, in pounds.
-fn money(out: &impl Print, name: &[u8], pence: u64) -> io::Result<()> {
-    word(out, name)?;
-    let places = Figure::money(
+fn money(out: &impl Print, name: &str, pence: u64) -> io::Result<()> {
+    let amount = Figure::money(
         pence / names::PENCE_PER_POUND,
         pence % names::PENCE_PER_POUND,
-    )
-    .places;
-    word(out, &places[MONEY_AT..])?;
-    word(out, b"\n")
+    );
+    figure(out, name, amount, MONEY_AT)
 }
 
 // What is multiplied.
 fn factors(out: &impl Print, of: Factors) -> io::Result<()> {
-    line(out, b"  load factor               ", of.load)?;
-    line(out, b"  hours                     ", of.hours)?;
-    line(out, b"  capacity                  ", of.capacity)?;
-    line(out, b"  1 - TLM                   ", of.kept)?;
-    line(out, b"  RQM                       ", of.rqm)
+    line(out, "load factor", of.load)?;
+    line(out, "hours", of.hours)?;
+    line(out, "capacity", of.capacity)?;
+    line(out, "1 - TLM", of.kept)?;
+    line(out, "RQM", of.rqm)
 }
 
 // What is divided, one scale a line.
 fn lines(out: &impl Print, of: Valuation) -> io::Result<()> {
-    wide(out, b"  product                   ", of.product)?;
-    wide(out, b"  over 10: price            ", of.by_price)?;
-    wide(out, b"  over 10,000: load factor  ", of.by_load)?;
-    wide(out, b"  over 100: capacity        ", of.by_capacity)?;
-    line(out, b"  over 10,000: 1 - TLM      ", of.by_tlm)?;
-    line(out, b"  over 10,000: RQM          ", of.by_rqm)?;
-    money(out, b"  value                     ", of.by_rqm)
+    wide(out, "product", of.product)?;
+    wide(out, "over 10: price", of.by_price)?;
+    wide(out, "over 10,000: load factor", of.by_load)?;
+    wide(out, "over 100: capacity", of.by_capacity)?;
+    line(out, "over 10,000: 1 - TLM", of.by_tlm)?;
+    line(out, "over 10,000: RQM", of.by_rqm)?;
+    money(out, "value", of.by_rqm)
 }
 
-// A bid of technology t in year y.
-fn year(
-    out: &impl Print,
-    file: &[u8],
-    sections: Sections,
-    t: usize,
-    bid: Bid,
-    y: usize,
-) -> io::Result<()>
-    requires { Placed file.now sections t bid × (y < sections.years) }
+// A bid of this price, in a year of these factors.
+fn year(out: &impl Print, price: u64, of: Factors) -> io::Result<()>
+    requires { (price ≤ highest_price) × InScale of }
 {
-    let of = Factors::of(file, sections, t, bid, y);
-    let worked = Valuation::of(bid.price, of.reference, of.energy(), of.share());
-    field(out, b"year ", y as u64)?;
-    word(out, b"\n")?;
-    line(out, b"  price                     ", bid.price)?;
-    line(out, b"  reference                 ", of.reference)?;
-    line(out, b"  price less reference      ", worked.margin)?;
+    let worked = Valuation::of(price, of.reference, of.energy(), of.share());
+    line(out, "price", price)?;
+    line(out, "reference", of.reference)?;
+    line(out, "price less reference", worked.margin)?;
     factors(out, of)?;
     lines(out, worked)
 }
 
 // Bid k.
-pub fn bid(out: &impl Print, file: &[u8], sections: Sections, k: usize) -> io::Result<()>
-    requires { Held file.now sections × (k < sections.bids) }
+pub fn bid(out: &impl Print, round: &RoundFile, k: usize) -> io::Result<()>
+    requires { k < round.now.sections.bids }
 {
-    let bid = rows::bid_of(file, sections, k);
-    let its = rows::application_of(file, sections, bid.application);
-    let t = its.technology;
-    field(out, b"bid ", k as u64)?;
-    word(out, b"\n")?;
-    let years = sections.years;
-    let mut y: usize = 0;
-    while y < years {
-        year(out, file, sections, t, bid, y)?;
-        y += 1;
+    let bid = round.bid(k);
+    let its = round.application(bid.application);
+    println!(out; "bid {k}")?;
+    for y in 0..round.sections.years {
+        println!(out; "year {y}")?;
+        year(out, bid.price, Factors::of(round, its.technology, bid, y))?;
     }
     Ok(())
 }

@@ -9,24 +9,16 @@ ghost use Rattle.places.specs.Places.{held};
 pub fn count(file: &[u8], at: usize) -> usize
     ensures { (result ≡ held file.now at) × (result < 65536) }
 {
-    if file.len() < names::COUNT_WIDTH {
-        return 0;
+    if at.saturating_add(names::COUNT_WIDTH) <= file.len() {
+        fields::le16(file, at) as usize
+    } else {
+        0
     }
-    if file.len() - names::COUNT_WIDTH < at {
-        return 0;
-    }
-    fields::le16(file, at) as usize
 }
 
 // The place so many bytes after another, or the place past every file.
 pub fn on(at: usize, width: usize) -> usize
     ensures { (result ≡ min (at + width) beyond) × (result ≤ beyond) }
 {
-    if layout::BEYOND < width {
-        return layout::BEYOND;
-    }
-    if layout::BEYOND - width < at {
-        return layout::BEYOND;
-    }
-    at + width
+    at.saturating_add(width).min(layout::BEYOND)
 }

@@ -1,7 +1,8 @@
 -- Laws of the arrays' functions over plain variables: each answers one need of a proof. Assumes nothing.
 use Prim.Native.Nat.{ℕ, zero, suc, ◌+◌, ◌<◌, ◌≤◌}
-use mathlib.Core.Path.{◌≡◌, refl}
+use mathlib.Core.Path.{◌≡◌, refl, sym, ap, ◌∙◌, subst}
 use mathlib.Core.Bool.{Bool, true, false, not, ◌&&◌}
+use Rattle.std.specs.Prelude.{Option, None, Some}
 use mathlib.Core.List.{List, [], ◌∷◌}
 use native.Mathlib.Numerals.{add-one}
 use native.Mathlib.Nat.{le_antisymm}
@@ -12,15 +13,15 @@ use Rattle.totals.specs.Totals.{sums_size}
 use Rattle.rules.specs.Names.{most_apps, most_deliveries, no_price, widest_tie, down_tied}
 use Rattle.arrays.specs.Sets.{fill, built, members, without}
 use Rattle.sheet.specs.declared.Size.{Size}
-use Rattle.sheet.specs.Sheet.{columns, Ready, drawn_in, in_auction, row_app, row_year, row_price}
+use Rattle.sheet.specs.Sheet.{columns, one_more, Ready, drawn_in, in_auction, row_app, row_year, row_price}
 use Rattle.combinations.specs.declared.Tied.{Tied}
 use Rattle.ties.specs.declared.Choice.{Choice}
 use Rattle.combinations.specs.Combinations.{bases_of, tied_of}
 use Rattle.ties.specs.Ties.{keeps_of, choice_of}
 use Rattle.pot.specs.declared.PotState.{PotState}
 use Rattle.pot.specs.declared.Look.{Look}
-use Rattle.pot.specs.Marks.{live_of, at_of, win_of, turn_of, win_all, turn_all, turned_of, hung_of, shut_of, settled_of, widened, sole_of, follows_of, alone_of}
-use Rattle.pot.specs.Marks.{numbered_of, shared_of, rest_of, choice_in, tie_of, Others, Looked, no_year, first_mark, no_marks, started_of, revalued_of}
+use Rattle.pot.specs.Marks.{Each, live_of, at_of, win_of, turn_of, win_all, turn_all, turned_of, hung_of, shut_of, shut_in, settled_of, widened, sole_of, follows_of, alone_of}
+use Rattle.pot.specs.Marks.{numbered_of, shared_of, rest_of, choice_in, tie_of, Others, Looked, first_mark, one_less, no_marks, started_of, revalued_of}
 
 -- the bounds of a bid's application and year, at what the accessors return
 pub app_ok : {sheet : List ℕ} {of : Size} (i : ℕ) {a : ℕ} → Ready sheet of → i < of.bids → a ≡ row_app sheet i → a < 64
@@ -72,33 +73,48 @@ module _ (sheet : List ℕ) (s : PotState) (p i : ℕ) {d : ℕ} (ed : d ≡ row
   unfolding turn_of
   turn_is = rw ed
 
-module _ (sheet : List ℕ) (v : ℕ) (s : PotState) (l : List Bool) (i : ℕ) {t : PotState} where
-  pub win_all_hit : {r : PotState} → get_or l i false ≡ true → t ≡ win_all sheet v s (members l i) → r ≡ win_of sheet v i t
-      → r ≡ win_all sheet v s (members l (i + 1))
-  unfolding win_all members
-  win_all_hit h et er = rw (add-one i, h, er, et)
-
-  pub win_all_miss : get_or l i false ≡ false → t ≡ win_all sheet v s (members l i) → t ≡ win_all sheet v s (members l (i + 1))
+-- what becomes of the bids of a set
+module _ (step : PotState → ℕ → PotState → Type 0) (s : PotState) (l : List Bool) where
+  pub each_none : Each step s (members l 0) s
   unfolding members
-  win_all_miss h et = rw (add-one i, h, et)
+  each_none = refl
 
-  pub turn_all_hit : {r : PotState} → get_or l i false ≡ true → t ≡ turn_all sheet v s (members l i) → r ≡ turn_of sheet v i t
-      → r ≡ turn_all sheet v s (members l (i + 1))
-  unfolding turn_all members
-  turn_all_hit h et er = rw (add-one i, h, er, et)
-
-  pub turn_all_miss : get_or l i false ≡ false → t ≡ turn_all sheet v s (members l i) → t ≡ turn_all sheet v s (members l (i + 1))
+  pub each_hit : (i : ℕ) {t q r : PotState} → get_or l i false ≡ true → Each step s (members l i) t → step t i q → r ≡ q → Each step s (members l (i + 1)) r
   unfolding members
-  turn_all_miss h et = rw (add-one i, h, et)
+  each_hit i {t} h e p er = rw (add-one i, h, er) (t, e, p)
+
+  pub each_miss : (i : ℕ) {t r : PotState} → get_or l i false ≡ false → Each step s (members l i) t → r ≡ t → Each step s (members l (i + 1)) r
+  unfolding members
+  each_miss i h e er = rw (add-one i, h, er) e
+
+  pub each_end : (i n : ℕ) (r : PotState) → i ≤ n → n ≤ i → Each step s (members l i) r → Each step s (members l n) r
+  each_end i n r h g e = subst (λ (k : ℕ). Each step s (members l k) r) (le_antisymm h g) e
+
+module _ (step : PotState → ℕ → PotState → Type 0) (sheet : List ℕ) (v : ℕ) (s : PotState) where
+  pub each_win : ((t : PotState) (k : ℕ) (r : PotState) → step t k r → r ≡ win_of sheet v k t) → (l : List ℕ) (r : PotState) → Each step s l r
+      → r ≡ win_all sheet v s l
+  unfolding win_all
+  each_win h [] r e = e
+  each_win h (k ∷ l) r e = h e.0 k r e.2 ∙ ap (win_of sheet v k) (each_win h l e.0 e.1)
+
+  pub each_turn : ((t : PotState) (k : ℕ) (r : PotState) → step t k r → r ≡ turn_of sheet v k t) → (l : List ℕ) (r : PotState) → Each step s l r
+      → r ≡ turn_all sheet v s l
+  unfolding turn_all
+  each_turn h [] r e = e
+  each_turn h (k ∷ l) r e = h e.0 k r e.2 ∙ ap (turn_of sheet v k) (each_turn h l e.0 e.1)
 
 -- the hanging year
-pub settled_shut : (s : PotState) {r : PotState} → s.hang < 4 → r ≡ shut_of s.hang s → r ≡ settled_of s
-unfolding settled_of
-settled_shut s h e = rw (lt-ltb s.hang 4 h) e
+pub settled_shut : (s : PotState) {d : ℕ} {r : PotState} → s.hang ≡ Some d → d < 4 → r ≡ shut_of d s → r ≡ settled_of s
+unfolding settled_of shut_in
+settled_shut s {d} h l e = e ∙ sym (ap (λ (year : Option ℕ). shut_in year s) h ∙ rw (lt-ltb d 4 l))
 
-pub settled_none : (s : PotState) {r : PotState} → 4 ≤ s.hang → r ≡ hung_of 4 s → r ≡ settled_of s
-unfolding settled_of
-settled_none s h e = rw (le-ltb s.hang 4 h) e
+pub settled_past : (s : PotState) {d : ℕ} {r : PotState} → s.hang ≡ Some d → 4 ≤ d → r ≡ hung_of None s → r ≡ settled_of s
+unfolding settled_of shut_in
+settled_past s {d} h l e = e ∙ sym (ap (λ (year : Option ℕ). shut_in year s) h ∙ rw (le-ltb d 4 l))
+
+pub settled_none : (s : PotState) {r : PotState} → s.hang ≡ None → r ≡ hung_of None s → r ≡ settled_of s
+unfolding settled_of shut_in
+settled_none s h e = e ∙ sym (ap (λ (year : Option ℕ). shut_in year s) h)
 
 -- ---- one bid alone
 module _ (sheet : List ℕ) (of : Size) (i : ℕ) (s : PotState) {l : Look} (K : Looked sheet of s l) where
@@ -129,7 +145,7 @@ others_turned sheet of i s e o = rw e (λ k g f. not_fresh s.marks i k (o k g f)
 
 module _ (sheet : List ℕ) (of : Size) (i : ℕ) (s : PotState) {t r : PotState} {d : ℕ} {g : Bool} (et : t ≡ turned_of i s) (ed : d ≡ row_year sheet i)
     (eg : g ≡ follows_of sheet of i t) where
-  pub alone_hung : g ≡ true → r ≡ hung_of d t → r ≡ alone_of sheet of i s
+  pub alone_hung : g ≡ true → r ≡ hung_of (Some d) t → r ≡ alone_of sheet of i s
   unfolding alone_of
   alone_hung h er = rw (← et, ← eg, h, er, ed)
 
@@ -140,7 +156,7 @@ module _ (sheet : List ℕ) (of : Size) (i : ℕ) (s : PotState) {t r : PotState
 -- ---- several
 pub shared_is : (sheet : List ℕ) (of : Size) (l : List Bool) (c : Choice) (p : ℕ) (s : PotState) {t u v r : PotState} {o : List Bool}
     → t ≡ win_all sheet p s (members c.wins of.bids) → o ≡ built (without l c.wins) of.bids
-    → u ≡ turn_all sheet down_tied t (members o of.bids) → v ≡ hung_of no_year u → r ≡ numbered_of c.drawn v → r ≡ shared_of sheet of l c p s
+    → u ≡ turn_all sheet down_tied t (members o of.bids) → v ≡ hung_of None u → r ≡ numbered_of c.drawn v → r ≡ shared_of sheet of l c p s
 unfolding shared_of
 shared_is sheet of l c p s et eo eu ev er = rw (er, ev, eu, et, eo)
 
@@ -169,8 +185,19 @@ pub first_no : {t : Bool} → t ≡ false → 9 ≡ first_mark t
 unfolding first_mark
 first_no h = rw h
 
-pub started_done : (sheet : List ℕ) (of : Size) {l : List ℕ} {k d : ℕ} → l ≡ fill no_marks (λ k. first_mark (in_auction sheet k)) k → k ≤ of.bids
-    → of.bids ≤ k → d ≡ drawn_in sheet
+-- one more than a number, or than none, and back
+pub more_less : (n : ℕ) → one_more (one_less n) ≡ n
+unfolding one_less
+more_less zero = refl
+more_less (suc d) = refl
+
+pub less_more : (d : Option ℕ) → d ≡ one_less (one_more d)
+unfolding one_less
+less_more None = refl
+less_more (Some d) = refl
+
+pub started_done : (sheet : List ℕ) (of : Size) {l : List ℕ} {k : ℕ} {d : Option ℕ} → l ≡ fill no_marks (λ k. first_mark (in_auction sheet k)) k → k ≤ of.bids
+    → of.bids ≤ k → one_more d ≡ drawn_in sheet
     → ◌≡◌ {A = PotState} (record {
       marks = l;
       won = replicate most_apps false;
@@ -178,9 +205,9 @@ pub started_done : (sheet : List ℕ) (of : Size) {l : List ℕ} {k d : ℕ} →
       prices = replicate most_deliveries no_price;
       sums = replicate sums_size 0;
       totals = replicate columns 0;
-      hang = no_year;
+      hang = None;
       wide = false;
       drawn = d;
     }) (started_of sheet of)
 unfolding started_of
-started_done sheet of e h g ed = rw (e, le_antisymm h g, ed)
+started_done sheet of {d = d} e h g ed = rw (e, le_antisymm h g, less_more d ∙ ap one_less ed)

@@ -1,8 +1,10 @@
 -- From the arrays to the trace: what is live, what is taken, what fits; and an event that the arrays have followed. Assumes nothing.
-use Prim.Native.Nat.{ℕ, zero, suc, ◌≤◌, ◌<◌, min}
+use Prim.Native.Nat.{ℕ, ◌≤◌, ◌<◌, min}
 use mathlib.Core.Path.{◌≡◌, refl, sym, ap, ◌∙◌}
 use mathlib.Core.Bool.{Bool, true, false, not, ◌&&◌, ◌||◌}
 use mathlib.Core.Option.{Option, some}
+use Rattle.std.specs.declared.option.Option as code
+use Rattle.std.specs.Prelude.{None, Some}
 use mathlib.Core.List.{List, [], ◌∷◌, ◌++◌, map}
 use native.Mathlib.Omega.{arith}
 use native.Mathlib.Nat.{mul-le-mul_right, div-one}
@@ -11,14 +13,14 @@ use lib.Dec.{eqb, ltb}
 use borrow.Author.Tests.{eqb-true}
 use Rattle.rules.specs.Names.{most_bids, no_price, no_reason, because_won, highest_price}
 use Rattle.rules.specs.Lists.{pick, memb, sift, below}
-use Rattle.rules.specs.Pot.{Pot, Event, Trace, winners, downs, seen, closed, hanging, mark, divided, goes_on, price_from, clearing, fits, live}
+use Rattle.rules.specs.Pot.{Pot, Event, Trace, winners, seen, closed, hanging, mark, divided, goes_on, price_from, clearing, fits, live}
 use Rattle.rules.specs.Pot.{least, lowest, taken}
 use Rattle.laws_pot.specs.Lists.{case, clash, and_true, In, here, there, memb_in, in_memb, sift_in, sift_same, sift_both, memb_join, memb_map_join, below_in}
 use Rattle.laws_pot.specs.Mono.{Lawful}
 use Rattle.arrays.specs.Sets.{built, members}
 use Rattle.arrays.proofs.Arrays.{eqb_sym, put_is, members_built}
 use Rattle.sheet.specs.declared.Size.{Size}
-use Rattle.sheet.specs.Sheet.{number_in, pot_in, Ready, in_auction, parts_at, sheet_cost, row_app, row_year, row_price}
+use Rattle.sheet.specs.Sheet.{number_in, one_more, pot_in, Ready, in_auction, parts_at, sheet_cost, row_app, row_year, row_price}
 use Rattle.totals.specs.Totals.{total_of, fits_to}
 use Rattle.totals.proofs.Link as link
 use Rattle.totals.proofs.Link.{Marked, column_total}
@@ -38,16 +40,16 @@ pub record Did (P : Pot) (e : Event) (s r : PotState) : Type 0 where
   pub opened : (d : ℕ) → d < 4 → get_or r.opened d false ≡ (not (memb d e.closes) && get_or s.opened d false)
   pub prices : (d : ℕ) → d < 4 → get_or r.prices d 0 ≡ price_from P (get_or s.prices d 0) e.wins d
   pub hang : e.hangs ≡ hangs r.hang
-  pub drawn : number_in r.drawn ≡ divided (number_in s.drawn) e.ways
+  pub drawn : number_in (one_more r.drawn) ≡ divided (number_in (one_more s.drawn)) e.ways
 
 -- where there was nothing to choose, the drawn number stays
-pub same_number : {a b : ℕ} → a ≡ b → number_in a ≡ divided (number_in b) 1
+pub same_number : {a b : code.Option ℕ} → a ≡ b → number_in (one_more a) ≡ divided (number_in (one_more b)) 1
 unfolding number_in divided
-same_number {a} {b} e = ap number_in e ∙ undivided b
+same_number {a} {b} e = ap (λ (x : code.Option ℕ). number_in (one_more x)) e ∙ undivided b
   where
-    undivided : (d : ℕ) → number_in d ≡ divided (number_in d) 1
-    undivided zero = refl
-    undivided (suc d) = ap some (sym (div-one d))
+    undivided : (d : code.Option ℕ) → number_in (one_more d) ≡ divided (number_in (one_more d)) 1
+    undivided None = refl
+    undivided (Some d) = ap some (sym (div-one d))
 
 not_or : (a b : Bool) → not (a || b) ≡ (not a && not b)
 not_or true b = refl

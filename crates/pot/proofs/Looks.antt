@@ -1,12 +1,13 @@
 -- The ways that a look goes: the arrays follow the trace. Assumes nothing.
 use Prim.Native.Nat.{ℕ, ◌<◌}
-use mathlib.Core.Path.{◌≡◌, refl, sym, ap, ◌∙◌}
+use mathlib.Core.Path.{◌≡◌, refl, sym, ap, ◌∙◌, subst}
 use mathlib.Core.Bool.{Bool, true, false, not, ◌&&◌}
+use Rattle.std.specs.Prelude.{Option, None, Some}
 use mathlib.Core.List.{List, [], ◌∷◌, ◌++◌}
 use native.Mathlib.Omega.{arith}
 use lib.ListN.{length, get_or, set, length-set}
 use lib.Dec.{eqb, ltb}
-use borrow.Author.Tests.{ne_eqb, lt-ltb, ltb-true}
+use borrow.Author.Tests.{ne_eqb, ltb-true, ltb-false}
 use Rattle.rules.specs.Names.{most_bids, because_won, down_alone}
 use Rattle.rules.specs.Lists.{pick, memb}
 use Rattle.rules.specs.Pot.{Pot, Trace, winners, price_from, live, taken, fits, won, down, follows, alone}
@@ -20,7 +21,7 @@ use Rattle.sheet.specs.Sheet.{pot_in, Ready, in_auction, row_app, row_year, row_
 use Rattle.totals.specs.Totals.{total_of, fits_to}
 use Rattle.totals.proofs.Link.{not_bid}
 use Rattle.pot.specs.declared.PotState.{PotState}
-use Rattle.pot.specs.Marks.{lowest_of, win_all, turned_of, hung_of, shut_of, settled_of, taken_of, sole_of, follows_of, alone_of}
+use Rattle.pot.specs.Marks.{lowest_of, win_all, turned_of, hung_of, shut_of, shut_in, settled_of, taken_of, sole_of, follows_of, alone_of}
 use Rattle.pot.specs.Rep.{hangs, Sizes, Rep}
 use Rattle.pot.proofs.Arrays.{win_sizes, win_marks, win_won, win_opened, win_hang, win_wide, win_drawn}
 use Rattle.pot.proofs.Link as link
@@ -81,7 +82,7 @@ module _ (sheet : List ℕ) (of : Size) (ok : Ready sheet of) where
 
     -- all win, and the year that hangs closes
     won_with : (r : PotState) → r.marks ≡ u.marks → r.won ≡ u.won → r.prices ≡ u.prices → r.drawn ≡ u.drawn → Sizes r
-        → ((d : ℕ) → d < 4 → get_or r.opened d false ≡ (not (memb d (hangs s.hang)) && get_or s.opened d false)) → r.hang ≡ 4 → Did P (won P t l) s r
+        → ((d : ℕ) → d < 4 → get_or r.opened d false ≡ (not (memb d (hangs s.hang)) && get_or s.opened d false)) → r.hang ≡ None → Did P (won P t l) s r
     unfolding hangs pot_in
     won_with r er ew eq ed sz op hg = record {
       sizes = sz;
@@ -95,31 +96,44 @@ module _ (sheet : List ℕ) (of : Size) (ok : Ready sheet of) where
     }
 
     won_did : Did P (won P t l) s (settled_of u)
-    unfolding settled_of shut_of hung_of hangs
-    won_did =
-        case (ltb s.hang 4)
-        (λ h. rw (win_hang sheet p s R.sizes l, h)
-        (won_with (shut_of s.hang u) refl refl refl refl
-        (record { marks = su.marks; won = su.won; opened = length-set u.opened s.hang false ∙ su.opened; prices = su.prices })
-        (λ d j. put_is u.opened s.hang d false false (omega (arith, su.opened, ltb-true s.hang 4 h))
-        ∙ rw (h, win_opened sheet p s R.sizes l) (case (eqb d s.hang) (λ e. rw e) (λ e. rw e)))
-        refl))
-        (λ h. rw (win_hang sheet p s R.sizes l, h)
-        (won_with (hung_of 4 u) refl refl refl refl
-        (record { marks = su.marks; won = su.won; opened = su.opened; prices = su.prices })
-        (λ d j. rw (h, win_opened sheet p s R.sizes l))
-        refl))
+    unfolding settled_of shut_in shut_of hung_of hangs
+    won_did = subst (λ (year : Option ℕ). Did P (won P t l) s (shut_in year u)) (sym (win_hang sheet p s R.sizes l)) (go s.hang refl)
+      where
+        -- those of the years that were open, without a year that hung
+        left : (year : Option ℕ) → s.hang ≡ year → (d : ℕ) → (not (memb d (hangs year)) && get_or s.opened d false) ≡ (not (memb d (hangs s.hang)) && get_or s.opened d false)
+        left year e d = ap (λ (x : Option ℕ). not (memb d (hangs x)) && get_or s.opened d false) (sym e)
+
+        none : (year : Option ℕ) → s.hang ≡ year → ((d : ℕ) → d < 4 → memb d (hangs year) ≡ false)
+            → Did P (won P t l) s (hung_of None u)
+        none year e h =
+            won_with (hung_of None u) refl refl refl refl
+            (record { marks = su.marks; won = su.won; opened = su.opened; prices = su.prices })
+            (λ d j. ap (λ (x : List Bool). get_or x d false) (win_opened sheet p s R.sizes l)
+            ∙ sym (ap (λ (b : Bool). not b && get_or s.opened d false) (h d j)) ∙ left year e d)
+            refl
+
+        go : (year : Option ℕ) → s.hang ≡ year → Did P (won P t l) s (shut_in year u)
+        go None e = none None e (λ d j. refl)
+        go (Some y) e =
+            case (ltb y 4)
+            (λ h. rw h
+            (won_with (shut_of y u) refl refl refl refl
+            (record { marks = su.marks; won = su.won; opened = length-set u.opened y false ∙ su.opened; prices = su.prices })
+            (λ d j. put_is u.opened y d false false (omega (arith, su.opened, ltb-true y 4 h))
+            ∙ rw (win_opened sheet p s R.sizes l) (case (eqb d y) (λ q. rw q) (λ q. rw q)) ∙ left (Some y) e d)
+            refl))
+            (λ h. rw h (none (Some y) e (λ d j. rw (ne_eqb d y (λ q. let no : ⊥ = omega (arith, ltb-false y 4 h) in no)))))
 
     pub won_rep : Rep P (won P t l ∷ t) (settled_of u)
     won_rep = rep_did P t (won P t l) s (settled_of u) refl refl (λ i j. in_none j) (λ i j. (sound i j).3) (λ i j. in_none j) R won_did
 
     pub won_wide : (settled_of u).wide ≡ s.wide
-    unfolding settled_of shut_of hung_of
-    won_wide = go (ltb u.hang 4) ∙ win_wide sheet p s R.sizes l
+    unfolding settled_of shut_in shut_of hung_of
+    won_wide = go u.hang ∙ win_wide sheet p s R.sizes l
       where
-        go : (h : Bool) → (pick h (shut_of u.hang u) (hung_of 4 u)).wide ≡ u.wide
-        go true = refl
-        go false = refl
+        go : (year : Option ℕ) → (shut_in year u).wide ≡ u.wide
+        go None = refl
+        go (Some d) = case (ltb d 4) (λ h. rw h) (λ h. rw h)
 
     -- ---- 2: one bid alone
     module _ (i : ℕ) (h : In i l) where
@@ -154,14 +168,13 @@ module _ (sheet : List ℕ) (of : Size) (ok : Ready sheet of) where
       unfolding turned_of hangs
       turned_rep = down_rep (turned_of i s) [] [] (down_did (turned_of i s) [] [] refl refl refl refl sizes (λ d j. refl) refl)
 
-      hung_rep : Rep P (down P i [] (P.yr i ∷ []) ∷ t) (hung_of (row_year sheet i) (turned_of i s))
+      hung_rep : Rep P (down P i [] (P.yr i ∷ []) ∷ t) (hung_of (Some (row_year sheet i)) (turned_of i s))
       unfolding turned_of hung_of hangs pot_in
       hung_rep = down_rep r [] (row_year sheet i ∷ []) (down_did r [] (row_year sheet i ∷ []) refl refl refl refl
-          (record { marks = sizes.marks; won = sizes.won; opened = sizes.opened; prices = sizes.prices }) (λ d j. refl)
-          (rw (lt-ltb (row_year sheet i) 4 (ok.year i (sound i h).0))))
+          (record { marks = sizes.marks; won = sizes.won; opened = sizes.opened; prices = sizes.prices }) (λ d j. refl) refl)
         where
           r : PotState
-          r = hung_of (row_year sheet i) (turned_of i s)
+          r = hung_of (Some (row_year sheet i)) (turned_of i s)
 
       shut_rep : Rep P (down P i (P.yr i ∷ []) [] ∷ t) (shut_of (row_year sheet i) (turned_of i s))
       unfolding turned_of shut_of hangs pot_in
@@ -200,6 +213,6 @@ module _ (sheet : List ℕ) (of : Size) (ok : Ready sheet of) where
     unfolding alone_of hung_of shut_of turned_of
     alone_wide i = go (follows_of sheet of i (turned_of i s))
       where
-        go : (g : Bool) → (pick g (hung_of (row_year sheet i) (turned_of i s)) (shut_of (row_year sheet i) (turned_of i s))).wide ≡ s.wide
+        go : (g : Bool) → (pick g (hung_of (Some (row_year sheet i)) (turned_of i s)) (shut_of (row_year sheet i) (turned_of i s))).wide ≡ s.wide
         go true = refl
         go false = refl

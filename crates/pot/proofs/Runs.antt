@@ -7,21 +7,22 @@ use native.Mathlib.Omega.{arith}
 use lib.ListN.{length, get_or}
 use lib.Dec.{eqb, ltb}
 use borrow.Author.Tests.{ne_eqb, ltb-true, ltb-false}
-use Rattle.rules.specs.Names.{most_bids, no_price, no_reason, because_won, highest_price}
+use Rattle.rules.specs.Names.{most_bids, no_price, no_reason, because_won}
 use Rattle.rules.specs.Lists.{pick, memb, sift, below}
 use Rattle.rules.specs.Pot.{Pot, Event, Trace, winners, seen, closed, hanging, wide_end, mark, goes_on, price_from, live, taken, drawn_after, look, run, onward}
 use Rattle.rules.specs.Pot.{auction}
-use Rattle.laws_pot.specs.Lists.{case, clash, In, here, in_memb, in_none, in_length, sift_in, in_sift, sift_le, below_in}
+use Rattle.laws_pot.specs.Lists.{case, clash, In, here, in_memb, in_none, in_length, sift_in, in_sift, sift_le}
 use Rattle.laws_pot.specs.Taken.{Lows, taken_lows}
 use Rattle.laws_pot.specs.Runs.{Inv, inv_none, looked_next, inv_looked, step_of, lives, fewer}
 use Rattle.arrays.specs.Sets.{fill}
 use Rattle.arrays.proofs.Arrays.{put_is, at_start, fill_length, fill_at}
 use Rattle.sheet.specs.declared.Size.{Size}
-use Rattle.sheet.specs.Sheet.{number_in, pot_in, Ready, in_auction, row_price}
+use Rattle.sheet.specs.Sheet.{number_in, one_more, drawn_in, pot_in, Ready, in_auction}
 use Rattle.totals.proofs.Link.{not_bid}
 use Rattle.pot.specs.declared.PotState.{PotState}
-use Rattle.pot.specs.Marks.{least_or, live_of, lowest_of, Others, first_mark, no_marks, started_of, not_here}
+use Rattle.pot.specs.Marks.{least_or, live_of, lowest_of, NoneLive, Others, first_mark, no_marks, started_of, not_here}
 use Rattle.pot.specs.Rep.{hangs, Rep, Stands, Stepped}
+use Rattle.pot.proofs.Laws.{more_less}
 use Rattle.pot.proofs.Link as link
 
 -- what falls with each step
@@ -72,11 +73,6 @@ module _ (sheet : List ℕ) (of : Size) (ok : Ready sheet of) where
   unfolding least_or
   some_live [] e = absurd (let no : ⊥ = omega arith in no)
   some_live (x ∷ l) e = (x, here refl)
-
-  none_live : (l : List ℕ) → ((k : ℕ) → In k l → row_price sheet k ≤ highest_price) → no_price ≤ least_or sheet l → l ≡ []
-  unfolding least_or
-  none_live [] h e = refl
-  none_live (x ∷ l) h e = absurd (let no : ⊥ = omega (arith, h x (here refl)) in no)
 
   module _ (s : PotState) (G : Going P s) where
     abbrev t : Trace
@@ -145,23 +141,14 @@ module _ (sheet : List ℕ) (of : Size) (ok : Ready sheet of) where
     run_wide w = rw (G.on, sym G.stands.wide ∙ w) G.stands
 
     -- no bid is live
-    pub run_ends : s.wide ≡ false → {p : ℕ} → p ≡ lowest_of sheet s of.bids → no_price ≤ p → Stands P (auction P) s
-    run_ends w ep f = rw (G.on, n, run_stop P G.left t (none (taken P t) (taken_lows P t))) G.stands
+    pub run_ends : s.wide ≡ false → NoneLive sheet of s → Stands P (auction P) s
+    run_ends w e = rw (G.on, n, run_stop P G.left t (none (taken P t) (taken_lows P t))) G.stands
       where
         n : wide_end t ≡ false
         n = sym G.stands.wide ∙ w
 
-        R : Rep P t s
-        R = G.stands.rep n
-
         empty : sift (live P t) P.bids ≡ []
-        empty =
-            sym (link.live_list sheet of ok t s R)
-            ∙ none_live (sift (live_of sheet s) (below of.bids))
-            (λ k i. ok.price k (below_in k of.bids (sift_in k (live_of sheet s) (below of.bids) i).0)) (opened (rw ep at f))
-          where
-            opened : no_price ≤ lowest_of sheet s of.bids → no_price ≤ least_or sheet (sift (live_of sheet s) (below of.bids))
-            opened f = unfold lowest_of in f
+        empty = sym (link.live_list sheet of ok t s (G.stands.rep n)) ∙ e
 
         none : (l : List ℕ) → Lows P t l → l ≡ []
         none [] h = refl
@@ -203,8 +190,8 @@ module _ (sheet : List ℕ) (of : Size) (ok : Ready sheet of) where
     };
   })
     where
-      number : drawn_after P [] ≡ number_in (started_of sheet of).drawn
-      number = unfold goes_on pot_in in refl
+      number : drawn_after P [] ≡ number_in (one_more (started_of sheet of).drawn)
+      number = unfold goes_on pot_in in ap number_in (sym (more_less (drawn_in sheet)))
 
       own : (i : ℕ) → In i P.bids → get_or (started_of sheet of).marks i 0 ≡ no_reason
       own i j = started_at i (link.bid_lt sheet of ok i j) ∙ rw (link.bid_in sheet of ok i j)

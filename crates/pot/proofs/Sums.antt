@@ -2,6 +2,7 @@
 use Prim.Native.Nat.{ℕ, zero, suc, ◌+◌, ◌*◌, ◌≤◌, ◌<◌}
 use mathlib.Core.Path.{◌≡◌, refl, sym, ap, ◌∙◌}
 use mathlib.Core.Bool.{Bool, true, false, ◌&&◌}
+use Rattle.std.specs.Prelude.{Option, None, Some}
 use mathlib.Core.List.{List, [], ◌∷◌}
 use native.Mathlib.Numerals.{add-one}
 use native.Mathlib.Omega.{arith}
@@ -23,7 +24,7 @@ use Rattle.totals.proofs.Laws.{fits_same, row_none}
 use Rattle.totals.proofs.Parts.{part_most, total_parts}
 use Rattle.ties.specs.declared.Choice.{Choice}
 use Rattle.pot.specs.declared.PotState.{PotState}
-use Rattle.pot.specs.Marks.{win_of, win_all, turn_all, turn_of, turned_of, hung_of, shut_of, settled_of, widened, alone_of, follows_of, numbered_of, shared_of}
+use Rattle.pot.specs.Marks.{win_of, win_all, turn_all, turn_of, turned_of, hung_of, shut_of, shut_in, settled_of, widened, alone_of, follows_of, numbered_of, shared_of}
 use Rattle.pot.specs.Marks.{rest_of, choice_in, tie_of, first_mark, no_marks, started_of, with_sums, renewed_row, renewed_of}
 use Rattle.pot.specs.Marks.{renewed_to, totalled_of, revalued_of, tried_of, trial_of, Parted, Summed}
 use Rattle.pot.specs.Rep.{Rep, Stands}
@@ -150,9 +151,9 @@ module _ (sheet : List ℕ) (of : Size) where
     row = S.row;
   }
 
-  summed_hung : (d : ℕ) (s : PotState) → Summed sheet of s → Summed sheet of (hung_of d s)
+  summed_hung : (year : Option ℕ) (s : PotState) → Summed sheet of s → Summed sheet of (hung_of year s)
   unfolding hung_of
-  summed_hung d s S = record { parts = record { size = S.parts.size; part = S.parts.part }; row = S.row }
+  summed_hung year s S = record { parts = record { size = S.parts.size; part = S.parts.part }; row = S.row }
 
   summed_shut : (d : ℕ) (s : PotState) → Summed sheet of s → Summed sheet of (shut_of d s)
   unfolding shut_of
@@ -168,19 +169,23 @@ module _ (sheet : List ℕ) (of : Size) where
   summed_totalled e Q = rw e (record { parts = record { size = Q.size; part = Q.part }; row = refl })
 
   pub summed_settled : {s r : PotState} → r ≡ settled_of s → Summed sheet of s → Summed sheet of r
-  unfolding settled_of
-  summed_settled {s} e S = rw e (go (ltb s.hang 4))
+  unfolding settled_of shut_in
+  summed_settled {s} e S = rw e (go s.hang)
     where
-      go : (b : Bool) → Summed sheet of (pick b (shut_of s.hang s) (hung_of 4 s))
-      go true = summed_shut s.hang s S
-      go false = summed_hung 4 s S
+      go : (year : Option ℕ) → Summed sheet of (shut_in year s)
+      go None = summed_hung None s S
+      go (Some d) = closed (ltb d 4)
+        where
+          closed : (b : Bool) → Summed sheet of (pick b (shut_of d s) (hung_of None s))
+          closed true = summed_shut d s S
+          closed false = summed_hung None s S
 
   pub summed_alone : (i : ℕ) {s r : PotState} → r ≡ alone_of sheet of i s → eqb (get_or s.marks i 0) because_won ≡ false → Summed sheet of s → Summed sheet of r
   unfolding alone_of
   summed_alone i {s} e h S = rw e (go (follows_of sheet of i (turned_of i s)))
     where
-      go : (b : Bool) → Summed sheet of (pick b (hung_of (row_year sheet i) (turned_of i s)) (shut_of (row_year sheet i) (turned_of i s)))
-      go true = summed_hung (row_year sheet i) (turned_of i s) (summed_turned i s h S)
+      go : (b : Bool) → Summed sheet of (pick b (hung_of (Some (row_year sheet i)) (turned_of i s)) (shut_of (row_year sheet i) (turned_of i s)))
+      go true = summed_hung (Some (row_year sheet i)) (turned_of i s) (summed_turned i s h S)
       go false = summed_shut (row_year sheet i) (turned_of i s) (summed_turned i s h S)
 
   -- ---- what makes them right
@@ -376,5 +381,9 @@ unfolding with_sums
 stands_sums l q S = record { wide = S.wide; rep = λ n. rep_sums l q (S.rep n) }
 
 pub settled_sums : (l q : List ℕ) (s : PotState) → settled_of (with_sums l q s) ≡ with_sums l q (settled_of s)
-unfolding settled_of with_sums shut_of hung_of
-settled_sums l q s = case (ltb s.hang 4) (λ t. rw t) (λ f. rw f)
+unfolding settled_of shut_in shut_of hung_of with_sums
+settled_sums l q s = go s.hang
+  where
+    go : (year : Option ℕ) → shut_in year (with_sums l q s) ≡ with_sums l q (shut_in year s)
+    go None = refl
+    go (Some d) = case (ltb d 4) (λ t. rw t) (λ f. rw f)

@@ -2,6 +2,7 @@
 use Prim.Native.Nat.{ℕ, ◌≤◌, ◌<◌}
 use mathlib.Core.Path.{◌≡◌, refl, sym, ap, ◌∙◌, subst}
 use mathlib.Core.Bool.{Bool, true, false, not, ◌&&◌}
+use Rattle.std.specs.Prelude.{None}
 use mathlib.Core.List.{List, ◌∷◌, map}
 use lib.ListN.{length, get_or}
 use lib.Dec.{ltb}
@@ -13,7 +14,7 @@ use Rattle.laws_pot.specs.Lists.{case, clash, not_is_true, In, memb_in, sift_in,
 use Rattle.arrays.specs.Sets.{built, members, without}
 use Rattle.arrays.proofs.Arrays.{members_built}
 use Rattle.sheet.specs.declared.Size.{Size}
-use Rattle.sheet.specs.Sheet.{number_in, pot_in, Ready, row_year, row_price}
+use Rattle.sheet.specs.Sheet.{number_in, one_more, pot_in, Ready, row_year, row_price}
 use Rattle.ties.specs.declared.Choice.{Choice}
 use Rattle.combinations.specs.Combinations.{bases_of, tied_of}
 use Rattle.ties.specs.Ties.{keeps_of, choice_of}
@@ -98,7 +99,7 @@ module _ (sheet : List ℕ) (of : Size) (ok : Ready sheet of) where
           tie.of_choice sheet of ok ws s.marks s.prices (holds_rep R).marked R.sizes.prices R.price p refl a l (of_set)
           (link.taken_part sheet of ok t) at_price new rest rest_is refl h s.drawn R.drawn choice_is
 
-      number_left : number_in choice.drawn ≡ divided (number_in s.drawn) (ways_of P ws l)
+      number_left : number_in (one_more choice.drawn) ≡ divided (number_in (one_more s.drawn)) (ways_of P ws l)
       number_left =
           tie.number_left sheet of ok ws s.marks s.prices (holds_rep R).marked R.sizes.prices R.price p refl a l (of_set)
           (link.taken_part sheet of ok t) at_price new rest rest_is refl h s.drawn refl choice_is
@@ -134,7 +135,7 @@ module _ (sheet : List ℕ) (of : Size) (ok : Ready sheet of) where
       v = win_all sheet p s ch
 
       abbrev x : PotState
-      x = numbered_of choice.drawn (hung_of 4 (turn_all sheet down_tied v out))
+      x = numbered_of choice.drawn (hung_of None (turn_all sheet down_tied v out))
 
       sv : Sizes v
       sv = win_sizes sheet p s R.sizes ch

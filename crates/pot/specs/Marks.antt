@@ -1,6 +1,6 @@
 -- What the functions over a pot's arrays compute, as functions of the arrays. No rule of document 01 is stated here: crate rules has the rules, and
 -- specs/Rep.antt says what the arrays stand for. Assumes nothing.
-use Rattle.std.specs.Prelude.{ℕ, zero, suc, ◌+◌, ◌*◌, min, ◌<◌, ◌≡◌, Bool, true, false, not, ◌&&◌, List, [], ◌∷◌, get_or, set, replicate, length, eqb, ltb}
+use Rattle.std.specs.Prelude.{ℕ, zero, suc, ◌+◌, ◌*◌, min, ◌<◌, ◌≡◌, Bool, true, false, not, ◌&&◌, List, [], ◌∷◌, Option, None, Some, get_or, set, replicate, length, eqb, ltb}
 use Rattle.rules.specs.Names.{most_bids, most_apps, most_deliveries, no_price, no_reason, because_won, down_alone, down_tied, widest_tie}
 use Rattle.rules.specs.Lists.{pick, sift, below}
 use Rattle.arrays.specs.Sets.{fill, placed, built, members, head_or, without}
@@ -13,12 +13,9 @@ use Rattle.ties.specs.Ties.{keeps_of, choice_of}
 use Rattle.pot.specs.declared.PotState.{PotState}
 use Rattle.pot.specs.declared.Look.{Look}
 
--- the mark of a bid that is not of this auction; the number that is no delivery year
+-- the mark of a bid that is not of this auction
 abbrev pub not_here : ℕ
 not_here = 9
-
-abbrev pub no_year : ℕ
-no_year = most_deliveries
 
 -- the lowest price of a list of bids, none where there is no bid
 unfoldable pub least_or : (sheet : List ℕ) → List ℕ → ℕ
@@ -63,6 +60,11 @@ turn_of sheet v k s = record {
   drawn = s.drawn;
 }
 
+-- a step for each bid of a list, the last of the list first
+abbrev pub Each : (step : PotState → ℕ → PotState → Type 0) → PotState → List ℕ → PotState → Type 0
+Each step s [] r = r ≡ s
+Each step s (k ∷ l) r = (t : PotState) × Each step s l t × step t k r
+
 unfoldable pub win_all : (sheet : List ℕ) (price : ℕ) → PotState → List ℕ → PotState
 win_all sheet price s [] = s
 win_all sheet price s (k ∷ l) = win_of sheet price k (win_all sheet price s l)
@@ -71,7 +73,7 @@ unfoldable pub turn_all : (sheet : List ℕ) (v : ℕ) → PotState → List ℕ
 turn_all sheet v s [] = s
 turn_all sheet v s (k ∷ l) = turn_of sheet v k (turn_all sheet v s l)
 
--- a bid is turned down alone; the year d hangs; the year d closes; the year that hangs closes; a tie was too wide
+-- a bid is turned down alone; a year hangs, or none; the year d closes; the year that hangs closes, if one does; a tie was too wide
 unfoldable pub turned_of : ℕ → PotState → PotState
 turned_of k s = record {
   marks = set s.marks k down_alone;
@@ -80,20 +82,20 @@ turned_of k s = record {
   prices = s.prices;
   sums = s.sums;
   totals = s.totals;
-  hang = no_year;
+  hang = None;
   wide = s.wide;
   drawn = s.drawn;
 }
 
-unfoldable pub hung_of : ℕ → PotState → PotState
-hung_of d s = record {
+unfoldable pub hung_of : Option ℕ → PotState → PotState
+hung_of year s = record {
   marks = s.marks;
   won = s.won;
   opened = s.opened;
   prices = s.prices;
   sums = s.sums;
   totals = s.totals;
-  hang = d;
+  hang = year;
   wide = s.wide;
   drawn = s.drawn;
 }
@@ -106,13 +108,17 @@ shut_of d s = record {
   prices = s.prices;
   sums = s.sums;
   totals = s.totals;
-  hang = no_year;
+  hang = None;
   wide = s.wide;
   drawn = s.drawn;
 }
 
+unfoldable pub shut_in : Option ℕ → PotState → PotState
+shut_in None s = hung_of None s
+shut_in (Some d) s = pick (ltb d most_deliveries) (shut_of d s) (hung_of None s)
+
 unfoldable pub settled_of : PotState → PotState
-settled_of s = pick (ltb s.hang no_year) (shut_of s.hang s) (hung_of no_year s)
+settled_of s = shut_in s.hang s
 
 unfoldable pub widened : PotState → PotState
 widened s = record {
@@ -143,15 +149,19 @@ pub record Looking (sheet : List ℕ) (of : Size) (s : PotState) : Type 0 where
   pub others : Others sheet of s
 
 -- a look that sees one more bid, k at a price; and of a list of bids
-unfoldable pub joined_of : Look → (q k : ℕ) → Look
-joined_of l q k =
+unfoldable pub joined_of : Option Look → (q k : ℕ) → Look
+joined_of None q k = record { price = q; count = 1; last = k }
+joined_of (Some l) q k =
     pick (ltb l.price q) l (pick (ltb q l.price) (record { price = q; count = 1; last = k }) (record { price = q; count = l.count + 1; last = k }))
 
-unfoldable pub look_of : (sheet : List ℕ) → List ℕ → Look
-look_of sheet [] = record { price = no_price; count = 0; last = 0 }
-look_of sheet (k ∷ l) = joined_of (look_of sheet l) (row_price sheet k) k
+unfoldable pub look_of : (sheet : List ℕ) → List ℕ → Option Look
+look_of sheet [] = None
+look_of sheet (k ∷ l) = Some (joined_of (look_of sheet l) (row_price sheet k) k)
 
--- what a look has seen: the lowest live price, how many bids carry it, and the last of these
+-- what a look has seen: that no bid is live; or the lowest live price, how many bids carry it, and the last of these
+abbrev pub NoneLive : (sheet : List ℕ) (of : Size) → PotState → Type 0
+NoneLive sheet of s = sift (live_of sheet s) (below of.bids) ≡ []
+
 pub record Looked (sheet : List ℕ) (of : Size) (s : PotState) (l : Look) : Type 0 where
   pub price : l.price ≡ lowest_of sheet s of.bids
   pub count : l.count ≡ length (members (taken_of sheet of s) of.bids)
@@ -166,10 +176,10 @@ follows_of sheet of k s = sole_of sheet k (members (taken_of sheet of s) of.bids
 
 -- a bid that was taken alone does not fit
 unfoldable pub alone_of : (sheet : List ℕ) (of : Size) (k : ℕ) → PotState → PotState
-alone_of sheet of k s = pick (follows_of sheet of k (turned_of k s)) (hung_of (row_year sheet k) (turned_of k s)) (shut_of (row_year sheet k) (turned_of k s))
+alone_of sheet of k s = pick (follows_of sheet of k (turned_of k s)) (hung_of (Some (row_year sheet k)) (turned_of k s)) (shut_of (row_year sheet k) (turned_of k s))
 
--- another number is the one that the next tie is drawn by
-unfoldable pub numbered_of : ℕ → PotState → PotState
+-- another number is the one that the next tie is drawn by, or none
+unfoldable pub numbered_of : Option ℕ → PotState → PotState
 numbered_of d s = record {
   marks = s.marks;
   won = s.won;
@@ -186,7 +196,7 @@ numbered_of d s = record {
 unfoldable pub shared_of : (sheet : List ℕ) (of : Size) (l : List Bool) (c : Choice) (price : ℕ) → PotState → PotState
 shared_of sheet of l c price s =
     numbered_of c.drawn
-    (hung_of no_year (turn_all sheet down_tied (win_all sheet price s (members c.wins of.bids)) (members (built (without l c.wins) of.bids) of.bids)))
+    (hung_of None (turn_all sheet down_tied (win_all sheet price s (members c.wins of.bids)) (members (built (without l c.wins) of.bids) of.bids)))
 
 -- ---- the sums by delivery year
 
@@ -264,6 +274,11 @@ tie_of sheet of l price s =
 unfoldable pub first_mark : (entered : Bool) → ℕ
 first_mark t = pick t no_reason not_here
 
+-- the number that another is one more than; none of 0
+unfoldable pub one_less : ℕ → Option ℕ
+one_less zero = None
+one_less (suc d) = Some d
+
 -- the marks of no bid
 unfoldable pub no_marks : List ℕ
 no_marks = replicate most_bids not_here
@@ -276,7 +291,7 @@ started_of sheet of = record {
   prices = replicate most_deliveries no_price;
   sums = replicate sums_size 0;
   totals = replicate columns 0;
-  hang = no_year;
+  hang = None;
   wide = false;
-  drawn = drawn_in sheet;
+  drawn = one_less (drawn_in sheet);
 }

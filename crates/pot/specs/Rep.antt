@@ -1,18 +1,19 @@
 -- What a pot's arrays stand for: a trace of crate rules. Assumes nothing.
-use Rattle.std.specs.Prelude.{ℕ, ◌<◌, ◌≡◌, false, not, List, [], ◌∷◌, map, length, get_or, eqb, ltb}
+use Rattle.std.specs.Prelude.{ℕ, ◌<◌, ◌≡◌, false, not, List, [], ◌∷◌, Option, None, Some, map, length, get_or, eqb}
 use Rattle.rules.specs.Names.{most_bids, most_apps, most_deliveries, no_price, no_reason, because_won}
-use Rattle.rules.specs.Lists.{pick, memb}
+use Rattle.rules.specs.Lists.{memb}
 use Rattle.rules.specs.Pot.{Pot, Trace, winners, seen, closed, hanging, wide_end, mark, price_from, drawn_after, taken, look}
 use Rattle.laws_pot.specs.Lists.{In}
 use Rattle.sheet.specs.declared.Size.{Size}
-use Rattle.sheet.specs.Sheet.{number_in, pot_in, Ready}
+use Rattle.sheet.specs.Sheet.{number_in, one_more, pot_in, Ready}
 use Rattle.pot.specs.declared.PotState.{PotState}
 use Rattle.pot.specs.declared.Look.{Look}
-use Rattle.pot.specs.Marks.{not_here, no_year, Others, Looked, Summed}
+use Rattle.pot.specs.Marks.{not_here, Others, Looked, Summed}
 
 -- the year that hangs, as the trace has it
-unfoldable pub hangs : ℕ → List ℕ
-hangs h = pick (ltb h no_year) (h ∷ []) []
+unfoldable pub hangs : Option ℕ → List ℕ
+hangs None = []
+hangs (Some d) = d ∷ []
 
 pub record Sizes (s : PotState) : Type 0 where
   pub marks : length s.marks ≡ most_bids
@@ -31,7 +32,7 @@ pub record Rep (P : Pot) (t : Trace) (s : PotState) : Type 0 where
   pub free : (d : ℕ) → d < most_deliveries → get_or s.opened d false ≡ not (memb d (closed t))
   pub price : (d : ℕ) → d < most_deliveries → get_or s.prices d 0 ≡ price_from P no_price (winners t) d
   pub hang : hanging t ≡ hangs s.hang
-  pub drawn : drawn_after P t ≡ number_in s.drawn
+  pub drawn : drawn_after P t ≡ number_in (one_more s.drawn)
 
 -- .. or say that a tie was too wide, and then no more than that
 pub record Stands (P : Pot) (t : Trace) (s : PotState) : Type 0 where

@@ -3,14 +3,15 @@ ghost use Rattle.std.specs.Prelude.{◌≡◌, ◌<◌};
 ghost use Rattle.rules.specs.Names.{most_deliveries};
 ghost use Rattle.pot.specs.Marks.{hung_of, shut_of, settled_of};
 
-use super::{NO_YEAR, PotState};
+use super::PotState;
+use names::MOST_DELIVERIES;
 
 impl PotState {
-    // Year d hangs.
-    pub(crate) fn hung(mut self, d: usize) -> PotState
-        ensures { result ≡ hung_of d self }
+    // A year hangs, or none.
+    pub(crate) fn hung(mut self, year: Option<usize>) -> PotState
+        ensures { result ≡ hung_of year self }
     {
-        self.hang = d;
+        self.hang = year;
         self
     }
 
@@ -20,19 +21,18 @@ impl PotState {
         ensures { result ≡ shut_of d self }
     {
         self.opened[d] = false;
-        self.hang = NO_YEAR;
+        self.hang = None;
         self
     }
 
-    // The year that hangs closes.
+    // The year that hangs closes, if one does.
     pub(crate) fn settled(self) -> PotState
         ensures { result ≡ settled_of self }
     {
-        let d = self.hang;
-        if d < NO_YEAR {
-            self.shut(d)
-        } else {
-            self.hung(NO_YEAR)
+        // the state alone does not say that it is a delivery year
+        match self.hang {
+            Some(d) if d < MOST_DELIVERIES => self.shut(d),
+            _ => self.hung(None),
         }
     }
 }

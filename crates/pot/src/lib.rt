@@ -3,7 +3,7 @@
 #![tactic(auto)]
 
 ghost use Rattle.rules.specs.Pot.{auction};
-ghost use Rattle.sheet.specs.Sheet.{pot_in, Ready};
+ghost use Rattle.sheet.specs.Sheet.{pot_in};
 ghost use Rattle.pot.specs.Marks.{Summed};
 ghost use Rattle.pot.specs.Rep.{Stands};
 
@@ -16,11 +16,8 @@ mod tie;
 mod trial;
 
 use names::{APPS, BIDS, MOST_DELIVERIES};
-use sheet::{COLUMNS, Sheet, Size};
+use sheet::{COLUMNS, Sheet};
 use totals::sums::Sums;
-
-// No year hangs.
-const NO_YEAR: usize = MOST_DELIVERIES;
 
 // The marks of every bid, the applications that have won, the years that are open, and the clearing price of each year.
 #[derive(Clone, Copy)]
@@ -32,15 +29,15 @@ pub struct PotState {
     pub sums: Sums,
     // what all winners count: the row of totals
     pub totals: [u64; COLUMNS],
-    // the year left open though a bid was turned down there, or `NO_YEAR`
-    pub hang: usize,
+    // the year left open though a bid was turned down there, if there is one
+    pub hang: Option<usize>,
     // a tie was too wide
     pub wide: bool,
-    // one more than the number that the next tie is drawn by, 0 where there is none
-    pub drawn: u64,
+    // the number that the next tie is drawn by, if there is one
+    pub drawn: Option<u64>,
 }
 
-// What a look at the live bids sees: the lowest price, none where no bid is live; how many bids carry it, and the last of these in the order of the file.
+// What a look at the live bids sees, where there is one: the lowest price, how many bids carry it, and the last of these in the order of the file.
 #[derive(Clone, Copy)]
 pub struct Look {
     pub price: u64,
@@ -49,10 +46,8 @@ pub struct Look {
 }
 
 // The auction of a pot.
-pub fn auction(sheet: &Sheet, of: Size) -> PotState
-    requires { Ready sheet.now of }
-    ensures { Stands (pot_in sheet.now of) (auction (pot_in sheet.now of)) result × Summed sheet.now of result }
+pub fn auction(sheet: &Sheet) -> PotState
+    ensures { Stands (pot_in sheet.now.cells.now sheet.now.size) (auction (pot_in sheet.now.cells.now sheet.now.size)) result × Summed sheet.now.cells.now sheet.now.size result }
 {
-    let s = start::started(sheet, of);
-    s.run(sheet, of)
+    start::started(sheet).run(sheet)
 }

@@ -1,11 +1,10 @@
 // The state of a pot before the first look.
 ghost use Rattle.std.specs.Prelude.{◌≡◌};
-ghost use Rattle.sheet.specs.Sheet.{Ready};
 ghost use Rattle.pot.specs.Marks.{first_mark, started_of};
 
-use super::{NO_YEAR, PotState};
+use super::PotState;
 use names::{APPS, BIDS, MOST_DELIVERIES};
-use sheet::{COLUMNS, Sheet, Size};
+use sheet::{COLUMNS, Sheet};
 use totals::marks;
 
 // The mark of a bid that no look has seen.
@@ -16,16 +15,12 @@ fn first_mark(entered: bool) -> u16
 }
 
 // No bid has been looked at: those that are not of this auction are marked so.
-pub fn started(sheet: &Sheet, of: Size) -> PotState
-    requires { Ready sheet.now of }
-    ensures { result ≡ started_of sheet.now of }
+pub fn started(sheet: &Sheet) -> PotState
+    ensures { result ≡ started_of sheet.now.cells.now sheet.now.size }
 {
     let mut marks = [marks::OTHER; BIDS];
-    let bids = of.bids;
-    let mut k: usize = 0;
-    while k < bids {
-        marks[k] = first_mark(sheet::in_auction(sheet, k));
-        k += 1;
+    for k in 0..sheet.size.bids {
+        marks[k] = first_mark(sheet::in_auction(sheet.cells, k));
     }
     PotState {
         marks,
@@ -34,8 +29,8 @@ pub fn started(sheet: &Sheet, of: Size) -> PotState
         prices: [names::NO_PRICE; MOST_DELIVERIES],
         sums: [0; MOST_DELIVERIES * COLUMNS],
         totals: [0; COLUMNS],
-        hang: NO_YEAR,
+        hang: None,
         wide: false,
-        drawn: sheet::drawn(sheet),
+        drawn: sheet::drawn(sheet.cells),
     }
 }

@@ -1,7 +1,6 @@
 // "A trial adds bids to the winners, sets the clearing price of their years to their price, revalues every winner".
 ghost use Rattle.std.specs.Prelude.{◌≡◌, ◌<◌, length};
 ghost use Rattle.rules.specs.Names.{most_deliveries};
-ghost use Rattle.sheet.specs.Sheet.{Ready};
 ghost use Rattle.totals.specs.Totals.{sums_size, Totalling};
 ghost use Rattle.pot.specs.Marks.{Valued, renewed_of, renewed_to, totalled_of, revalued_of, tried_of, trial_of};
 
@@ -11,28 +10,22 @@ use sheet::{Sheet, Size};
 
 impl PotState {
     // The winners that start in year d are revalued at its clearing price.
-    pub(crate) fn renewed(mut self, sheet: &Sheet, of: Size, d: usize) -> PotState
-        requires { Ready sheet.now of × (d < most_deliveries) }
-        ensures { result ≡ renewed_of sheet.now of d self }
+    pub(crate) fn renewed(mut self, sheet: &Sheet, d: usize) -> PotState
+        requires { d < most_deliveries }
+        ensures { result ≡ renewed_of sheet.now.cells.now sheet.now.size d self }
     {
-        let marks = self.marks;
-        let price = self.prices[d];
-        let row = totals::part(sheet, of, marks, price, d);
-        let sums = self.sums;
-        self.sums = totals::sums::laid(of, sums, row, d);
+        let row = totals::part(sheet, self.marks, self.prices[d], d);
+        self.sums = totals::sums::laid(sheet.size, self.sums, row, d);
         self
     }
 
     // The winners of every year are revalued.
-    pub(crate) fn all_renewed(self, sheet: &Sheet, of: Size) -> PotState
-        requires { Ready sheet.now of }
-        ensures { result ≡ renewed_to sheet.now of self most_deliveries }
+    pub(crate) fn all_renewed(self, sheet: &Sheet) -> PotState
+        ensures { result ≡ renewed_to sheet.now.cells.now sheet.now.size self most_deliveries }
     {
         let mut t = self;
-        let mut d: usize = 0;
-        while d < MOST_DELIVERIES {
-            t = t.renewed(sheet, of, d);
-            d += 1;
+        for d in 0..MOST_DELIVERIES {
+            t = t.renewed(sheet, d);
         }
         t
     }
@@ -42,39 +35,35 @@ impl PotState {
         requires { Totalling of self.sums }
         ensures { result ≡ totalled_of of self }
     {
-        let sums = self.sums;
-        let row = totals::sums::column_totals(of, sums);
-        self.totals = row;
+        self.totals = totals::sums::column_totals(of, self.sums);
         self
     }
 
     // Every winner is revalued: the row of totals.
-    pub(crate) fn revalued(self, sheet: &Sheet, of: Size) -> PotState
-        requires { Ready sheet.now of × (length self.sums ≡ sums_size) }
-        ensures { result ≡ revalued_of sheet.now of self }
+    pub(crate) fn revalued(self, sheet: &Sheet) -> PotState
+        requires { length self.sums ≡ sums_size }
+        ensures { result ≡ revalued_of sheet.now.cells.now sheet.now.size self }
     {
-        let t = self.all_renewed(sheet, of);
-        t.totalled(of)
+        self.all_renewed(sheet).totalled(sheet.size)
     }
 
     // A trial of one bid: it is added to the winners, the clearing price of its year is its price, and the winners of that year are revalued, since no
     // other's price has changed.
-    pub(crate) fn tried(self, sheet: &Sheet, of: Size, k: usize, price: u64) -> PotState
-        requires { Valued sheet.now of self × (k < of.bids) }
-        ensures { result ≡ tried_of sheet.now of price k self }
+    pub(crate) fn tried(self, sheet: &Sheet, k: usize, price: u64) -> PotState
+        requires { Valued sheet.now.cells.now sheet.now.size self × (k < sheet.now.size.bids) }
+        ensures { result ≡ tried_of sheet.now.cells.now sheet.now.size price k self }
     {
-        let d = sheet::year(sheet, k);
-        let u = self.win(sheet, of, k, price);
-        let t = u.renewed(sheet, of, d);
-        t.totalled(of)
+        let d = sheet::year(sheet.cells, k);
+        self.win(sheet, k, price)
+            .renewed(sheet, d)
+            .totalled(sheet.size)
     }
 
     // A trial of a set of bids.
-    pub(crate) fn trial(self, sheet: &Sheet, of: Size, set: [bool; BIDS], price: u64) -> PotState
-        requires { Valued sheet.now of self }
-        ensures { result ≡ trial_of sheet.now of price set self }
+    pub(crate) fn trial(self, sheet: &Sheet, set: [bool; BIDS], price: u64) -> PotState
+        requires { Valued sheet.now.cells.now sheet.now.size self }
+        ensures { result ≡ trial_of sheet.now.cells.now sheet.now.size price set self }
     {
-        let t = self.win_all(sheet, of, set, price);
-        t.revalued(sheet, of)
+        self.win_all(sheet, set, price).revalued(sheet)
     }
 }

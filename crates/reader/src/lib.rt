@@ -1,7 +1,7 @@
-// "A reader holds the file and its place in it." Thin functions take it apart and call covered ones on slice and number.
+// "A reader holds the file and its place in it." Thin functions take it apart and call those on slice and number.
 #![tactic(auto)]
 
-ghost use Rattle.std.specs.Prelude.{◌≡◌, ◌+◌, ◌-◌, ◌≤◌, ◌<◌, ◌^◌, min, length};
+ghost use Rattle.std.specs.Prelude.{◌≡◌, ◌+◌, ◌-◌, ◌≤◌, ◌<◌, ◌^◌, length};
 ghost use Rattle.rules.specs.Names.{count_width};
 ghost use Rattle.rules.specs.Bytes.{le, part};
 
@@ -13,26 +13,19 @@ pub struct Reader<'a> {
 
 // ---- the work, on slice and number
 
-fn lesser(a: usize, b: usize) -> usize
-    ensures { result ≡ min a b }
-{
-    if a < b { a } else { b }
-}
-
 // The part of a file from `at` to `next`, or to where the file ends.
 pub fn part_to(file: &[u8], at: usize, next: usize) -> &[u8]
     ensures { result.now ≡ part file.now at next }
 {
-    let end = lesser(next, file.len());
-    let start = lesser(at, end);
-    &file[start..end]
+    let end = next.min(file.len());
+    &file[at.min(end)..end]
 }
 
 // How many bytes of a file are left at `at`.
 pub fn left(file: &[u8], at: usize) -> usize
     ensures { result ≡ length file.now - at }
 {
-    if at < file.len() { file.len() - at } else { 0 }
+    file.len().saturating_sub(at)
 }
 
 // ---- the reader
@@ -49,10 +42,7 @@ pub fn past<'a>(r: Reader<'a>, n: usize) -> Reader<'a>
     requires { r.at + n < 2 ^ 64 }
     ensures { (result.file ≡ r.entry.file) × (result.at ≡ r.entry.at + n) }
 {
-    Reader {
-        file: r.file,
-        at: r.at + n,
-    }
+    Reader { at: r.at + n, ..r }
 }
 
 // The count at the reader's place.

@@ -1,39 +1,29 @@
 // Prints the reading of each file on standard input.
 #![tactic(auto)]
 
-use cases::Got;
-use rules::{Reading, Sections};
+use rules::Sections;
 use std::io;
-use text::{field, word};
 
-fn accepted(out: &impl Print, s: Sections) -> io::Result<()> {
-    field(out, b"accepted ", s.years as u64)?;
-    field(out, b" ", s.deliveries as u64)?;
-    field(out, b" ", s.pots as u64)?;
-    field(out, b" ", s.technologies as u64)?;
-    field(out, b" ", s.applications as u64)?;
-    field(out, b" ", s.bids as u64)?;
-    word(out, b"\n")
+fn accepted(out: &impl Print, sections: Sections) -> io::Result<()> {
+    let Sections {
+        years,
+        deliveries,
+        pots,
+        technologies,
+        applications,
+        bids,
+        ..
+    } = sections;
+    println!(out; "accepted {years} {deliveries} {pots} {technologies} {applications} {bids}")
 }
 
-fn print(out: &impl Print, r: Reading) -> io::Result<()> {
-    match r {
-        Reading::Accepted { sections } => accepted(out, sections),
-        Reading::Refused { number, at } => text::refused(out, number, at),
+fn print(out: &impl Print, file: &[u8]) -> io::Result<()> {
+    match file::read(file) {
+        Ok(sections) => accepted(out, sections),
+        Err(refusal) => text::refused(out, refusal),
     }
 }
 
 fn main(rt: HostRuntime) -> io::Result<()> {
-    let mut reader = rt.reader();
-    let mut file = cases::blank();
-    let mut turns: u64 = 1000000;
-    while turns > 0 {
-        let got = cases::next(&mut reader, &mut file)?;
-        let Got::File { length } = got else {
-            return Ok(());
-        };
-        print(&rt, file::read(&file[..length]))?;
-        turns -= 1;
-    }
-    Ok(())
+    cases::each(&mut rt.reader(), |file| print(&rt, file))
 }

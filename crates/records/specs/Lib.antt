@@ -1,2 +1,4 @@
 pub mod Numbers
 pub mod Records
+pub mod Order
+pub mod Years

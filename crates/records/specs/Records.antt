@@ -4,8 +4,7 @@ use Rattle.rules.specs.Names.{year_width, pot_width, tech_width, app_width}
 use Rattle.rules.specs.File.{deliveries}
 use Rattle.rules.specs.Refusals.{scan, record_fault, year_fault, pot_fault, tech_fault, app_fault}
 use Rattle.rules.specs.declared.Sections.{Sections}
-use Rattle.rules.specs.declared.Reading.{Reading}
-use Rattle.rules.specs.declared.Reading.TheVariants.{Accepted}
+use Rattle.rules.specs.Reading.{Reading, Accepted}
 use Rattle.layout.specs.Layout.{laid_out}
 
 -- the sections of a file of which the years are read: how many, d of them delivery years, from `base` on

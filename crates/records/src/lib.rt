@@ -2,6 +2,7 @@
 #![tactic(auto)]
 
 pub mod applications;
+mod order;
 pub mod pots;
 pub mod technologies;
 pub mod years;

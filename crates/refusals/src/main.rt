@@ -5,28 +5,17 @@ mod broken;
 mod rule;
 mod whose;
 
-use rules::Reading;
 use std::io;
-use text::{field, word};
-
-fn refused(out: &impl Print, file: &[u8], number: u64, at: usize) -> io::Result<()> {
-    word(out, b"refused: ")?;
-    if number == names::BYTES_AFTER {
-        word(out, b"the file")?;
-    } else {
-        whose::record(out, file, at)?;
-    }
-    field(out, b" breaks rule ", number)?;
-    rule::words(out, file, number, at)?;
-    word(out, b"\n")
-}
+use whose::Whose;
 
 fn explain(out: &impl Print, file: &[u8]) -> io::Result<()> {
-    let got = file::read(file);
-    match got {
-        Reading::Accepted { sections: _ } => Ok(()),
-        Reading::Refused { number, at } => refused(out, file, number, at),
-    }
+    let Err(refusal) = file::read(file) else {
+        return Ok(());
+    };
+    let number = refusal.rule.number();
+    let what = Whose::of(file, refusal);
+    let words = rule::words(file, refusal);
+    println!(out; "refused: {what} breaks rule {number}: {words}")
 }
 
 fn main(rt: HostRuntime) -> io::Result<()> {

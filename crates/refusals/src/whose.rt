@@ -6,8 +6,36 @@ ghost use Rattle.layout.specs.Layout.{beyond};
 
 use layout::{pot, technology};
 use places::{count, on};
-use std::io;
-use text::{number, word};
+use rules::{Refusal, Rule};
+use std::fmt;
+
+// `bid 6`, `the count of bids`, or the file.
+#[derive(Drop)]
+pub enum Whose {
+    Record { one: &'static str, number: usize },
+    Count { many: &'static str },
+    File,
+}
+
+impl fmt::Display for Whose {
+    fn fmt<W: fmt::Write>(&self, f: &mut fmt::Formatter<W>) -> fmt::Result {
+        match self {
+            Whose::Record { one, number } => write!(f, "{one} {number}"),
+            Whose::Count { many } => write!(f, "the count of {many}"),
+            Whose::File => write!(f, "the file"),
+        }
+    }
+}
+
+impl Whose {
+    // What is refused.
+    pub fn of(file: &[u8], refusal: Refusal) -> Self {
+        match refusal.rule {
+            Rule::BytesAfter => Self::File,
+            _ => record(file, refusal.at),
+        }
+    }
+}
 
 // The place after a section of n records, whose count is at `at`.
 pub fn after(at: usize, n: usize, width: usize) -> usize
@@ -17,59 +45,27 @@ pub fn after(at: usize, n: usize, width: usize) -> usize
     on(on(at, names::COUNT_WIDTH), n * width)
 }
 
-// `bid 6`, or `the count of bids`: the record that starts at `at`, of a section whose count is at `start`. No width is 0 where a record is
-// at fault, since the file then has a year.
-fn told(
-    out: &impl Print,
-    start: usize,
-    at: usize,
-    width: usize,
-    one: &[u8],
-    many: &[u8],
-) -> io::Result<()> {
+// What starts at `at`, of a section whose count is at `start`. No width is 0 where a record is at fault, since the file then has a year.
+fn told(start: usize, at: usize, width: usize, one: &'static str, many: &'static str) -> Whose {
     let first = on(start, names::COUNT_WIDTH);
     if at < first {
-        word(out, b"the count of ")?;
-        return word(out, many);
+        return Whose::Count { many };
     }
-    word(out, one)?;
-    word(out, b" ")?;
-    if width > 0 {
-        number(out, ((at - first) / width) as u64)?;
-    }
-    Ok(())
+    let number = (at - first).checked_div(width).unwrap_or(0);
+    Whose::Record { one, number }
 }
 
-// An application or a bid, where the applications' count is at `applications_at`.
-fn of_offers(out: &impl Print, file: &[u8], applications_at: usize, at: usize) -> io::Result<()> {
-    let bids_at = after(
-        applications_at,
-        count(file, applications_at),
-        names::APP_WIDTH,
-    );
-    if at < bids_at {
-        return told(
-            out,
-            applications_at,
-            at,
-            names::APP_WIDTH,
-            b"application",
-            b"applications",
-        );
+fn record(file: &[u8], at: usize) -> Whose {
+    let years = count(file, 0);
+    let pots_at = after(0, years, names::YEAR_WIDTH);
+    if at < pots_at {
+        return told(0, at, names::YEAR_WIDTH, "year", "years");
     }
-    told(out, bids_at, at, names::BID_WIDTH, b"bid", b"bids")
-}
-
-// A pot, or what follows, in a file of so many years whose count of pots is at `pots_at`.
-fn of_pots(out: &impl Print, file: &[u8], years: usize, pots_at: usize, at: usize) -> io::Result<()>
-    requires { years < 65536 }
-{
     let counted = count(file, pots_at) as u64;
     let pot_width = pot::width(years, pot::gained_told(counted));
-    let pots = pot::pots_told(counted) as usize;
-    let technologies_at = after(pots_at, pots, pot_width);
+    let technologies_at = after(pots_at, pot::pots_told(counted) as usize, pot_width);
     if at < technologies_at {
-        return told(out, pots_at, at, pot_width, b"pot", b"pots");
+        return told(pots_at, at, pot_width, "pot", "pots");
     }
     let technology_width = technology::width(years);
     let applications_at = after(
@@ -79,22 +75,31 @@ fn of_pots(out: &impl Print, file: &[u8], years: usize, pots_at: usize, at: usiz
     );
     if at < applications_at {
         return told(
-            out,
             technologies_at,
             at,
             technology_width,
-            b"technology",
-            b"technologies",
+            "technology",
+            "technologies",
         );
     }
-    of_offers(out, file, applications_at, at)
+    offer(file, applications_at, at)
 }
 
-pub fn record(out: &impl Print, file: &[u8], at: usize) -> io::Result<()> {
-    let years = count(file, 0);
-    let pots_at = after(0, years, names::YEAR_WIDTH);
-    if at < pots_at {
-        return told(out, 0, at, names::YEAR_WIDTH, b"year", b"years");
+// An application or a bid, where the applications' count is at `applications_at`.
+fn offer(file: &[u8], applications_at: usize, at: usize) -> Whose {
+    let bids_at = after(
+        applications_at,
+        count(file, applications_at),
+        names::APP_WIDTH,
+    );
+    if at < bids_at {
+        return told(
+            applications_at,
+            at,
+            names::APP_WIDTH,
+            "application",
+            "applications",
+        );
     }
-    of_pots(out, file, years, pots_at, at)
+    told(bids_at, at, names::BID_WIDTH, "bid", "bids")
 }

@@ -1,8 +1,7 @@
 -- The lengths of the sections, and what is told of a round is its result. Assumes nothing.
-use Prim.Native.Nat.{ℕ, ◌+◌, ◌-◌, ◌*◌, ◌≤◌, ◌<◌}
+use Prim.Native.Nat.{ℕ, ◌+◌, ◌-◌, ◌*◌, ◌<◌}
 use mathlib.Core.Path.{◌≡◌, refl, sym, ap, ◌∙◌}
 use mathlib.Core.List.{List}
-use native.Mathlib.Nat.{mul-le-mul}
 use native.Mathlib.Omega.{arith}
 use lib.ListN.{length, take, drop, get_or, length-append}
 use borrow.Rule.Slice.PartMut.{put_mid}
@@ -17,11 +16,11 @@ use Rattle.rules.specs.Result as rules
 use Rattle.rules.specs.declared.Sections.{Sections}
 use Rattle.rules.specs.declared.Told.{Told}
 use Rattle.store.specs.Filled.{Filled, numbers}
-use Rattle.store.proofs.Laws.{filled_none, filled_span, filled_rest, length_bytes, length_each, length_numbers, each_same, room}
+use Rattle.store.proofs.Laws.{filled_none, filled_part, filled_span, filled_rest, length_bytes, length_each, length_numbers, each_same}
 use Rattle.result.specs.declared.PotTold.{PotTold}
 use Rattle.result.specs.declared.Tellings.{Tellings}
 use Rattle.result.specs.Tells.{untold, InRange, Counted, no_pot, Tells}
-use Rattle.result.specs.ToldBytes.{outcome_size, price_size, total_size, reason_size, app_size, pot_size, result_size, largest_pots}
+use Rattle.result.specs.ToldBytes.{outcome_size, price_size, total_size, reason_size, app_size, pot_size, result_size}
 use Rattle.result.specs.ToldBytes.{pot_bytes_told, pot_record, app_record, pots_told, apps_told, bids_told, round_told}
 
 -- ---- the lengths, and the parts filled one after the other
@@ -45,13 +44,13 @@ module _ (t : Tellings) (sections : Sections) where
 
   -- the three sections
   pub round_filled : (second third end : ℕ) {s us vs ws : List ℕ} → second ≡ count_width + sections.pots * pot_size sections
-      → third ≡ second + (count_width + sections.applications * app_size) → Filled (pots_told t sections) (take (second - 0) (drop 0 s)) us
-      → let xs = put_mid 0 (second - 0) s us in Filled (apps_told t sections) (take (third - second) (drop second xs)) vs
+      → third ≡ second + (count_width + sections.applications * app_size) → Filled (pots_told t sections) (take second s) us
+      → let xs = put_mid 0 second s us in Filled (apps_told t sections) (take (third - second) (drop second xs)) vs
       → let ys = put_mid second (third - second) xs vs in Filled (bids_told t sections) (take (end - third) (drop third ys)) ws
       → Filled (round_told t sections) s (put_mid third (end - third) ys ws)
   unfolding round_told
   round_filled second third end {s} e h f g k =
-      let one = filled_span 0 second refl (filled_none s) f in
+      let one = filled_part 0 second refl (filled_none s) f in
       let two = filled_span second third (length_pots ∙ sym e) one g in
       filled_span third end (rw (length-append, length_pots, length_apps) (omega (arith, e, h))) two k
 
@@ -65,19 +64,6 @@ pub pot_filled : (sections : Sections) (told : PotTold) (at : ℕ) → at ≡ ou
 unfolding pot_bytes_told
 pot_filled sections told at e f g h =
     filled_rest at (rw (length-append, length_bytes, length_numbers) (omega arith)) (filled_rest outcome_size (length_bytes outcome_size _) f g) h
-
--- all records stand there once the count is reached
-pub filled_all : (f : ℕ → List ℕ) {i n : ℕ} {s u : List ℕ} → Filled (each f i) s u → i ≤ n → n ≤ i → Filled (each f n) s u
-filled_all f {i} {n} F h g = let e : i ≡ n = omega arith in rw (← e) F
-
--- the next record of a pot has room
-pub pot_room : (sections : Sections) {p at l m : ℕ} → p < sections.pots → at ≡ p * pot_size sections → l ≡ m → sections.pots * pot_size sections ≤ m
-    → at + pot_size sections ≤ l
-pot_room sections {p} h e q g = rw (e, q) (room p sections.pots (pot_size sections) h g)
-
--- the records of the pots are few
-pub pots_few : (sections : Sections) → InRange sections → sections.pots * pot_size sections ≤ largest_pots
-pots_few sections ok = mul-le-mul {n₂ = 4} {m₂ = 82} ok.pots (omega (arith, ok.deliveries, ok.years))
 
 -- ---- what is told of a round is its result
 

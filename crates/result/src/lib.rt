@@ -1,19 +1,19 @@
 // The result: what is told of a round, as counts and records in bytes, each section through its own part of the lent buffer.
 #![tactic(auto)]
 
-ghost use Rattle.std.specs.Prelude.{◌≡◌, ◌+◌, ◌*◌, ◌≤◌, ◌<◌, length};
+ghost use Rattle.std.specs.Prelude.{◌≡◌, ◌+◌, ◌*◌, ◌≤◌, length};
 ghost use Rattle.rules.specs.Names.{count_width};
-ghost use Rattle.rules.specs.Bytes.{each, onto};
+ghost use Rattle.rules.specs.Bytes.{onto};
 ghost use Rattle.rules.specs.File.{Round};
 ghost use Rattle.rules.specs.Result.{app_bytes, needed, result_bytes};
 ghost use Rattle.store.specs.Filled.{Filled};
 ghost use Rattle.result.specs.Tells.{InRange, Counted, Tells};
 ghost use Rattle.result.specs.ToldBytes.{app_size, reason_size, pot_size, result_size, largest_pots, largest_result};
-ghost use Rattle.result.specs.ToldBytes.{pot_bytes_told, pot_record, app_record, pots_told, apps_told, bids_told, round_told};
+ghost use Rattle.result.specs.ToldBytes.{pot_bytes_told, pots_told, apps_told, bids_told, round_told};
 
 use names::{COUNT_WIDTH, MOST_APPS, MOST_BIDS, MOST_DELIVERIES, MOST_POTS, YEARS};
 use rules::{Sections, Told};
-use store::{put, put_all};
+use store::{put, put_all, records};
 
 // The sizes in bytes of the result's fields: of a pot, of an application, and the reason of a bid as of an application.
 const OUTCOME_SIZE: usize = 2;
@@ -56,55 +56,61 @@ pub struct Tellings {
     pub reasons: [u64; MOST_BIDS as usize],
 }
 
-// The record of a pot: outcome, clearing price for each delivery year, total for each year.
-fn pot_record(s: &mut [u8], told: PotTold, sections: Sections)
-    requires ready { InRange sections }
-    requires room { pot_size sections ≤ length s.old }
-    ensures { Filled (pot_bytes_told sections told) s.old s.new }
-{
-    put(s, OUTCOME_SIZE, told.outcome);
-    let prices = told.prices;
-    let d = sections.deliveries;
-    put_all(&mut s[OUTCOME_SIZE..], PRICE_SIZE, &prices, 0, d);
-    let totals = told.totals;
-    let at = OUTCOME_SIZE + PRICE_SIZE * d;
-    put_all(&mut s[at..], TOTAL_SIZE, &totals, 0, sections.years);
+// The sections of a round, whose counts are seen to be in their ranges before anything is told of it.
+#[derive(Clone, Copy)]
+pub struct Counts {
+    pub sections: Sections,
+    ghost in_range: { InRange sections },
 }
 
-// How many bytes the record of a pot takes.
-fn pot_size(sections: Sections) -> usize
-    requires { InRange sections }
-    ensures { result ≡ pot_size sections }
-{
-    OUTCOME_SIZE + PRICE_SIZE * sections.deliveries + TOTAL_SIZE * sections.years
-}
+impl Counts {
+    // How many bytes the record of a pot takes.
+    fn pot_size(self) -> usize
+        ensures { result ≡ pot_size self.sections }
+    {
+        OUTCOME_SIZE + PRICE_SIZE * self.sections.deliveries + TOTAL_SIZE * self.sections.years
+    }
 
-// The records of the pots, one after the other.
-fn pot_records(s: &mut [u8], t: Tellings, sections: Sections)
-    requires ready { InRange sections }
-    requires room { sections.pots * pot_size sections ≤ length s.old }
-    ensures { Filled (each (pot_record t sections) sections.pots) s.old s.new }
-{
-    let pots = t.pots;
-    let width = pot_size(sections);
-    let n = sections.pots;
-    let mut p = 0;
-    let mut at = 0;
-    while p < n {
-        pot_record(&mut s[at..], pots[p], sections);
-        at = at + width;
-        p += 1;
+    // How many bytes the records of the pots take.
+    fn pots_size(self) -> usize
+        ensures sized { result ≡ self.sections.pots * pot_size self.sections }
+        ensures small { result ≤ largest_pots }
+    {
+        self.sections.pots * self.pot_size()
     }
 }
 
-// The section of the pots: their count, then their records.
-fn pots(s: &mut [u8], t: Tellings, sections: Sections)
-    requires ready { InRange sections }
-    requires room { count_width + sections.pots * pot_size sections ≤ length s.old }
-    ensures { Filled (pots_told t sections) s.old s.new }
+// The record of a pot: outcome, clearing price for each delivery year, total for each year.
+fn pot_record(s: &mut [u8], told: PotTold, counts: Counts)
+    requires { pot_size counts.sections ≤ length s.old }
+    ensures { Filled (pot_bytes_told counts.sections told) s.old s.new }
 {
-    put(s, COUNT_WIDTH, sections.pots as u64);
-    pot_records(&mut s[COUNT_WIDTH..], t, sections);
+    put(s, OUTCOME_SIZE, told.outcome);
+    let d = counts.sections.deliveries;
+    put_all(&mut s[OUTCOME_SIZE..], PRICE_SIZE, &told.prices, 0, d);
+    let at = OUTCOME_SIZE + PRICE_SIZE * d;
+    put_all(
+        &mut s[at..],
+        TOTAL_SIZE,
+        &told.totals,
+        0,
+        counts.sections.years,
+    );
+}
+
+// The section of the pots: their count, then their records. Here and below a local has what is read of `t`: no array is copied then, where one is if `t` is lent.
+fn pots(s: &mut [u8], t: Tellings, counts: Counts)
+    requires { count_width + counts.sections.pots * pot_size counts.sections ≤ length s.old }
+    ensures { Filled (pots_told t counts.sections) s.old s.new }
+{
+    put(s, COUNT_WIDTH, counts.sections.pots as u64);
+    let pots = t.pots;
+    records(
+        &mut s[COUNT_WIDTH..],
+        counts.pot_size(),
+        counts.sections.pots,
+        |p, part| pot_record(part, pots[p], counts),
+    );
 }
 
 // The record of an application: won, bid, automatic reason, price paid.
@@ -118,52 +124,35 @@ fn application_record(s: &mut [u8], told: Told)
     put(&mut s[PAID_AT..], PAID_SIZE, told.paid);
 }
 
-// The records of the applications, one after the other.
-fn application_records(s: &mut [u8], t: Tellings, sections: Sections)
-    requires ready { InRange sections }
-    requires room { sections.applications * app_size ≤ length s.old }
-    ensures { Filled (each (app_record t) sections.applications) s.old s.new }
-{
-    let apps = t.apps;
-    let n = sections.applications;
-    let mut a = 0;
-    let mut at = 0;
-    while a < n {
-        application_record(&mut s[at..], apps[a]);
-        at = at + APP_SIZE;
-        a += 1;
-    }
-}
-
 // The section of the applications: their count, then their records.
-fn applications(s: &mut [u8], t: Tellings, sections: Sections)
-    requires ready { InRange sections }
-    requires room { count_width + sections.applications * app_size ≤ length s.old }
-    ensures { Filled (apps_told t sections) s.old s.new }
+fn applications(s: &mut [u8], t: Tellings, counts: Counts)
+    requires { count_width + counts.sections.applications * app_size ≤ length s.old }
+    ensures { Filled (apps_told t counts.sections) s.old s.new }
 {
-    put(s, COUNT_WIDTH, sections.applications as u64);
-    application_records(&mut s[COUNT_WIDTH..], t, sections);
+    put(s, COUNT_WIDTH, counts.sections.applications as u64);
+    let apps = t.apps;
+    records(
+        &mut s[COUNT_WIDTH..],
+        APP_SIZE,
+        counts.sections.applications,
+        |a, part| application_record(part, apps[a]),
+    );
 }
 
 // The section of the bids: their count, then the reason of each.
-fn bids(s: &mut [u8], t: Tellings, sections: Sections)
-    requires ready { InRange sections }
-    requires room { count_width + sections.bids * reason_size ≤ length s.old }
-    ensures { Filled (bids_told t sections) s.old s.new }
+fn bids(s: &mut [u8], t: Tellings, counts: Counts)
+    requires { count_width + counts.sections.bids * reason_size ≤ length s.old }
+    ensures { Filled (bids_told t counts.sections) s.old s.new }
 {
-    put(s, COUNT_WIDTH, sections.bids as u64);
+    put(s, COUNT_WIDTH, counts.sections.bids as u64);
     let reasons = t.reasons;
-    let n = sections.bids;
-    put_all(&mut s[COUNT_WIDTH..], REASON_SIZE, &reasons, 0, n);
-}
-
-// How many bytes the records of the pots take.
-fn pots_size(sections: Sections) -> usize
-    requires { InRange sections }
-    ensures sized { result ≡ sections.pots * pot_size sections }
-    ensures small { result ≤ largest_pots }
-{
-    sections.pots * pot_size(sections)
+    put_all(
+        &mut s[COUNT_WIDTH..],
+        REASON_SIZE,
+        &reasons,
+        0,
+        counts.sections.bids,
+    );
 }
 
 // How many bytes the result needs.
@@ -174,7 +163,7 @@ pub fn needed(sections: Sections) -> usize
     ensures meant { (R : Round) → Counted R sections → result ≡ needed R }
 {
     3 * COUNT_WIDTH
-        + pots_size(sections)
+        + Counts { sections }.pots_size()
         + APP_SIZE * sections.applications
         + REASON_SIZE * sections.bids
 }
@@ -186,10 +175,11 @@ pub fn write(t: Tellings, sections: Sections, res: &mut [u8])
     ensures told { res.new ≡ onto (round_told t sections) res.old }
     ensures meant { (R : Round) → Counted R sections → Tells R t → res.new ≡ onto (result_bytes R) res.old }
 {
-    let second = COUNT_WIDTH + pots_size(sections);
+    let counts = Counts { sections };
+    let second = COUNT_WIDTH + counts.pots_size();
     let third = second + (COUNT_WIDTH + sections.applications * APP_SIZE);
     let end = third + (COUNT_WIDTH + sections.bids * REASON_SIZE);
-    pots(&mut res[0..second], t, sections);
-    applications(&mut res[second..third], t, sections);
-    bids(&mut res[third..end], t, sections);
+    pots(&mut res[..second], t, counts);
+    applications(&mut res[second..third], t, counts);
+    bids(&mut res[third..end], t, counts);
 }

@@ -1,6 +1,9 @@
 -- What the reading of an accepted file says to those who clear it, and one law for each return. Assumes nothing.
-use Prim.Native.Nat.{ℕ, ◌-◌, ◌≤◌, ◌<◌}
-use mathlib.Core.Path.{◌≡◌, refl, ap, ◌∙◌}
+use Prim.Native.Nat.{ℕ, ◌≤◌, ◌<◌}
+use mathlib.Core.Path.{◌≡◌, refl, sym, ap, ◌∙◌}
+use Rattle.std.specs.Prelude.{Result, Ok, Err, MatchResult}
+use Rattle.rules.specs.Reading.{reading_in}
+use Rattle.rules.specs.declared.Refusal.{Refusal}
 use mathlib.Core.List.{List}
 use native.Mathlib.Omega.{arith}
 use lib.ListN.{length}
@@ -11,8 +14,8 @@ use Rattle.rules.specs.File.{Round, round_of, sections_of}
 use Rattle.rules.specs.Refusals.{refusal, place, reading}
 use Rattle.rules.specs.Result.{needed, result_bytes, refused_as, refused_at, answer_to, answer_of, after, clear_of, length_to, length_of}
 use Rattle.rules.specs.declared.Sections.{Sections}
-use Rattle.rules.specs.declared.Reading.TheVariants as r
-use Rattle.rules.specs.declared.Answer.TheVariants.{Cleared, Refused}
+use Rattle.rules.specs.Reading as r
+use Rattle.rules.specs.Answer.{Cleared, Refused}
 use Rattle.laws_reading.specs.Reading.{Sound}
 use Rattle.laws_reading.specs.Fault.{handed_on}
 use Rattle.laws_reading.specs.Small.{largest, reading_small}
@@ -92,6 +95,12 @@ length_needed s e q = rw e q
 pub length_none : (s : List ℕ) {m at : ℕ} → reading s ≡ r.Refused m at → 0 ≡ length_of s
 unfolding length_of length_to
 length_none s e = rw e
+
+-- how long a result is needed, whatever the reading answers
+pub length_read : (s : List ℕ) (q : Result Sections Refusal) {n : ℕ} (P : Sections → Type 0) → reading_in q ≡ reading s → MatchResult q P (λ _. n ≡ 0)
+    → ((z : Sections) → P z → (R : Round) → Counted R z → n ≡ needed R) → n ≡ length_of s
+length_read s (Ok z) P p m k = length_needed s (sym p) (k z m _ (handed s (sym p)).counted)
+length_read s (Err e) P p m k = m ∙ length_none s (sym p)
 
 -- ---- the listing
 

@@ -6,8 +6,8 @@ use Rattle.rules.specs.Names.{administrative, auctioned, no_reason}
 use Rattle.rules.specs.File.{round_of, bid_at}
 use Rattle.rules.specs.Refusals.{reading}
 use Rattle.rules.specs.Result.{needed, refused_as, length_of, Outcome}
-use Rattle.rules.specs.declared.Reading.{Reading}
-use Rattle.rules.specs.declared.Answer.{Answer}
+use Rattle.rules.specs.Reading.{Reading}
+use Rattle.rules.specs.Answer.{Answer}
 use Rattle.laws_reading.specs.Small.{largest}
 use Rattle.laws_round.specs.Apart.{DifferElsewhere}
 use Rattle.laws_round.specs.Undeclared.{SaveCosts}

@@ -5,7 +5,7 @@ use Rattle.rules.specs.Lists.{pick}
 use Rattle.rules.specs.Bytes.{onto}
 use Rattle.rules.specs.Result.{refused_as, refused_at, clear_of}
 use Rattle.rules.specs.Listing.{listing_of}
-use Rattle.rules.specs.declared.Answer.{Answer}
+use Rattle.rules.specs.Answer.{Answer}
 use Rattle.laws_reading.specs.Small.{largest}
 use Rattle.listing.specs.ToldLines.{longest}
 

@@ -3,62 +3,57 @@
 #![tactic(auto)]
 
 ghost use Rattle.std.specs.Prelude.{◌≡◌, ◌≤◌, ◌<◌, length};
+ghost use Rattle.rules.specs.Answer.{answer_in};
 ghost use Rattle.rules.specs.File.{round_of};
+ghost use Rattle.rules.specs.Reading.{Accepted};
 ghost use Rattle.rules.specs.Refusals.{reading};
 ghost use Rattle.rules.specs.Result.{length_of};
-ghost use Rattle.rules.specs.declared.Reading.TheVariants.{Accepted};
 ghost use Rattle.result.specs.Tells.{Tells};
 ghost use Rattle.listing.specs.ToldLines.{longest};
 ghost use Rattle.round.specs.Round.{Clears, SmallAnswer, Lists};
 
 use result::Tellings;
-use rules::{Answer, Reading, Sections};
+use rows::RoundFile;
+use rules::{Refusal, Rule, Sections};
 
 // What is told of an accepted file, whose sections these are.
 fn told(file: &[u8], sections: Sections) -> Tellings
     requires { reading file.now ≡ Accepted sections }
     ensures { Tells (round_of file.now) result }
 {
-    tell::tell(file, sections)
+    tell::tell(&RoundFile { file, sections })
 }
 
 // An accepted file cleared into a lent result, if that is long enough.
-fn cleared(file: &[u8], sections: Sections, res: &mut [u8]) -> Answer
+fn cleared(file: &[u8], sections: Sections, res: &mut [u8]) -> Result<usize, Refusal>
     requires { reading file.now ≡ Accepted sections }
-    ensures { Clears file.now res.old result res.new × SmallAnswer result }
+    ensures { Clears file.now res.old (answer_in result) res.new × SmallAnswer (answer_in result) }
 {
     let need = result::needed(sections);
     if res.len() < need {
-        return Answer::Refused {
-            number: names::RESULT_SHORT,
+        return Err(Refusal {
+            rule: Rule::ResultShort,
             at: 0,
-        };
+        });
     }
     let t = told(file, sections);
     result::write(t, sections, res);
-    Answer::Cleared { length: need }
+    Ok(need)
 }
 
 // Clears a round file into a lent result.
-pub fn clear(file: &[u8], res: &mut [u8]) -> Answer
-    ensures { Clears file.now res.old result res.new × SmallAnswer result }
+pub fn clear(file: &[u8], res: &mut [u8]) -> Result<usize, Refusal>
+    ensures { Clears file.now res.old (answer_in result) res.new × SmallAnswer (answer_in result) }
 {
-    let got = file::read(file);
-    match got {
-        Reading::Accepted { sections } => cleared(file, sections, res),
-        Reading::Refused { number, at } => Answer::Refused { number, at },
-    }
+    let sections = file::read(file)?;
+    cleared(file, sections, res)
 }
 
 // How long a result a file needs, 0 where it is refused.
 pub fn result_len(file: &[u8]) -> usize
     ensures { result ≡ length_of file.now }
 {
-    let got = file::read(file);
-    match got {
-        Reading::Accepted { sections } => result::needed(sections),
-        Reading::Refused { number: _, at: _ } => 0,
-    }
+    file::read(file).map_or(0, result::needed)
 }
 
 // The listing of an accepted file.
@@ -78,9 +73,8 @@ pub fn list(file: &[u8], text: &mut [u8]) -> usize
     if text.len() < listing::LONGEST {
         return 0;
     }
-    let got = file::read(file);
-    match got {
-        Reading::Accepted { sections } => lines(file, sections, text),
-        Reading::Refused { number, at } => listing::refused(number, at, text),
+    match file::read(file) {
+        Ok(sections) => lines(file, sections, text),
+        Err(refusal) => listing::refused(refusal.rule.number(), refusal.at, text),
     }
 }

@@ -9,7 +9,7 @@ use Rattle.rules.specs.Bytes.{part}
 use Rattle.rules.specs.File.{Round, round_of, sections, sections_of, pots_at, bids_at, end_at}
 use Rattle.rules.specs.Refusals.{refusal, reading}
 use Rattle.rules.specs.declared.Sections.{Sections}
-use Rattle.rules.specs.declared.Reading.TheVariants.{Accepted}
+use Rattle.rules.specs.Reading.{Accepted}
 use Rattle.laws_reading.specs.Reading.{Sound}
 use Rattle.laws_reading.specs.Fault.{handed_on, ends_there}
 use Rattle.rows.specs.Rows.{round_in, Held}

@@ -3,12 +3,12 @@ ghost use Rattle.std.specs.Prelude.{◌≡◌, ◌*◌, ◌≤◌, ◌<◌};
 ghost use Rattle.rules.specs.Names.{long_year, largest_capacity, day_hours};
 ghost use Rattle.rules.specs.Value.{hours_of, most_energy, most_share};
 ghost use Rattle.layout.specs.Layout.{bid_shown};
-ghost use Rattle.rows.specs.Rows.{round_in, Held};
+ghost use Rattle.rows.specs.Rows.{round_in};
 ghost use Rattle.rows.specs.Factors.{InScale, FactorsOf};
 
+use super::RoundFile;
 use layout::bid::Bid;
-use layout::{parts, technology, year};
-use rules::Sections;
+use layout::{parts, year};
 
 // Each at its scale, and the reference price with them. What is kept after losses is 1 − TLM.
 #[derive(Clone, Copy)]
@@ -27,31 +27,30 @@ fn hours(y: usize, d: usize, first: u64, days: u64) -> u64
     ensures { (result ≡ hours_of y d first days) × (result ≤ day_hours * long_year) }
 {
     if y < d {
-        return 0;
+        0
+    } else if y == d {
+        names::DAY_HOURS * first
+    } else {
+        names::DAY_HOURS * days
     }
-    if y == d {
-        return names::DAY_HOURS * first;
-    }
-    names::DAY_HOURS * days
 }
 
 impl Factors {
     // Of a bid of technology t in year y.
-    pub fn of(file: &[u8], sections: Sections, t: usize, bid: Bid, y: usize) -> Self
-        requires held { Held file.now sections × (t < sections.technologies) × (y < sections.years) }
+    pub fn of(round: &RoundFile, t: usize, bid: Bid, y: usize) -> Self
+        requires held { (t < round.now.sections.technologies) × (y < round.now.sections.years) }
         requires days_le_long_year { (bid.days ≤ long_year) × (bid.capacity ≤ largest_capacity) }
-        ensures { FactorsOf (round_in file.now sections) t (bid_shown bid) y result × InScale result }
+        ensures { FactorsOf (round_in round.now.file.now round.now.sections) t (bid_shown bid) y result × InScale result }
     {
-        let year_recs = parts::years(file, sections);
-        let recs = parts::technologies(file, sections);
-        let years = sections.years;
+        let year_recs = parts::years(round.file, round.sections);
+        let technologies = parts::technologies(round.file, round.sections);
         Self {
-            reference: technology::reference(recs, years, t, y),
-            load: technology::load(recs, years, t, y),
+            reference: technologies.reference(t, y),
+            load: technologies.load(t, y),
             hours: hours(y, bid.year, bid.days, year::days(year_recs, y)),
             capacity: bid.capacity,
             kept: names::WHOLE - year::tlm(year_recs, y),
-            rqm: technology::rqm(recs, years, t),
+            rqm: technologies.rqm(t),
         }
     }
 

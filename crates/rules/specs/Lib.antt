@@ -1,4 +1,6 @@
 pub mod Names
+pub mod Reading
+pub mod Answer
 pub mod Lists
 pub mod Bytes
 pub mod Value

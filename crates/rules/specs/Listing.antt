@@ -18,8 +18,7 @@ use Rattle.rules.specs.Round.{energy_of, cost_of, assemble, at_admin_price, mine
 use Rattle.rules.specs.Result.{told, told_in, app_told, pot_at}
 use Rattle.rules.specs.Written.{nums, joined, counted}
 use Rattle.rules.specs.Worked.{round_a, silence}
-use Rattle.rules.specs.declared.Reading.{Reading}
-use Rattle.rules.specs.declared.Reading.TheVariants.{Accepted, Refused}
+use Rattle.rules.specs.Reading.{Reading, Accepted, Refused}
 
 -- ---- words and numbers
 

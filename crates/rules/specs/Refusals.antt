@@ -9,8 +9,7 @@ use Rattle.rules.specs.Lists.{given, both, when, never, every, how_many}
 use Rattle.rules.specs.Bytes.{le}
 use Rattle.rules.specs.File.{Round, round_of, sections_of, year_at, deliveries, pots_told, budget_at, cap_at, tech_at, app_at, bid_at, pots_at, techs_at, apps_at}
 use Rattle.rules.specs.File.{bids_at, end_at}
-use Rattle.rules.specs.declared.Reading.{Reading}
-use Rattle.rules.specs.declared.Reading.TheVariants.{Accepted, Refused}
+use Rattle.rules.specs.Reading.{Reading, Accepted, Refused}
 
 -- "Each refusal is a number and the offset of the count or record at fault": the paper's number of a reading, 0 where it is no refusal, and its offset
 unfoldable pub refusal : Reading → ℕ

@@ -8,10 +8,9 @@ use Rattle.rules.specs.Refusals.{reading}
 use Rattle.rules.specs.Pot.{Pot, by, outcome, price_in, total_in, paid, reason, automatic_reason, winners_of}
 use Rattle.rules.specs.Round.{tech_of, pot_of}
 use Rattle.rules.specs.declared.Told.{Told}
-use Rattle.rules.specs.declared.Reading.{Reading}
-use Rattle.rules.specs.declared.Reading.TheVariants as r
-use Rattle.rules.specs.declared.Answer.{Answer}
-use Rattle.rules.specs.declared.Answer.TheVariants.{Cleared, Refused}
+use Rattle.rules.specs.Reading.{Reading}
+use Rattle.rules.specs.Reading as r
+use Rattle.rules.specs.Answer.{Answer, Cleared, Refused}
 
 -- ---- the records
 

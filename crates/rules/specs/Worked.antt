@@ -19,7 +19,7 @@ use Rattle.rules.specs.Result.{told, told_in, app_told, app_bytes, pot_bytes, bi
 use Rattle.rules.specs.Result.{after, clear_of, refused_as, refused_at, code_of, length_to, length_of}
 use Rattle.rules.specs.Written.{nums, joined, counted, times, year_with, year, budgets, figures_with, figures, tech, app_with, bid_with, app, bid, file}
 use Rattle.rules.specs.Written.{single, pot_under, pots_under, single_under, pot_drawn, pots_drawn, single_drawn, pot_told, line_with, line, result}
-use Rattle.rules.specs.declared.Answer.TheVariants.{Cleared, Refused}
+use Rattle.rules.specs.Answer.{Cleared, Refused}
 
 -- the result of a file is r, and the three bytes lent beyond it stay
 abbrev Gives : (file r : List ℕ) → Type 0

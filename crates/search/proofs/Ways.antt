@@ -1,7 +1,7 @@
 -- Those kept: of which combinations it is known that they are not, and when one that has the greatest total is. Assumes nothing.
-use Prim.Native.Nat.{ℕ, zero, suc, ◌+◌, ◌-◌, ◌*◌, ◌%◌, ◌^◌, ◌≤◌, ◌<◌}
+use Prim.Native.Nat.{ℕ, zero, suc, ◌+◌, ◌-◌, ◌%◌, ◌^◌, ◌≤◌, ◌<◌}
 use mathlib.Core.Path.{◌≡◌, refl, sym, ap, ◌∙◌}
-use mathlib.Core.Bool.{Bool, true, false, not, ◌&&◌}
+use mathlib.Core.Bool.{Bool, true, false, ◌&&◌}
 use mathlib.Core.Logic.{⊎_elim}
 use mathlib.Core.List.{List, [], ◌∷◌}
 use native.Mathlib.Numerals.{add-one}
@@ -11,6 +11,7 @@ use lib.ListN.{length, get_or, set, replicate, length-set}
 use lib.Pow.{pow_mono}
 use lib.Dec.{eqb, leb, ltb}
 use borrow.Author.Tests.{eqb-true, eqb-false, ne_eqb, le-leb, ltb-true, ltb-false}
+use Rattle.std.specs.Prelude.{Option, None}
 use Rattle.rules.specs.Names.{widest_tie}
 use Rattle.rules.specs.Lists.{sift, below}
 use Rattle.rules.specs.Pot.{has, at_place}
@@ -18,9 +19,10 @@ use Rattle.laws_pot.specs.Lists.{case, clash, and_true, and_false, and_none}
 use Rattle.laws_pot.specs.Bits.{has_none, add_lt}
 use Rattle.laws_pot.specs.Tie.{best_is}
 use Rattle.sheet.specs.declared.Size.{Size}
+use Rattle.sheet.specs.Sheet.{one_more}
 use Rattle.combinations.specs.declared.Tied.{Tied}
 use Rattle.sheet.proofs.Columns.{columns_few}
-use Rattle.combinations.specs.Combinations.{combinations, three_parts, Placed, Gathered, owns_of, table_by}
+use Rattle.combinations.specs.Combinations.{combinations, Placed, Gathered, owns_of, table_by}
 use Rattle.ties.specs.declared.best.Best as declared
 use Rattle.ties.specs.declared.listing.Listed.{Listed}
 use Rattle.ties.specs.declared.listing.Answer.{Answer}
@@ -31,7 +33,7 @@ use Rattle.ties.proofs.Laws.{listed_same, addable_in, addable_out, full_stops, d
 use Rattle.branches.specs.Branches.{Unsought, Passed, near_by}
 use Rattle.search.specs.declared.kept.Aim.{Aim}
 use Rattle.added.specs.Added.{Rising, Onto, Busy, Narrows, Addable, Closes}
-use Rattle.search.specs.Search.{Seeking, stretches, stretch_end, kept_before, Tallied, Stands, place_of}
+use Rattle.search.specs.Search.{Seeking, stretches, stretch_end, kept_before, Tallied, Stands, TooFew, place_of}
 use Rattle.added.proofs.Rise.{cuttable, gains, adding}
 
 -- numbers that are passed over are not counted
@@ -190,12 +192,12 @@ module _ (sheet : List ℕ) (of : Size) (base : List ℕ) (tied : Tied) (p : ℕ
   top_is eo et eb = rw (eb, et, eo)
 
   -- what is chosen: without a drawn number m is not asked for
-  pub choice_undrawn : {drawn mask : ℕ} {c : Choice} → drawn ≡ 0 → mask ≡ top_by sheet of (table_for sheet of base tied p) tied.count
-      → c ≡ chosen_of tied (record { mask = mask; ways = 1 }) 0 → c ≡ choice_of sheet of base tied p drawn
+  pub choice_undrawn : {drawn : Option ℕ} {mask : ℕ} {a : Answer} {c : Choice} → drawn ≡ None → mask ≡ top_by sheet of (table_for sheet of base tied p) tied.count
+      → a ≡ record { mask = mask; ways = 1 } → c ≡ chosen_of tied a drawn → c ≡ choice_of sheet of base tied p drawn
   unfolding choice_of chosen_of answer_of answer_by left_of
-  choice_undrawn e em ec = rw (ec, em, e)
+  choice_undrawn e em ea ec = rw (ec, ea, em, e)
 
-  pub choice_drawn : (drawn : ℕ) {a : Answer} {c : Choice} → a ≡ answer_of sheet of base tied p drawn → c ≡ chosen_of tied a drawn
+  pub choice_drawn : (drawn : Option ℕ) {a : Answer} {c : Choice} → a ≡ answer_of sheet of base tied p (one_more drawn) → c ≡ chosen_of tied a drawn
       → c ≡ choice_of sheet of base tied p drawn
   unfolding choice_of
   choice_drawn drawn ea ec = rw (ec, ea)
@@ -228,14 +230,6 @@ module _ (n k : ℕ) where
   unfolding stretch_end
   stretch_up = (omega arith, omega arith)
 
-  pub stretch_whole : {x : ℕ} → x ≡ k * three_parts → n < x → n ≡ stretch_end n k
-  unfolding stretch_end
-  stretch_whole e h = omega arith
-
-  pub stretch_part : {x : ℕ} → x ≡ k * three_parts → x ≤ n → x ≡ stretch_end n k
-  unfolding stretch_end
-  stretch_part e h = omega arith
-
 pub stretch_last : (n : ℕ) → n ≤ combinations → stretch_end n stretches ≡ n
 unfolding stretch_end
 stretch_last n h = omega arith
@@ -262,26 +256,30 @@ module _ (f : ℕ → Bool) (n : ℕ) where
         (λ u. let d = eqb-false i (k + 1) u in rw u (T.each i (omega arith)));
   }
 
-  pub tally_all : {k : ℕ} {out : List ℕ} → Tallied f n k out → k ≤ stretches → stretches ≤ k → Tallied f n stretches out
-  tally_all T h g = record { size = T.size; each = λ i l. T.each i (omega arith) }
+  module _ {counts : List ℕ} (T : Tallied f n stretches counts) (place : ℕ) where
+    -- the first k stretches have too few
+    too_few : (k : ℕ) → k ≤ stretches → ((i : ℕ) → i < k → get_or counts (i + 1) 0 ≤ place) → kept_before f (stretch_end n k) ≤ place
+    too_few zero h p = unfold kept_before in rw (stretch_start n) (omega arith)
+    too_few (suc i) h p = omega (arith, T.each (suc i) h, p i (omega arith), ap (λ (x : ℕ). get_or counts x 0) (add-one i))
+
+    pub place_none : n ≤ combinations → TooFew counts place → 0 ≡ place_of f n place
+    unfolding place_of
+    place_none l h = sym (place_beyond place (sift f (below n)) all)
+      where
+        all : length (sift f (below n)) ≤ place
+        all = unfold kept_before in rw (stretch_last n l) at (too_few stretches (omega arith) h)
 
   module _ {counts : List ℕ} (T : Tallied f n stretches counts) (place k : ℕ) (S : Stands counts place k) where
-    -- the stretches before it have too few
-    too_few : kept_before f (stretch_end n k) ≤ place
-    too_few = go k S.few S.past
-      where
-        go : (k : ℕ) → k ≤ stretches → ((i : ℕ) → i < k → get_or counts (i + 1) 0 ≤ place) → kept_before f (stretch_end n k) ≤ place
-        go zero h p = unfold kept_before in rw (stretch_start n) (omega arith)
-        go (suc i) h p = omega (arith, T.each (suc i) h, p i (omega arith), ap (λ (x : ℕ). get_or counts x 0) (add-one i))
-
     -- the walk over it starts with what was counted before it
     pub stretch_list : ◌≡◌ {A = Listed} (record { count = get_or counts k 0; mask = 0 }) (listed_of f place (stretch_end n k))
     unfolding listed_of kept_before
-    stretch_list = rw (T.each k S.few, place_beyond place (sift f (below (stretch_end n k))) too_few)
+    stretch_list =
+        let h : k ≤ stretches = omega (arith, S.low) in
+        rw (T.each k h, place_beyond place (sift f (below (stretch_end n k))) (too_few T place k h S.past))
 
-    pub stretch_place : {l : Listed} → l ≡ listed_of f place (stretch_end n (k + 1)) → k < stretches → l.mask ≡ place_of f n place
+    pub stretch_place : {l : Listed} → l ≡ listed_of f place (stretch_end n (k + 1)) → l.mask ≡ place_of f n place
     unfolding listed_of place_of
-    stretch_place el h =
+    stretch_place el =
         ap (λ (x : Listed). x.mask) el
         ∙ sym (ap (λ (x : ℕ). at_place place (sift f (below x))) whole ∙ place_stays f place (stretch_end n (k + 1)) (n - stretch_end n (k + 1)) enough)
       where
@@ -289,17 +287,7 @@ module _ (f : ℕ → Bool) (n : ℕ) where
         whole = omega (arith, (stretch_up n k).1)
 
         enough : place < length (sift f (below (stretch_end n (k + 1))))
-        enough = unfold kept_before in omega (arith, S.here h, T.each (k + 1) (omega arith))
-
-    pub place_none : n ≤ combinations → stretches ≤ k → 0 ≡ place_of f n place
-    unfolding place_of
-    place_none l h = sym (place_beyond place (sift f (below n)) all)
-      where
-        end : stretch_end n k ≡ n
-        end = let e : k ≡ stretches = omega (arith, S.few) in rw e (stretch_last n l)
-
-        all : length (sift f (below n)) ≤ place
-        all = unfold kept_before in rw end at too_few
+        enough = unfold kept_before in omega (arith, S.here, T.each (k + 1) (omega (arith, S.low)))
 
 -- ---- what the search answers
 module _ (sheet : List ℕ) (of : Size) (table : List ℕ) (tied : Tied) {b : declared.Best}

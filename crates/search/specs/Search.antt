@@ -35,11 +35,14 @@ pub record Tallied (kept : ℕ → Bool) (n k : ℕ) (counts : List ℕ) : Type 
   pub size : length counts ≡ stretches + 1
   pub each : (i : ℕ) → i ≤ k → get_or counts i 0 ≡ kept_before kept (stretch_end n i)
 
--- the first of them that has more than `place` before its end
+-- the first of them that has more than `place` before its end; or none has
 pub record Stands (counts : List ℕ) (place r : ℕ) : Type 0 where
-  pub few : r ≤ stretches
+  pub low : r < stretches
   pub past : (k : ℕ) → k < r → get_or counts (k + 1) 0 ≤ place
-  pub here : r < stretches → place < get_or counts (r + 1) 0
+  pub here : place < get_or counts (r + 1) 0
+
+abbrev pub TooFew : (counts : List ℕ) (place : ℕ) → Type 0
+TooFew counts place = (k : ℕ) → k < stretches → get_or counts (k + 1) 0 ≤ place
 
 -- the one at a place
 unfoldable pub place_of : (kept : ℕ → Bool) (n place : ℕ) → ℕ

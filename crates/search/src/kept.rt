@@ -1,17 +1,17 @@
 // Those kept, from the smallest number on: how many, counted stretch by stretch, and the one at a place, for which its stretch alone is gone through once more.
-ghost use Rattle.std.specs.Prelude.{◌≡◌, ◌+◌, ◌^◌, ◌≤◌, ◌<◌};
+ghost use Rattle.std.specs.Prelude.{◌≡◌, ◌+◌, ◌^◌, ◌≤◌, ◌<◌, MatchOption};
 ghost use Rattle.combinations.specs.Combinations.{combinations};
 ghost use Rattle.ties.specs.Ties.{Searching, Cuttable, ok_by, last_by, kept_by, listed_of};
 ghost use Rattle.branches.specs.Branches.{Passed};
-ghost use Rattle.search.specs.Search.{Seeking, stretches, stretch_end, Tallied, Stands, place_of};
+ghost use Rattle.search.specs.Search.{Seeking, stretches, stretch_end, Tallied, Stands, TooFew, place_of};
 
 use added::whole::{Narrow, whole};
 use branches::scan::others;
-use branches::{From, ONE_LOW, THREE_LOW, TWO_LOW, near, passed};
+use branches::{Ahead, ONE_LOW, THREE_LOW, TWO_LOW, near, passed};
 use combinations::Tied;
 use combinations::places::{PART, power};
 use combinations::tables::Table;
-use sheet::{Sheet, Size};
+use sheet::Sheet;
 use ties::listing::{Listed, counted};
 
 // A stretch is a branch in which the lowest three parts are undecided: so many has a tie of twenty bids.
@@ -32,33 +32,29 @@ pub struct Aim {
 
 // How many from there on can be passed over: a branch, or those of one that have another total; where a bid is idle most have the same, and a small branch is
 // tried instead.
-fn rise(sheet: &Sheet, of: Size, table: &Table, most: u64, idle: bool, from: From) -> u32
-    requires searching { Searching sheet.now of table.now × Cuttable (ok_by sheet.now of table.now) (last_by of table.now) }
+fn rise(sheet: &Sheet, table: &Table, most: u64, idle: bool, from: Ahead) -> u32
+    requires searching { Searching sheet.now.cells.now sheet.now.size table.now × Cuttable (ok_by sheet.now.cells.now sheet.now.size table.now) (last_by sheet.now.size table.now) }
     requires left_nonzero { (0 < from.left) × (from.mask + from.left ≤ combinations) }
-    ensures { Passed (ok_by sheet.now of table.now) (last_by of table.now) most from.mask from.left result }
+    ensures { Passed (ok_by sheet.now.cells.now sheet.now.size table.now) (last_by sheet.now.size table.now) most from.mask from.left result }
 {
     if from.mask % ONE_LOW == 0 {
-        let three = passed(sheet, of, table, most, from, THREE_LOW);
+        let three = passed(sheet, table, most, from, THREE_LOW);
         if three > 0 {
             return three;
         }
-        let two = passed(sheet, of, table, most, from, TWO_LOW);
+        let two = passed(sheet, table, most, from, TWO_LOW);
         if two > 0 {
             return two;
         }
-        let one = passed(sheet, of, table, most, from, ONE_LOW);
+        let one = passed(sheet, table, most, from, ONE_LOW);
         if one > 0 {
             return one;
         }
     }
     if idle {
-        return passed(sheet, of, table, most, from, TWO_PLACES);
+        return passed(sheet, table, most, from, TWO_PLACES);
     }
-    let n = others(of, table, most, from.mask);
-    if n > from.left {
-        return from.left;
-    }
-    n
+    others(sheet.size, table, most, from.mask).min(from.left)
 }
 
 // The combinations from `mask` on and before `end`; and of those before, how many are kept and the one at a place.
@@ -70,31 +66,30 @@ pub struct Stretch {
 }
 
 // Those kept before its end: how many, and the one at a place.
-fn walk(sheet: &Sheet, of: Size, table: &Table, tied: Tied, aim: Aim, on: Stretch) -> Listed
-    requires seeking { Seeking sheet.now of table.now tied aim × (on.mask ≤ on.end) × (on.end ≤ 2 ^ tied.count) }
-    requires list_value { on.list ≡ listed_of (kept_by sheet.now of table.now tied aim.most) aim.place on.mask }
-    ensures { result ≡ listed_of (kept_by sheet.now of table.now tied aim.most) aim.place on.end }
+fn walk(sheet: &Sheet, table: &Table, tied: Tied, aim: Aim, on: Stretch) -> Listed
+    requires seeking { Seeking sheet.now.cells.now sheet.now.size table.now tied aim × (on.mask ≤ on.end) × (on.end ≤ 2 ^ tied.count) }
+    requires list_value { on.list ≡ listed_of (kept_by sheet.now.cells.now sheet.now.size table.now tied aim.most) aim.place on.mask }
+    ensures { result ≡ listed_of (kept_by sheet.now.cells.now sheet.now.size table.now tied aim.most) aim.place on.end }
 {
-    let end = on.end;
-    let mut list = on.list;
-    let mut mask = on.mask;
+    let Stretch {
+        mut mask,
+        end,
+        mut list,
+    } = on;
+    // Not a `for`: as many are passed over as `rise` says.
     while mask < end {
-        let from = From {
+        let from = Ahead {
             mask,
             left: end - mask,
         };
-        let passed = rise(sheet, of, table, aim.most, aim.idle, from);
+        let passed = rise(sheet, table, aim.most, aim.idle, from);
         if passed > 0 {
             mask += passed;
         } else {
-            if near(sheet, of, table, aim.most, mask) {
-                if !aim.idle {
-                    list = counted(list, mask, aim.place);
-                } else {
-                    if whole(sheet, of, table, tied.count as u32, aim.narrow, mask) {
-                        list = counted(list, mask, aim.place);
-                    }
-                }
+            if near(sheet, table, aim.most, mask)
+                && (!aim.idle || whole(sheet, table, tied.count as u32, aim.narrow, mask))
+            {
+                list = counted(list, mask, aim.place);
             }
             mask += 1;
         }
@@ -107,62 +102,52 @@ fn stretch_end(end: u32, k: usize) -> u32
     requires { (end ≤ combinations) × (k ≤ stretches) }
     ensures { result ≡ stretch_end end k }
 {
-    let next = k as u32 * THREE_LOW;
-    if next > end {
-        return end;
-    }
-    next
+    (k as u32 * THREE_LOW).min(end)
 }
 
 // How many are kept before the first stretch, before the second, and so on, and last of all.
-pub fn tally(sheet: &Sheet, of: Size, table: &Table, tied: Tied, aim: Aim) -> [u64; STRETCHES + 1]
-    requires { Seeking sheet.now of table.now tied aim }
-    ensures { Tallied (kept_by sheet.now of table.now tied aim.most) (2 ^ tied.count) stretches result }
+pub fn tally(sheet: &Sheet, table: &Table, tied: Tied, aim: Aim) -> [u64; STRETCHES + 1]
+    requires { Seeking sheet.now.cells.now sheet.now.size table.now tied aim }
+    ensures { Tallied (kept_by sheet.now.cells.now sheet.now.size table.now tied aim.most) (2 ^ tied.count) stretches result }
 {
     let all = power(tied.count as u32);
     let mut out = [0u64; STRETCHES + 1];
     let mut list = Listed { count: 0, mask: 0 };
-    let mut k: usize = 0;
-    while k < STRETCHES {
+    for k in 0..STRETCHES {
         let mask = stretch_end(all, k);
-        k += 1;
-        let end = stretch_end(all, k);
-        list = walk(sheet, of, table, tied, aim, Stretch { mask, end, list });
-        out[k] = list.count;
+        let end = stretch_end(all, k + 1);
+        list = walk(sheet, table, tied, aim, Stretch { mask, end, list });
+        out[k + 1] = list.count;
     }
     out
 }
 
-// The stretch that has the one at a place; and one past the last, where there are too few.
-fn stretch_of(counts: &[u64; STRETCHES + 1], place: u64) -> usize
-    ensures { Stands counts.now place result }
+// The stretch that has the one at a place; none where there are too few.
+fn stretch_of(counts: &[u64; STRETCHES + 1], place: u64) -> Option<usize>
+    ensures { MatchOption result (TooFew counts.now place) (λ k. Stands counts.now place k) }
 {
-    let mut k: usize = 0;
-    while k < STRETCHES {
+    for k in 0..STRETCHES {
         if place < counts[k + 1] {
-            return k;
+            return Some(k);
         }
-        k += 1;
     }
-    STRETCHES
+    None
 }
 
 // The one at a place.
 pub fn at_place(
     sheet: &Sheet,
-    of: Size,
     table: &Table,
     tied: Tied,
     aim: Aim,
     counts: &[u64; STRETCHES + 1],
 ) -> u32
-    requires { Seeking sheet.now of table.now tied aim × Tallied (kept_by sheet.now of table.now tied aim.most) (2 ^ tied.count) stretches counts.now }
-    ensures { result ≡ place_of (kept_by sheet.now of table.now tied aim.most) (2 ^ tied.count) aim.place }
+    requires { Seeking sheet.now.cells.now sheet.now.size table.now tied aim × Tallied (kept_by sheet.now.cells.now sheet.now.size table.now tied aim.most) (2 ^ tied.count) stretches counts.now }
+    ensures { result ≡ place_of (kept_by sheet.now.cells.now sheet.now.size table.now tied aim.most) (2 ^ tied.count) aim.place }
 {
-    let k = stretch_of(counts, aim.place);
-    if k >= STRETCHES {
+    let Some(k) = stretch_of(counts, aim.place) else {
         return 0;
-    }
+    };
     let all = power(tied.count as u32);
     let mask = stretch_end(all, k);
     let end = stretch_end(all, k + 1);
@@ -170,6 +155,5 @@ pub fn at_place(
         count: counts[k],
         mask: 0,
     };
-    let found = walk(sheet, of, table, tied, aim, Stretch { mask, end, list });
-    found.mask
+    walk(sheet, table, tied, aim, Stretch { mask, end, list }).mask
 }

@@ -2,6 +2,8 @@
 -- figures of bids and applications, as numbers in one list; and the pot that it shows. How much of the list is used, a size says. Assumes nothing.
 use Rattle.std.specs.Prelude.{ℕ, zero, suc, ◌+◌, ◌-◌, ◌*◌, ◌≤◌, ◌<◌, min, Bool, true, not, ◌≡◌, List, [], ◌∷◌, eqb, ltb, get_or}
 use Rattle.std.proofs.Math.Option.{Option, none, some}
+use Rattle.std.specs.declared.option.Option as code
+use Rattle.std.specs.Prelude.{None, Some}
 use Rattle.rules.specs.Names.{most_bids, most_apps, most_years, most_deliveries, highest_price, highest_budget, largest_capacity, pence_per_pound}
 use Rattle.rules.specs.Lists.{pick, sift, below}
 use Rattle.rules.specs.Value.{penny, most_energy, most_share}
@@ -74,6 +76,11 @@ drawn_in sheet = get_or sheet drawn_place 0
 unfoldable pub number_in : ℕ → Option ℕ
 number_in zero = none
 number_in (suc d) = some d
+
+-- what stands there for a number, or for none: in code it is an `Option`
+abbrev pub one_more : code.Option ℕ → ℕ
+one_more None = 0
+one_more (Some d) = suc d
 
 -- the bids of the pot, which enter its auction, in the order of the file; the first k of them, the last first
 unfoldable pub entrant_at : List ℕ → ℕ → ℕ

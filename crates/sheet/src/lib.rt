@@ -1,12 +1,12 @@
 // The sheet of a pot: its limits, its drawn number, its bids, its applications' administrative prices, the rows of all bids, and the capacities and yearly
 // figures of bids and applications, as numbers in one lent array, which the first test and the auction read; and its size. specs/Sheet.antt says what stands
 // where.
-#![tactic(auto)]
+#![tactic(auto, unfolding(crate::specs::Sheet::limit_at, crate::specs::Sheet::drawn_in, crate::specs::Sheet::entrant_at, crate::specs::Sheet::admin_at, crate::specs::Sheet::row_standing, crate::specs::Sheet::row_app, crate::specs::Sheet::row_year, crate::specs::Sheet::row_price, crate::specs::Sheet::row_draw, crate::specs::Sheet::row_admin, crate::specs::Sheet::capacity_at, crate::specs::Sheet::fig_reference, crate::specs::Sheet::fig_energy, crate::specs::Sheet::fig_share))]
 
 ghost use Rattle.std.specs.Prelude.{◌≡◌, ◌<◌};
 ghost use Rattle.rules.specs.Names.{most_bids, most_apps, most_years};
-ghost use Rattle.sheet.specs.Sheet.{columns, places, limit_at, drawn_in, entrant_at, admin_at, in_auction, in_test, row_app, row_year, row_price, row_draw};
-ghost use Rattle.sheet.specs.Sheet.{row_admin, capacity_at, fig_reference, fig_energy, fig_share};
+ghost use Rattle.sheet.specs.Sheet.{columns, places, limit_at, drawn_in, one_more, entrant_at, admin_at, in_auction, in_test, row_app, row_year, row_price, row_draw};
+ghost use Rattle.sheet.specs.Sheet.{row_admin, capacity_at, fig_reference, fig_energy, fig_share, Ready};
 
 // How much of a sheet is used: the years, bids and applications of the file; the columns of a row of the pot's totals; and how many of the bids are of the pot,
 // and enter its auction.
@@ -47,121 +47,129 @@ pub const ROWS_AT: usize = FIGURES_AT + PLACES * FIGURES;
 
 pub const LENGTH: usize = ROWS_AT + names::BIDS * ROW;
 
-pub type Sheet = [u64; LENGTH];
+pub type Cells = [u64; LENGTH];
 
 // The standings of a bid: of another pot, and of this one.
 pub const ABSENT: u64 = 0;
 
 pub const ENTERED: u64 = 1;
 
-// The limit of a column.
-pub fn limit(sheet: &Sheet, c: usize) -> u64
-    requires { c < columns }
-    ensures { result ≡ limit_at sheet.now c }
-{
-    sheet[c]
+// A sheet that has been filled: its numbers, and how much of them is used. What has been seen to before a pot is cleared is true of it.
+#[derive(Clone, Copy)]
+pub struct Sheet<'a> {
+    pub cells: &'a Cells,
+    pub size: Size,
+    ghost ready: { Ready cells.now size },
 }
 
-// One more than the number drawn for the pot's ties, and 0 where there is none.
-pub fn drawn(sheet: &Sheet) -> u64
-    ensures { result ≡ drawn_in sheet.now }
+// The limit of a column.
+pub fn limit(cells: &Cells, c: usize) -> u64
+    requires { c < columns }
+    ensures { result ≡ limit_at cells.now c }
 {
-    sheet[DRAWN_AT]
+    cells[c]
+}
+
+// The number drawn for the pot's ties, if there is one: the sheet has one more than it, and 0 where there is none.
+pub fn drawn(cells: &Cells) -> Option<u64>
+    ensures { one_more result ≡ drawn_in cells.now }
+{
+    cells[DRAWN_AT].checked_sub(1)
 }
 
 // The bid that enters the auction at place j of their list.
-pub fn entrant(sheet: &Sheet, j: usize) -> usize
+pub fn entrant(cells: &Cells, j: usize) -> usize
     requires { j < most_bids }
-    ensures { result ≡ entrant_at sheet.now j }
+    ensures { result ≡ entrant_at cells.now j }
 {
-    sheet[ENTRANTS_AT + j] as usize
+    cells[ENTRANTS_AT + j] as usize
 }
 
 // The administrative price of application a of the pot; 0 of one of another pot.
-pub fn admin_price(sheet: &Sheet, a: usize) -> u64
+pub fn admin_price(cells: &Cells, a: usize) -> u64
     requires { a < most_apps }
-    ensures { result ≡ admin_at sheet.now a }
+    ensures { result ≡ admin_at cells.now a }
 {
-    sheet[ADMINS_AT + a]
+    cells[ADMINS_AT + a]
 }
 
 // Is application a of the pot, and so in its first test?
-pub fn in_test(sheet: &Sheet, a: usize) -> bool
+pub fn in_test(cells: &Cells, a: usize) -> bool
     requires { a < most_apps }
-    ensures { result ≡ in_test sheet.now a }
+    ensures { result ≡ in_test cells.now a }
 {
-    sheet[ADMINS_AT + a] != 0
+    cells[ADMINS_AT + a] != 0
 }
 
 // Is bid k of the pot, and so in its auction?
-pub fn in_auction(sheet: &Sheet, k: usize) -> bool
+pub fn in_auction(cells: &Cells, k: usize) -> bool
     requires { k < most_bids }
-    ensures { result ≡ in_auction sheet.now k }
+    ensures { result ≡ in_auction cells.now k }
 {
-    sheet[ROWS_AT + k * ROW] == ENTERED
+    cells[ROWS_AT + k * ROW] == ENTERED
 }
 
-pub fn app(sheet: &Sheet, k: usize) -> usize
+pub fn app(cells: &Cells, k: usize) -> usize
     requires { k < most_bids }
-    ensures { result ≡ row_app sheet.now k }
+    ensures { result ≡ row_app cells.now k }
 {
-    sheet[ROWS_AT + k * ROW + 1] as usize
+    cells[ROWS_AT + k * ROW + 1] as usize
 }
 
-pub fn year(sheet: &Sheet, k: usize) -> usize
+pub fn year(cells: &Cells, k: usize) -> usize
     requires { k < most_bids }
-    ensures { result ≡ row_year sheet.now k }
+    ensures { result ≡ row_year cells.now k }
 {
-    sheet[ROWS_AT + k * ROW + 2] as usize
+    cells[ROWS_AT + k * ROW + 2] as usize
 }
 
-pub fn price(sheet: &Sheet, k: usize) -> u64
+pub fn price(cells: &Cells, k: usize) -> u64
     requires { k < most_bids }
-    ensures { result ≡ row_price sheet.now k }
+    ensures { result ≡ row_price cells.now k }
 {
-    sheet[ROWS_AT + k * ROW + 3]
+    cells[ROWS_AT + k * ROW + 3]
 }
 
-pub fn draw(sheet: &Sheet, k: usize) -> u64
+pub fn draw(cells: &Cells, k: usize) -> u64
     requires { k < most_bids }
-    ensures { result ≡ row_draw sheet.now k }
+    ensures { result ≡ row_draw cells.now k }
 {
-    sheet[ROWS_AT + k * ROW + 4]
+    cells[ROWS_AT + k * ROW + 4]
 }
 
-pub fn admin(sheet: &Sheet, k: usize) -> u64
+pub fn admin(cells: &Cells, k: usize) -> u64
     requires { k < most_bids }
-    ensures { result ≡ row_admin sheet.now k }
+    ensures { result ≡ row_admin cells.now k }
 {
-    sheet[ROWS_AT + k * ROW + 5]
+    cells[ROWS_AT + k * ROW + 5]
 }
 
 // The capacity at place k.
-pub fn capacity(sheet: &Sheet, k: usize) -> u64
+pub fn capacity(cells: &Cells, k: usize) -> u64
     requires { k < places }
-    ensures { result ≡ capacity_at sheet.now k }
+    ensures { result ≡ capacity_at cells.now k }
 {
-    sheet[FIGURES_AT + k * FIGURES]
+    cells[FIGURES_AT + k * FIGURES]
 }
 
 // The figures at place k, in year y.
-pub fn reference(sheet: &Sheet, k: usize, y: usize) -> u64
+pub fn reference(cells: &Cells, k: usize, y: usize) -> u64
     requires { (k < places) × (y < most_years) }
-    ensures { result ≡ fig_reference sheet.now k y }
+    ensures { result ≡ fig_reference cells.now k y }
 {
-    sheet[FIGURES_AT + k * FIGURES + CAPACITY + y * FIGURE]
+    cells[FIGURES_AT + k * FIGURES + CAPACITY + y * FIGURE]
 }
 
-pub fn energy(sheet: &Sheet, k: usize, y: usize) -> u64
+pub fn energy(cells: &Cells, k: usize, y: usize) -> u64
     requires { (k < places) × (y < most_years) }
-    ensures { result ≡ fig_energy sheet.now k y }
+    ensures { result ≡ fig_energy cells.now k y }
 {
-    sheet[FIGURES_AT + k * FIGURES + CAPACITY + y * FIGURE + 1]
+    cells[FIGURES_AT + k * FIGURES + CAPACITY + y * FIGURE + 1]
 }
 
-pub fn share(sheet: &Sheet, k: usize, y: usize) -> u64
+pub fn share(cells: &Cells, k: usize, y: usize) -> u64
     requires { (k < places) × (y < most_years) }
-    ensures { result ≡ fig_share sheet.now k y }
+    ensures { result ≡ fig_share cells.now k y }
 {
-    sheet[FIGURES_AT + k * FIGURES + CAPACITY + y * FIGURE + 2]
+    cells[FIGURES_AT + k * FIGURES + CAPACITY + y * FIGURE + 2]
 }

@@ -4,14 +4,13 @@
 
 mod tables;
 
-use rules::Reading;
+use rows::RoundFile;
 use std::io;
 
 fn show(out: &impl Print, file: &[u8]) -> io::Result<()> {
-    let got = file::read(file);
-    match got {
-        Reading::Accepted { sections } => tables::print(out, file, sections),
-        Reading::Refused { number, at } => text::refused(out, number, at),
+    match file::read(file) {
+        Ok(sections) => tables::print(out, &RoundFile { file, sections }),
+        Err(refusal) => text::refused(out, refusal),
     }
 }
 

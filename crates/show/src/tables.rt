@@ -1,243 +1,134 @@
 // The five tables of an accepted file, each over the part of the file that its section occupies.
-ghost use Rattle.std.specs.Prelude.{◌*◌, ◌≤◌, ◌<◌, length};
-ghost use Rattle.rules.specs.Names.{year_width, cap_width, pot_width, tech_width, app_width, bid_width};
+ghost use Rattle.rules.specs.Names.{pot_width, tech_width};
 ghost use Rattle.laws_reading.specs.Reading.{GainedTold};
 ghost use Rattle.layout.specs.Layout.{Room};
-ghost use Rattle.rows.specs.Rows.{Held};
 
-use layout::{application, bid, parts, pot, technology, year};
-use rules::Sections;
+use layout::kind::Kind;
+use layout::pot::Pots;
+use layout::technology::Technologies;
+use layout::{application, bid, parts, year};
+use rows::RoundFile;
 use std::io;
-use text::{factor, field, hundredths, money, thousandths, word};
+use text::{factor, hundredths, money, thousandths};
 
-fn year_line(out: &impl Print, recs: &[u8], y: usize) -> io::Result<()>
-    requires { Room recs.now year_width y }
-{
-    field(out, b"  ", y as u64)?;
-    field(out, b"     ", year::days(recs, y))?;
-    if year::kind(recs, y) == names::DELIVERY {
-        word(out, b"   delivery   ")?;
-    } else {
-        word(out, b"   valuation  ")?;
-    }
-    factor(out, b"", year::tlm(recs, y))?;
-    word(out, b"\n")
-}
-
-fn years(out: &impl Print, recs: &[u8], n: usize) -> io::Result<()>
-    requires { n * year_width ≤ length recs.now }
-{
-    word(out, b"years\n  year  days  kind       TLM\n")?;
-    let mut y: usize = 0;
-    while y < n {
-        year_line(out, recs, y)?;
-        y += 1;
+fn years(out: &impl Print, round: &RoundFile) -> io::Result<()> {
+    let recs = parts::years(round.file, round.sections);
+    println!(out; "years\n  year  days  kind       TLM")?;
+    for y in 0..round.sections.years {
+        let days = year::days(recs, y);
+        let kind = if year::known_kind(recs, y) == Ok(Kind::Delivery) {
+            "delivery"
+        } else {
+            "valuation"
+        };
+        println!(out;
+            "  {y}     {days}   {kind:<9}  {}",
+            factor(year::tlm(recs, y))
+        )?;
     }
     Ok(())
 }
 
-// The budget of pot p in year y, after a comma but for the first.
-fn budget(
-    out: &impl Print,
-    recs: &[u8],
-    years: usize,
-    gained: usize,
-    p: usize,
-    y: usize,
-) -> io::Result<()>
-    requires { Room recs.now (pot_width years gained) p × (y < years) }
+// Its budgets; in a file with caps its cap, and after that in one with drawn numbers its drawn number.
+fn pot_line(out: &impl Print, pots: &Pots, p: usize) -> io::Result<()>
+    requires { Room pots.now.recs.now (pot_width pots.now.years pots.now.gained) p × GainedTold pots.now.gained }
 {
-    if y > 0 {
-        word(out, b",")?;
+    print!(out; "  pot {p}: budgets")?;
+    for y in 0..pots.years {
+        let comma = if y > 0 { "," } else { "" };
+        print!(out; "{comma} ")?;
+        money(out, pots.budget(p, y), 0)?;
     }
-    money(out, b" ", pot::budget(recs, years, gained, p, y), 0)
+    if pots.gained > 0 {
+        match pots.cap(p) {
+            names::NO_CAP => print!(out; "; cap none")?,
+            cap => print!(out; "; cap {} MW", hundredths(cap))?,
+        }
+    }
+    if pots.gained > names::CAP_WIDTH {
+        print!(out; "; drawn number {}", pots.drawn(p))?;
+    }
+    println!(out;)
 }
 
-fn budgets(out: &impl Print, recs: &[u8], years: usize, gained: usize, p: usize) -> io::Result<()>
-    requires { Room recs.now (pot_width years gained) p }
-{
-    let mut y: usize = 0;
-    while y < years {
-        budget(out, recs, years, gained, p, y)?;
-        y += 1;
-    }
-    Ok(())
-}
-
-// The cap of pot p, in a file with caps.
-fn cap(out: &impl Print, recs: &[u8], years: usize, gained: usize, p: usize) -> io::Result<()>
-    requires { Room recs.now (pot_width years gained) p × (cap_width ≤ gained) }
-{
-    let cap = pot::cap(recs, years, gained, p);
-    if cap == names::NO_CAP {
-        return word(out, b"; cap none");
-    }
-    hundredths(out, b"; cap ", cap)?;
-    word(out, b" MW")
-}
-
-// What the record of pot p has gained: its cap, and after that its drawn number, in a file with drawn numbers.
-fn gains(out: &impl Print, recs: &[u8], years: usize, gained: usize, p: usize) -> io::Result<()>
-    requires { Room recs.now (pot_width years gained) p × GainedTold gained }
-{
-    if gained == 0 {
-        return Ok(());
-    }
-    cap(out, recs, years, gained, p)?;
-    if gained <= names::CAP_WIDTH {
-        return Ok(());
-    }
-    field(out, b"; drawn number ", pot::drawn(recs, years, gained, p))
-}
-
-fn pot_line(out: &impl Print, recs: &[u8], years: usize, gained: usize, p: usize) -> io::Result<()>
-    requires { Room recs.now (pot_width years gained) p × GainedTold gained }
-{
-    field(out, b"  pot ", p as u64)?;
-    word(out, b": budgets")?;
-    budgets(out, recs, years, gained, p)?;
-    gains(out, recs, years, gained, p)?;
-    word(out, b"\n")
-}
-
-fn pots(out: &impl Print, recs: &[u8], years: usize, gained: usize, n: usize) -> io::Result<()>
-    requires { (n * pot_width years gained ≤ length recs.now) × GainedTold gained }
-{
-    word(out, b"pots\n")?;
-    let mut p: usize = 0;
-    while p < n {
-        pot_line(out, recs, years, gained, p)?;
-        p += 1;
+fn pots(out: &impl Print, round: &RoundFile) -> io::Result<()> {
+    let pots = parts::pots(round.file, round.sections);
+    println!(out; "pots")?;
+    for p in 0..round.sections.pots {
+        pot_line(out, &pots, p)?;
     }
     Ok(())
 }
 
-// Technology t in year y.
-fn technology_year(
-    out: &impl Print,
-    recs: &[u8],
-    years: usize,
-    t: usize,
-    y: usize,
-) -> io::Result<()>
-    requires { Room recs.now (tech_width years) t × (y < years) }
+// Technology t, a line for each year.
+fn technology_lines(out: &impl Print, of: &Technologies, t: usize) -> io::Result<()>
+    requires { Room of.now.recs.now (tech_width of.now.years) t }
 {
-    field(out, b"    year ", y as u64)?;
-    thousandths(
-        out,
-        b": administrative ",
-        technology::admin(recs, years, t, y),
-    )?;
-    thousandths(
-        out,
-        b", reference ",
-        technology::reference(recs, years, t, y),
-    )?;
-    factor(out, b", load factor ", technology::load(recs, years, t, y))?;
-    word(out, b"\n")
-}
-
-fn technology_years(out: &impl Print, recs: &[u8], years: usize, t: usize) -> io::Result<()>
-    requires { Room recs.now (tech_width years) t }
-{
-    let mut y: usize = 0;
-    while y < years {
-        technology_year(out, recs, years, t, y)?;
-        y += 1;
+    let pot = of.pot(t);
+    let rqm = of.rqm(t);
+    println!(out; "  technology {t}: pot {pot}, RQM {}", factor(rqm))?;
+    for y in 0..of.years {
+        let admin = thousandths(of.admin(t, y));
+        let reference = thousandths(of.reference(t, y));
+        let load = factor(of.load(t, y));
+        println!(out;
+            "    year {y}: administrative {admin}, reference {reference}, load factor {load}"
+        )?;
     }
     Ok(())
 }
 
-fn technology_lines(out: &impl Print, recs: &[u8], years: usize, t: usize) -> io::Result<()>
-    requires { Room recs.now (tech_width years) t }
-{
-    field(out, b"  technology ", t as u64)?;
-    field(out, b": pot ", technology::pot(recs, years, t) as u64)?;
-    factor(out, b", RQM ", technology::rqm(recs, years, t))?;
-    word(out, b"\n")?;
-    technology_years(out, recs, years, t)
-}
-
-fn technologies(out: &impl Print, recs: &[u8], years: usize, n: usize) -> io::Result<()>
-    requires { n * tech_width years ≤ length recs.now }
-{
-    word(out, b"technologies\n")?;
-    let mut t: usize = 0;
-    while t < n {
-        technology_lines(out, recs, years, t)?;
-        t += 1;
+fn technologies(out: &impl Print, round: &RoundFile) -> io::Result<()> {
+    let technologies = parts::technologies(round.file, round.sections);
+    println!(out; "technologies")?;
+    for t in 0..round.sections.technologies {
+        technology_lines(out, &technologies, t)?;
     }
     Ok(())
 }
 
-fn application_line(out: &impl Print, recs: &[u8], a: usize) -> io::Result<()>
-    requires { Room recs.now app_width a }
-{
-    let x = application::read(recs, a);
-    field(out, b"  application ", a as u64)?;
-    field(out, b": technology ", x.technology as u64)?;
-    field(out, b", year ", x.year as u64)?;
-    field(out, b", first-year days ", x.days)?;
-    field(out, b", draw ", x.draw)?;
-    hundredths(out, b", ", x.capacity)?;
-    money(
-        out,
-        b" MW, declared cost ",
-        application::declared_cost(recs, a),
-        0,
-    )?;
-    word(out, b"\n")
-}
-
-fn applications(out: &impl Print, recs: &[u8], n: usize) -> io::Result<()>
-    requires { n * app_width ≤ length recs.now }
-{
-    word(out, b"applications\n")?;
-    let mut a: usize = 0;
-    while a < n {
-        application_line(out, recs, a)?;
-        a += 1;
+fn applications(out: &impl Print, round: &RoundFile) -> io::Result<()> {
+    let recs = parts::applications(round.file, round.sections);
+    println!(out; "applications")?;
+    for a in 0..round.sections.applications {
+        let application::Application {
+            technology,
+            year,
+            days,
+            draw,
+            capacity,
+        } = application::read(recs, a);
+        print!(out;
+            "  application {a}: technology {technology}, year {year}, first-year days {days}, draw {draw}"
+        )?;
+        print!(out; ", {} MW, declared cost ", hundredths(capacity))?;
+        money(out, application::declared_cost(recs, a), 0)?;
+        println!(out;)?;
     }
     Ok(())
 }
 
-fn bid_line(out: &impl Print, recs: &[u8], k: usize) -> io::Result<()>
-    requires { Room recs.now bid_width k }
-{
-    let x = bid::read(recs, k);
-    field(out, b"  bid ", k as u64)?;
-    field(out, b": application ", x.application as u64)?;
-    field(out, b", year ", x.year as u64)?;
-    field(out, b", first-year days ", x.days)?;
-    hundredths(out, b", ", x.capacity)?;
-    thousandths(out, b" MW, at ", x.price)?;
-    word(out, b"\n")
-}
-
-fn bids(out: &impl Print, recs: &[u8], n: usize) -> io::Result<()>
-    requires { n * bid_width ≤ length recs.now }
-{
-    word(out, b"bids\n")?;
-    let mut k: usize = 0;
-    while k < n {
-        bid_line(out, recs, k)?;
-        k += 1;
+fn bids(out: &impl Print, round: &RoundFile) -> io::Result<()> {
+    let recs = parts::bids(round.file, round.sections);
+    println!(out; "bids")?;
+    for k in 0..round.sections.bids {
+        let bid::Bid {
+            application,
+            year,
+            days,
+            capacity,
+            price,
+        } = bid::read(recs, k);
+        print!(out; "  bid {k}: application {application}, year {year}, first-year days {days}")?;
+        println!(out; ", {} MW, at {}", hundredths(capacity), thousandths(price))?;
     }
     Ok(())
 }
 
-pub fn print(out: &impl Print, file: &[u8], sections: Sections) -> io::Result<()>
-    requires { Held file.now sections }
-{
-    years(out, parts::years(file, sections), sections.years)?;
-    let recs = parts::pots(file, sections);
-    pots(out, recs, sections.years, sections.gained, sections.pots)?;
-    let techs = parts::technologies(file, sections);
-    technologies(out, techs, sections.years, sections.technologies)?;
-    applications(
-        out,
-        parts::applications(file, sections),
-        sections.applications,
-    )?;
-    bids(out, parts::bids(file, sections), sections.bids)
+pub fn print(out: &impl Print, round: &RoundFile) -> io::Result<()> {
+    years(out, round)?;
+    pots(out, round)?;
+    technologies(out, round)?;
+    applications(out, round)?;
+    bids(out, round)
 }

@@ -5,8 +5,8 @@ use mathlib.Core.List.{List, [], ◌∷◌, ◌++◌, append_assoc}
 use native.Mathlib.Nat.{suc-mul, mul-le-mul_right, zero-mul, le_trans}
 use native.Mathlib.Numerals.{add-one}
 use native.Mathlib.Omega.{arith}
-use lib.ListN.{length, take, drop, set, get_or, length-append, length-take, length-drop, take-append-drop}
-use lib.Seq.{drop-cons, take_at, drop_at, drop-drop, take-suc, set-append_seam, drop-append-le, length-take-le}
+use lib.ListN.{length, take, drop, set, length-append, length-take, length-drop, take-append-drop}
+use lib.Seq.{drop-cons, take_at, drop_at, drop-drop, set-append_seam, drop-append-le}
 use borrow.Rule.Slice.PartMut.{put_mid}
 use Rattle.rules.specs.Bytes.{bytes, each, onto}
 use Rattle.store.specs.Filled.{Filled, numbers}
@@ -66,21 +66,10 @@ put_turn {s} {s₀} v i p q h =
       fits = rw length_bytes (omega arith);
     }
 
--- one turn of a copy: the next byte of p
-pub copy_turn : {s s₀ : List ℕ} (p : List ℕ) (i : ℕ) → i < length p → length p ≤ length s₀
-    → Filled (take i p) s₀ s → Filled (take (i + 1) p) s₀ (set s i (get_or p i 0))
-copy_turn {s} {s₀} p i h g f =
-    let l : length (take i p) ≡ i = length-take-le i p (omega arith) in
-    let l' : length (take (suc i) p) ≡ suc i = length-take-le (suc i) p h in
-    record {
-      bytes = rw (f.bytes, add-one, take-suc p i 0) (onto_more (take i p) s₀ (get_or p i 0) i l (omega arith));
-      fits = rw (add-one, l') (omega arith);
-    }
-
 -- ---- one part more
 
 -- f over the start of the k elements from the a-th on, where e reaches to a
-filled_part : {e f s xs ys : List ℕ} (a k : ℕ) → length e ≡ a → Filled e s xs → Filled f (take k (drop a xs)) ys → Filled (e ++ f) s (put_mid a k xs ys)
+pub filled_part : {e f s xs ys : List ℕ} (a k : ℕ) → length e ≡ a → Filled e s xs → Filled f (take k (drop a xs)) ys → Filled (e ++ f) s (put_mid a k xs ys)
 unfolding onto
 filled_part {e} {f} {s} {xs} {ys} a k la p q =
     let x : xs ≡ e ++ drop (length e) s = p.bytes in
@@ -134,10 +123,7 @@ room i n w h g =
     let m : suc i * w ≤ n * w = mul-le-mul_right w h in
     le_trans (rw suc-mul at m) g
 
-pub mul_more : (i w : ℕ) {a : ℕ} → a ≡ i * w → a + w ≡ (i + 1) * w
-mul_more i w e = rw (e, add-one, suc-mul)
-
 -- the next record, of the same width, in the part from its place to the end
-pub each_turn : {s s₀ ys : List ℕ} (f : ℕ → List ℕ) (w i a : ℕ) → ((j : ℕ) → length (f j) ≡ w) → a ≡ i * w → Filled (each f i) s₀ s
-    → Filled (f i) (take (length s - a) (drop a s)) ys → Filled (each f (i + 1)) s₀ (put_mid a (length s - a) s ys)
-each_turn f w i a h e p q = rw each_more (filled_rest a (length_each f w i h ∙ sym e) p q)
+pub each_turn : {s s₀ ys : List ℕ} (f : ℕ → List ℕ) (w i : ℕ) → ((j : ℕ) → length (f j) ≡ w) → Filled (each f i) s₀ s
+    → Filled (f i) (take (length s - i * w) (drop (i * w) s)) ys → Filled (each f (i + 1)) s₀ (put_mid (i * w) (length s - i * w) s ys)
+each_turn f w i h p q = rw each_more (filled_rest (i * w) (length_each f w i h) p q)

@@ -6,7 +6,7 @@ use mathlib.Core.List.{List}
 use native.Mathlib.Omega.{arith}
 use lib.ListN.{get_or, set, replicate, length-set}
 use lib.Dec.{eqb, ltb}
-use borrow.Author.Tests.{eq-eqb, lt-ltb, le-ltb, ltb-true}
+use borrow.Author.Tests.{eq-eqb, lt-ltb, le-ltb}
 use Rattle.rules.specs.Names.{most_pots, most_deliveries, most_years, most_apps, most_bids, no_reason}
 use Rattle.rules.specs.Lists.{pick, memb, sift, below}
 use Rattle.rules.specs.File.{Round}
@@ -15,7 +15,7 @@ use Rattle.rules.specs.Round.{mine, app_mine, assemble, pot_of}
 use Rattle.rules.specs.Result.{app_told, pot_at}
 use Rattle.rules.specs.declared.Told.{Told}
 use Rattle.laws_pot.specs.Lists.{case}
-use Rattle.laws_reading.specs.Reading.{Sound, tech_pot, app_tech, bid_app}
+use Rattle.laws_reading.specs.Reading.{Sound}
 use Rattle.laws_round.specs.Bids.{app_pot, bid_pot, mine_own, app_mine_lem}
 use Rattle.sheet.specs.declared.Size.{Size}
 use Rattle.sheet.specs.Sheet.{in_auction, in_test, pot_in}
@@ -25,7 +25,8 @@ use Rattle.auction.specs.declared.Cleared.{Cleared}
 use Rattle.auction.specs.Cleared.{ClearedAs}
 use Rattle.result.specs.declared.PotTold.{PotTold}
 use Rattle.result.specs.declared.Tellings.{Tellings}
-use Rattle.result.specs.Tells.{untold, no_pot, Tells}
+use Rattle.auction.specs.Outcomes.{number_of}
+use Rattle.result.specs.Tells.{untold, no_pot}
 use Rattle.tell.specs.ToldTo.{ToldTo, told_with}
 use Rattle.tell.proofs.Laws.{merged_length, told_more, column_more}
 
@@ -68,7 +69,7 @@ module _ (R : Round) (p : ℕ) where
 
       -- and of the pot
       abbrev pot_now : PotTold
-      pot_now = record { outcome = c.outcome; prices = c.prices; totals = c.totals }
+      pot_now = record { outcome = number_of c.outcome; prices = c.prices; totals = c.totals }
 
       pub tell_pot : (t : Tellings) → ToldTo R p t → ToldTo R (p + 1) (told_with sheet (size_of R m n) p c t)
       unfolding told_with
@@ -128,23 +129,3 @@ told_next R p sheet of {m} {n} eo E S h c C t e T =
     let F : pot_in sheet (size_of R m n) ≡ pot_of R p = rw eo at E in
     let D : ClearedAs (size_of R m n) (pot_of R p) c = rw eo at (rw E at C) in
     rw (e, eo) (tell_pot R p sheet m n F S h c D t T)
-
--- all pots are told
-pub told_all : (R : Round) → Sound R → (t : Tellings) (p : ℕ) → p ≡ R.p → ToldTo R p t → Tells R t
-told_all R S t p e T = record {
-  outcome = λ q. rw e at (T.outcome q);
-  price = λ q d l. rw e at (T.price q d l);
-  total = λ q y. (rw e at (T.total q y)) ∙ both (total_in (pot_of R q) y) 0 (ltb q R.p) (ltb y R.y);
-  app = λ a. T.app a ∙ within (app_told R a) untold R.n p (app_pot R) (λ a l. omega (arith, tech_pot R S _ (app_tech R S a l))) a;
-  reason =
-      λ k. T.reason k ∙ within (reason (pot_at R k) k) no_reason R.b p (bid_pot R)
-      (λ k l. omega (arith, tech_pot R S _ (app_tech R S _ (bid_app R S k l)))) k;
-}
-  where
-    both : (x d : ℕ) (s u : Bool) → pick s (pick u x d) d ≡ pick (s && u) x d
-    both x d true u = refl
-    both x d false u = refl
-
-    within : {A : Type 0} (x d : A) (n p : ℕ) (pot : ℕ → ℕ) → ((a : ℕ) → a < n → pot a < p) → (a : ℕ)
-        → pick (ltb a n && ltb (pot a) p) x d ≡ pick (ltb a n) x d
-    within x d n p pot h a = case (ltb a n) (λ t. rw (t, lt-ltb (pot a) p (h a (ltb-true a n t)))) (λ f. rw f)

@@ -11,6 +11,7 @@ use Rattle.sheet.specs.declared.Size.{Size}
 use Rattle.sheet.specs.Sheet.{in_auction, in_test}
 use Rattle.auction.specs.declared.Cleared.{Cleared}
 use Rattle.result.specs.declared.Tellings.{Tellings}
+use Rattle.auction.specs.Outcomes.{number_of}
 use Rattle.result.specs.Tells.{untold, no_pot}
 
 pub record Sizes (t : Tellings) : Type 0 where
@@ -35,7 +36,7 @@ merged own mine old d (suc a) = pick (own a) (set (merged own mine old d a) a (g
 -- the clearing c of pot p added, whose sheet this is
 unfoldable pub told_with : (sheet : List ℕ) (of : Size) (p : ℕ) → Cleared → Tellings → Tellings
 told_with sheet of p c t = record {
-  pots = set t.pots p (record { outcome = c.outcome; prices = c.prices; totals = c.totals });
+  pots = set t.pots p (record { outcome = number_of c.outcome; prices = c.prices; totals = c.totals });
   apps = merged (in_test sheet) c.apps t.apps untold of.applications;
   reasons = merged (in_auction sheet) c.reasons t.reasons no_reason of.bids;
 }

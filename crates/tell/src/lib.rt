@@ -1,80 +1,65 @@
 // What is told of a round: each pot is cleared on its own sheet, and what is told of it goes to the places of its applications and bids.
 #![tactic(auto)]
 
-ghost use Rattle.std.specs.Prelude.{◌≡◌, ◌+◌, ◌<◌, length};
-ghost use Rattle.rules.specs.Names.{most_pots, no_reason};
+ghost use Rattle.std.specs.Prelude.{◌≡◌, ℕ, ◌+◌, ◌≤◌, ◌<◌, Bool, length};
+ghost use Rattle.rules.specs.Names.{most_pots};
 ghost use Rattle.rules.specs.File.{Round};
-ghost use Rattle.sheet.specs.Sheet.{in_auction, in_test, sheet_length, Ready};
-ghost use Rattle.rows.specs.Rows.{round_in, Held};
+ghost use Rattle.rows.specs.Rows.{round_in};
 ghost use Rattle.fill.specs.Fill.{Blank};
-ghost use Rattle.result.specs.Tells.{untold, Tells};
+ghost use Rattle.result.specs.Tells.{Tells};
 ghost use Rattle.tell.specs.ToldTo.{merged, ToldTo, told_with};
 
 use auction::Cleared;
 use names::{APPS, BIDS, MOST_DELIVERIES, MOST_POTS, YEARS};
 use result::{PotTold, Tellings};
-use rules::{Sections, Told};
-use sheet::{Sheet, Size};
+use rows::RoundFile;
+use rules::Told;
+use sheet::{Cells, Sheet};
 
-// What is told of the applications, those of the pot anew: an application is the pot's where it is in its first test.
-fn with_apps(told: [Told; APPS], mine: [Told; APPS], sheet: &Sheet, of: Size) -> [Told; APPS]
-    requires { Ready sheet.now of }
-    ensures { result ≡ merged (in_test sheet.now) mine told untold of.applications }
+// The first n places anew, where they are the pot's own.
+fn merge_own<T: Copy, F: Fn(usize) -> bool>(told: &mut [T], mine: &[T], n: usize, is_own: F)
+    requires within { (n ≤ length told.old) × (n ≤ length mine.now) }
+    requires asked { (a : ℕ) → a < n → F.pre is_own a }
+    ensures { (own : ℕ → Bool) (d : T) → ((a : ℕ) (b : Bool) → a < n → F.post is_own a b → b ≡ own a) → told.new ≡ merged own mine.now told.old d n }
 {
-    let mut next = told;
-    let n = of.applications;
-    let mut a: usize = 0;
-    while a < n {
-        if sheet::in_test(sheet, a) {
-            next[a] = mine[a];
+    for a in 0..n {
+        if is_own(a) {
+            told[a] = mine[a];
         }
-        a += 1;
     }
-    next
 }
 
-// The reasons of the bids, those of the pot anew.
-fn with_reasons(told: [u64; BIDS], mine: [u64; BIDS], sheet: &Sheet, of: Size) -> [u64; BIDS]
-    requires { Ready sheet.now of }
-    ensures { result ≡ merged (in_auction sheet.now) mine told no_reason of.bids }
+// What is told of the round, with the clearing of pot p added, whose sheet this is: an application is the pot's where it is in its first test, a bid where it is
+// in its auction.
+fn with_cleared(mut t: Tellings, c: Cleared, sheet: &Sheet, p: usize) -> Tellings
+    requires { p < most_pots }
+    ensures { result ≡ told_with sheet.now.cells.now sheet.now.size p c t }
 {
-    let mut next = told;
-    let b = of.bids;
-    let mut k: usize = 0;
-    while k < b {
-        if sheet::in_auction(sheet, k) {
-            next[k] = mine[k];
-        }
-        k += 1;
-    }
-    next
-}
-
-// What is told of the round, with the clearing of pot p added, whose sheet this is.
-fn with_cleared(t: Tellings, c: Cleared, sheet: &Sheet, of: Size, p: usize) -> Tellings
-    requires known { p < most_pots }
-    requires ready { Ready sheet.now of }
-    ensures { result ≡ told_with sheet.now of p c t }
-{
-    let prices = c.prices;
-    let totals = c.totals;
-    let mut pots = t.pots;
-    pots[p] = PotTold {
-        outcome: c.outcome,
+    let Cleared {
+        outcome,
+        prices,
+        totals,
+        apps,
+        reasons,
+    } = c;
+    t.pots[p] = PotTold {
+        outcome: outcome.number(),
         prices,
         totals,
     };
-    let told = t.apps;
-    let mine = c.apps;
-    let apps = with_apps(told, mine, sheet, of);
-    let told = t.reasons;
-    let mine = c.reasons;
-    let reasons = with_reasons(told, mine, sheet, of);
-    Tellings {
-        pots,
-        apps,
-        reasons,
-    }
+    merge_own(
+        &mut t.apps,
+        &apps,
+        sheet.size.applications,
+        |a| sheet::in_test(sheet.cells, a),
+    );
+    merge_own(
+        &mut t.reasons,
+        &reasons,
+        sheet.size.bids,
+        |k| sheet::in_auction(sheet.cells, k),
+    );
+    t
 }
 
 // Nothing is told yet.
@@ -99,38 +84,36 @@ fn nothing() -> Tellings
     }
 }
 
-// A sheet to be filled.
-fn blank_sheet() -> Sheet
-    ensures sized { length result ≡ sheet_length }
-    ensures blank { Blank result }
+// The numbers of a sheet to be filled.
+fn blank_cells() -> Cells
+    ensures { Blank result }
 {
     [0; sheet::LENGTH]
 }
 
 // Pot p is cleared on its sheet, and told.
-fn with_pot(t: Tellings, file: &[u8], sections: Sections, p: usize) -> Tellings
-    requires held { Held file.now sections }
-    requires known { p < sections.pots }
-    ensures { ToldTo (round_in file.now sections) p t
-        → ToldTo (round_in file.now sections) (p + 1) result }
+fn with_pot(t: Tellings, round: &RoundFile, p: usize) -> Tellings
+    requires { p < round.now.sections.pots }
+    ensures { ToldTo (round_in round.now.file.now round.now.sections) p t
+        → ToldTo (round_in round.now.file.now round.now.sections) (p + 1) result }
 {
-    let mut sheet = blank_sheet();
-    let of = fill::fill(file, sections, p, &mut sheet);
-    let c = auction::clear_pot(&sheet, of);
-    with_cleared(t, c, &sheet, of, p)
+    let mut cells = blank_cells();
+    let size = fill::fill(round, p, &mut cells);
+    let sheet = Sheet {
+        cells: &cells,
+        size,
+    };
+    let c = auction::clear_pot(&sheet);
+    with_cleared(t, c, &sheet, p)
 }
 
 // What is told of the round that an accepted file and its sections show.
-pub fn tell(file: &[u8], sections: Sections) -> Tellings
-    requires { Held file.now sections }
-    ensures { Tells (round_in file.now sections) result }
+pub fn tell(round: &RoundFile) -> Tellings
+    ensures { Tells (round_in round.now.file.now round.now.sections) result }
 {
     let mut t = nothing();
-    let n = sections.pots;
-    let mut p: usize = 0;
-    while p < n {
-        t = with_pot(t, file, sections, p);
-        p += 1;
+    for p in 0..round.sections.pots {
+        t = with_pot(t, round, p);
     }
     t
 }

@@ -27,22 +27,19 @@ fn before(from: Figure, n: Wide) -> Figure
     requires { Whole from × (longest ≤ from.at) }
     ensures { Whole result × (from.at ≤ result.at + longest) }
 {
-    let mut places = from.places;
-    let mut at = from.at;
+    let Figure { mut places, mut at } = from;
     let tenth = n.column / 10;
     let mut upper = n.upper;
     let mut lower = n.lower;
-    let mut i: usize = 0;
-    while i < DIGITS {
+    for i in 0..DIGITS {
         at -= 1;
         places[at] = b'0' + (lower % 10) as u8;
         lower = upper % 10 * tenth + lower / 10;
         upper /= 10;
         if upper == 0 && lower == 0 {
-            return Figure { places, at };
+            break;
         }
-        i += 1;
-        if i % GROUP == 0 {
+        if (i + 1) % GROUP == 0 {
             at -= 1;
             places[at] = b',';
         }
@@ -78,11 +75,9 @@ impl Figure {
             column: 10,
             lower: pounds,
         };
-        let unsigned = before(after, whole);
-        let mut places = unsigned.places;
-        let at = unsigned.at - 2;
-        places[at] = SIGN[0];
-        places[at + 1] = SIGN[1];
+        let Self { mut places, at } = before(after, whole);
+        let at = at - SIGN.len();
+        places[at..at + SIGN.len()].copy_from_slice(&SIGN);
         Self { places, at }
     }
 }

@@ -1,61 +1,57 @@
-// Words and numbers on standard output, as the programs for people write them. Where a write fails, what stands before it is written.
+// Numbers, amounts of money and refusals, as the programs for people write them. Where a write fails, what stands before it is written.
 #![tactic(auto)]
 
 pub mod figure;
 
 use figure::Figure;
-use std::io;
+use rules::Refusal;
+use std::{fmt, io};
 
-pub fn word(out: &impl Print, w: &[u8]) -> io::Result<()> {
-    out.write_all(w)
+// A number with so many decimals.
+#[derive(Drop)]
+pub struct Decimal {
+    whole: u64,
+    part: u64,
+    decimals: usize,
 }
 
-pub fn number(out: &impl Print, n: u64) -> io::Result<()> {
-    out.print(n)
+impl fmt::Display for Decimal {
+    fn fmt<W: fmt::Write>(&self, f: &mut fmt::Formatter<W>) -> fmt::Result {
+        write!(f, "{}.{:02$}", self.whole, self.part, self.decimals)
+    }
 }
 
-// A word, and a number after it.
-pub fn field(out: &impl Print, w: &[u8], n: u64) -> io::Result<()> {
-    word(out, w)?;
-    number(out, n)
+pub fn hundredths(n: u64) -> Decimal {
+    Decimal {
+        whole: n / 100,
+        part: n % 100,
+        decimals: 2,
+    }
 }
 
-// A word, and a number of hundredths after it.
-pub fn hundredths(out: &impl Print, w: &[u8], n: u64) -> io::Result<()> {
-    field(out, w, n / 100)?;
-    field(out, b".", n / 10 % 10)?;
-    number(out, n % 10)
+pub fn thousandths(n: u64) -> Decimal {
+    Decimal {
+        whole: n / 1000,
+        part: n % 1000,
+        decimals: 3,
+    }
 }
 
-// A word, and a number of thousandths after it.
-pub fn thousandths(out: &impl Print, w: &[u8], n: u64) -> io::Result<()> {
-    field(out, w, n / 1000)?;
-    field(out, b".", n / 100 % 10)?;
-    number(out, n / 10 % 10)?;
-    number(out, n % 10)
+// A number of ten-thousandths.
+pub fn factor(n: u64) -> Decimal {
+    Decimal {
+        whole: n / 10000,
+        part: n % 10000,
+        decimals: 4,
+    }
 }
 
-// A word, and a number of ten-thousandths after it.
-pub fn factor(out: &impl Print, w: &[u8], n: u64) -> io::Result<()> {
-    field(out, w, n / 10000)?;
-    field(out, b".", n / 1000 % 10)?;
-    number(out, n / 100 % 10)?;
-    number(out, n / 10 % 10)?;
-    number(out, n % 10)
-}
-
-// A word, and an amount of money after it.
-pub fn money(out: &impl Print, w: &[u8], pounds: u64, pence: u64) -> io::Result<()> {
-    word(out, w)?;
+pub fn money(out: &impl Print, pounds: u64, pence: u64) -> io::Result<()> {
     let amount = Figure::money(pounds, pence);
-    let places = amount.places;
-    let at = amount.at;
-    word(out, &places[at..])
+    out.write_all(&amount.places[amount.at..])
 }
 
 // The line of a refusal: `refused 7 at 120`.
-pub fn refused(out: &impl Print, number: u64, at: usize) -> io::Result<()> {
-    field(out, b"refused ", number)?;
-    field(out, b" at ", at as u64)?;
-    word(out, b"\n")
+pub fn refused(out: &impl Print, refusal: Refusal) -> io::Result<()> {
+    println!(out; "refused {} at {}", refusal.rule.number(), refusal.at)
 }

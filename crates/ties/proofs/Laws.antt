@@ -4,12 +4,13 @@ use mathlib.Core.Path.{◌≡◌, refl, sym, ap, ◌∙◌}
 use mathlib.Core.Bool.{Bool, true, false, not, ◌&&◌}
 use mathlib.Core.List.{List, [], ◌∷◌}
 use native.Mathlib.Numerals.{add-one}
-use native.Mathlib.Nat.{le_antisymm, div-zero}
+use native.Mathlib.Nat.{le_antisymm}
 use native.Mathlib.Omega.{arith}
 use lib.ListN.{length, get_or, set}
 use lib.Dec.{eqb, leb}
 use lib.Pow.{pow_mono}
 use borrow.Author.Tests.{eqb-true, eqb-false, eq-eqb, ne_eqb, lt-leb, le-leb, leb-true}
+use Rattle.std.specs.Prelude.{Option, None, Some, MatchOption, IsSomeAnd}
 use Rattle.rules.specs.Names.{widest_tie}
 use Rattle.rules.specs.Lists.{pick, sift, below}
 use Rattle.rules.specs.Pot.{has, best, at_place}
@@ -279,15 +280,14 @@ answer_is sheet of base tied p drawn eo et ea = rw (ea, et, eo)
 
 -- ---- what is chosen then, and what is left of the drawn number
 module _ (tied : Tied) (a : Answer) {w : List Bool} (ew : w ≡ combination_of tied.bids tied.ranks a.mask tied.count) where
-  pub chosen_undrawn : {drawn : ℕ} → drawn ≡ 0 → ◌≡◌ {A = Choice} (record { wins = w; drawn = drawn }) (chosen_of tied a drawn)
-  unfolding chosen_of left_of
-  chosen_undrawn e = rw (ew, e)
+  pub chosen_is : (drawn : Option ℕ) {left : Option ℕ} → left ≡ left_of drawn a.ways → ◌≡◌ {A = Choice} (record { wins = w; drawn = left }) (chosen_of tied a drawn)
+  unfolding chosen_of
+  chosen_is drawn e = rw (ew, e)
 
-  module _ (d : ℕ) {drawn : ℕ} (ed : drawn ≡ suc d) where
-    pub chosen_none : a.ways ≡ 0 → ◌≡◌ {A = Choice} (record { wins = w; drawn = 1 }) (chosen_of tied a drawn)
-    unfolding chosen_of left_of
-    chosen_none e = rw (ew, ed, e, div-zero d)
-
-    pub chosen_left : ◌≡◌ {A = Choice} (record { wins = w; drawn = d / a.ways + 1 }) (chosen_of tied a drawn)
-    unfolding chosen_of left_of
-    chosen_left = rw (ew, ed, add-one (d / a.ways))
+-- what is left of a drawn number, as `map` gives it
+pub left_is : (ways : ℕ) (drawn left : Option ℕ) (P : ℕ → ℕ → Type 0) → MatchOption drawn (left ≡ None) (λ d. IsSomeAnd left (P d))
+    → ((d q : ℕ) → P d q → q ≡ d / ways) → left ≡ left_of drawn ways
+unfolding left_of
+left_is ways None left P m h = m
+left_is ways (Some d) None P m h = absurd m
+left_is ways (Some d) (Some q) P m h = ap Some (h d q m)

@@ -1,3 +1,4 @@
 pub mod Laws
 pub mod Sums
 pub mod Link
+pub mod Ranges

@@ -4,6 +4,8 @@ use mathlib.Core.Path.{◌≡◌, refl, sym, ap, ap₂, ◌∙◌}
 use mathlib.Core.Bool.{Bool, true, false, not, ◌&&◌, ◌||◌}
 use mathlib.Core.Logic.{⊎_elim}
 use mathlib.Core.Option.{Option, some}
+use Rattle.std.specs.declared.option.Option as code
+use Rattle.std.specs.Prelude.{None, Some}
 use mathlib.Core.List.{List, [], ◌∷◌, ◌++◌, map}
 use native.Mathlib.Omega.{arith}
 use lib.Pow.{pow_pos, pow_mono}
@@ -21,7 +23,7 @@ use Rattle.arrays.specs.Sets.{none, built, members}
 use Rattle.arrays.proofs.Arrays.{put_is, at_start, fill_at, members_built}
 use Rattle.sheet.specs.declared.Size.{Size}
 use Rattle.sheet.proofs.Columns.{columns_few}
-use Rattle.sheet.specs.Sheet.{columns, pot_in, Ready, in_auction, number_in, row_year, row_price, row_draw}
+use Rattle.sheet.specs.Sheet.{columns, pot_in, Ready, in_auction, number_in, one_more, row_year, row_price, row_draw}
 use Rattle.totals.specs.Totals.{worth_of, total_of}
 use Rattle.totals.proofs.Link as link
 use Rattle.totals.proofs.Link.{Marked, column_of, column_total}
@@ -505,18 +507,18 @@ module _ (sheet : List ℕ) (of : Size) (ok : Ready sheet of) where
           number_is zero = top_is
           number_is (suc d) = ap (λ (x : List ℕ). at_place (d % length x) x) ways_is
 
-          left_is : (drawn : ℕ) → number_in (left_of drawn (answer drawn).ways) ≡ divided (number_in drawn) (ways_of P ws l)
+          left_is : (drawn : code.Option ℕ) → number_in (one_more (left_of drawn (answer (one_more drawn)).ways)) ≡ divided (number_in (one_more drawn)) (ways_of P ws l)
           unfolding answer_by left_of number_in divided ways_of
-          left_is zero = refl
-          left_is (suc d) = ap (λ (x : List ℕ). some (d / length x)) ways_is
+          left_is None = refl
+          left_is (Some d) = ap (λ (x : List ℕ). some (d / length x)) ways_is
 
-          module _ (drawn : ℕ) {d : Option ℕ} (ed : d ≡ number_in drawn) {w : Choice}
+          module _ (drawn : code.Option ℕ) {d : Option ℕ} (ed : d ≡ number_in (one_more drawn)) {w : Choice}
               (ew : w ≡ choice_of sheet of base (tied_of sheet of s k) p drawn) where
             abbrev mask : ℕ
-            mask = (answer drawn).mask
+            mask = (answer (one_more drawn)).mask
 
             number_taken : mask ≡ number P d ws r
-            number_taken = number_is drawn ∙ ap (λ (x : Option ℕ). number P x ws r) (sym ed)
+            number_taken = number_is (one_more drawn) ∙ ap (λ (x : Option ℕ). number P x ws r) (sym ed)
 
             wins_are : w.wins ≡ combination_of list ranks mask k
             unfolding choice_of chosen_of answer_of tied_of
@@ -534,9 +536,9 @@ module _ (sheet : List ℕ) (of : Size) (ok : Ready sheet of) where
                 ∙ ap (memb i) (of_com mask ∙ ap (combination P r) number_taken)
 
             -- what is left of the drawn number
-            pub number_left : number_in w.drawn ≡ divided d (ways_of P ws l)
+            pub number_left : number_in (one_more w.drawn) ≡ divided d (ways_of P ws l)
             unfolding choice_of chosen_of answer_of tied_of
-            number_left = ap (λ (x : Choice). number_in x.drawn) ew ∙ left_is drawn ∙ ap (λ (x : Option ℕ). divided x (ways_of P ws l)) (sym ed)
+            number_left = ap (λ (x : Choice). number_in (one_more x.drawn)) ew ∙ left_is drawn ∙ ap (λ (x : Option ℕ). divided x (ways_of P ws l)) (sym ed)
 
           pub chosen_among : (d : Option ℕ) (i : ℕ) → In i (choose P d ws l) → In i l
           unfolding choose chosen

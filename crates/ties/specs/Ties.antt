@@ -1,10 +1,10 @@
 -- What the functions of `ties` compute from a sheet and rows of numbers, and what they need. No rule of document 01 is stated here. Assumes nothing.
-use Rattle.std.specs.Prelude.{ℕ, zero, suc, ◌+◌, ◌-◌, ◌*◌, ◌/◌, ◌%◌, ◌^◌, ◌≤◌, ◌<◌, ◌≡◌, Bool, true, false, not, ◌&&◌, List, length, get_or, set, eqb, leb}
+use Rattle.std.specs.Prelude.{ℕ, zero, suc, ◌+◌, ◌-◌, ◌*◌, ◌/◌, ◌%◌, ◌^◌, ◌≤◌, ◌<◌, ◌≡◌, Bool, true, false, not, ◌&&◌, List, length, get_or, set, eqb, leb, Option, None, Some}
 use Rattle.rules.specs.Lists.{pick, sift, below}
 use Rattle.rules.specs.Pot.{has, best, at_place}
 use Rattle.arrays.specs.Sets.{none}
 use Rattle.sheet.specs.declared.Size.{Size}
-use Rattle.sheet.specs.Sheet.{columns, row_year, Ready}
+use Rattle.sheet.specs.Sheet.{columns, one_more, row_year, Ready}
 use Rattle.totals.specs.Totals.{worth_of, fits_to}
 use Rattle.combinations.specs.declared.Tied.{Tied}
 use Rattle.combinations.specs.Combinations.{combinations, Bounded, most_base, Placed, owns_of, table_by, joint_of, union_of, Tabled}
@@ -99,10 +99,10 @@ answer_by sheet of table tied (suc d) =
     let l = ways_by sheet of table tied in
     record { mask = at_place (d % length l) l; ways = length l }
 
--- what is left of a drawn number, one more than it
-unfoldable pub left_of : (drawn ways : ℕ) → ℕ
-left_of zero ways = 0
-left_of (suc d) ways = suc (d / ways)
+-- what is left of the drawn number
+unfoldable pub left_of : (drawn : Option ℕ) (ways : ℕ) → Option ℕ
+left_of None ways = None
+left_of (Some d) ways = Some (d / ways)
 
 -- ---- the table of the gathered bids at a price; what a tie of them takes; and what is chosen then
 abbrev pub table_for : (sheet : List ℕ) (of : Size) (base : List ℕ) (tied : Tied) (price : ℕ) → List ℕ
@@ -111,14 +111,14 @@ table_for sheet of base tied price = table_by base (owns_of sheet of tied.bids p
 unfoldable pub answer_of : (sheet : List ℕ) (of : Size) (base : List ℕ) (tied : Tied) (price drawn : ℕ) → Answer
 answer_of sheet of base tied price drawn = answer_by sheet of (table_for sheet of base tied price) tied drawn
 
-unfoldable pub chosen_of : Tied → Answer → (drawn : ℕ) → Choice
+unfoldable pub chosen_of : Tied → Answer → (drawn : Option ℕ) → Choice
 chosen_of tied answer drawn = record {
   wins = combination_of tied.bids tied.ranks answer.mask tied.count;
   drawn = left_of drawn answer.ways;
 }
 
-unfoldable pub choice_of : (sheet : List ℕ) (of : Size) (base : List ℕ) (tied : Tied) (price drawn : ℕ) → Choice
-choice_of sheet of base tied price drawn = chosen_of tied (answer_of sheet of base tied price drawn) drawn
+unfoldable pub choice_of : (sheet : List ℕ) (of : Size) (base : List ℕ) (tied : Tied) (price : ℕ) (drawn : Option ℕ) → Choice
+choice_of sheet of base tied price drawn = chosen_of tied (answer_of sheet of base tied price (one_more drawn)) drawn
 
 -- ---- what passing over combinations rests on, where it can be
 

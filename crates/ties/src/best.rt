@@ -16,18 +16,15 @@ pub struct Best {
 }
 
 // Does a combination fit?
-pub fn fitting(sheet: &Sheet, of: Size, table: &Table, mask: u32) -> bool
-    requires { Searching sheet.now of table.now × (mask < combinations) }
-    ensures { result ≡ ok_by sheet.now of table.now mask }
+pub fn fitting(sheet: &Sheet, table: &Table, mask: u32) -> bool
+    requires { Searching sheet.now.cells.now sheet.now.size table.now × (mask < combinations) }
+    ensures { result ≡ ok_by sheet.now.cells.now sheet.now.size table.now mask }
 {
     let t = union(table, mask);
-    let columns = of.columns;
-    let mut c: usize = 0;
-    while c < columns {
-        if joint(table, mask, t, c) > sheet::limit(sheet, c) {
+    for c in 0..sheet.size.columns {
+        if joint(table, mask, t, c) > sheet::limit(sheet.cells, c) {
             return false;
         }
-        c += 1;
     }
     true
 }
@@ -46,27 +43,25 @@ fn better(b: Best, mask: u32, total: u64) -> Best
     ensures { result ≡ better_of b mask total }
 {
     if total < b.total {
-        return b;
+        b
+    } else {
+        Best { mask, total }
     }
-    Best { mask, total }
 }
 
 // The best combination of so many bids: of equals the largest number.
-pub fn top(sheet: &Sheet, of: Size, table: &Table, count: usize) -> Best
-    requires { Searching sheet.now of table.now × (count ≤ widest_tie) }
-    ensures { result ≡ best_of (ok_by sheet.now of table.now) (last_by of table.now) (2 ^ count) }
+pub fn top(sheet: &Sheet, table: &Table, count: usize) -> Best
+    requires { Searching sheet.now.cells.now sheet.now.size table.now × (count ≤ widest_tie) }
+    ensures { result ≡ best_of (ok_by sheet.now.cells.now sheet.now.size table.now) (last_by sheet.now.size table.now) (2 ^ count) }
 {
-    let end = power(count as u32);
     let mut b = Best {
         mask: 0,
-        total: last(of, table, 0),
+        total: last(sheet.size, table, 0),
     };
-    let mut mask: u32 = 0;
-    while mask < end {
-        if fitting(sheet, of, table, mask) {
-            b = better(b, mask, last(of, table, mask));
+    for mask in 0..power(count as u32) {
+        if fitting(sheet, table, mask) {
+            b = better(b, mask, last(sheet.size, table, mask));
         }
-        mask += 1;
     }
     b
 }

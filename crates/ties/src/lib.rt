@@ -16,11 +16,11 @@ use combinations::places::member;
 use listing::Answer;
 use names::BIDS;
 
-// The chosen bids, as a set; and one more than the number that the pot's next tie is drawn by, 0 where there is none.
+// The chosen bids, as a set; and the number that the pot's next tie is drawn by, if there is one.
 #[derive(Clone, Copy)]
 pub struct Choice {
     pub wins: [bool; BIDS],
-    pub drawn: u64,
+    pub drawn: Option<u64>,
 }
 
 // The bids of a combination, as a set.
@@ -29,33 +29,21 @@ fn combination(tied: Tied, mask: u32) -> [bool; BIDS]
     ensures { result ≡ combination_of tied.bids tied.ranks mask tied.count }
 {
     let mut out = [false; BIDS];
-    let count = tied.count;
-    let mut j: usize = 0;
-    while j < count {
+    for j in 0..tied.count {
         if member(mask, tied.ranks[j]) {
             out[tied.bids[j]] = true;
         }
-        j += 1;
     }
     out
 }
 
 // What is chosen where a tie takes a combination, and what that leaves of the drawn number: "go on with the drawn number divided by m".
-pub fn chosen(tied: Tied, answer: Answer, drawn: u64) -> Choice
+pub fn chosen(tied: Tied, answer: Answer, drawn: Option<u64>) -> Choice
     requires { Numbers tied.bids tied.count most_bids × Placed tied }
     ensures { result ≡ chosen_of tied answer drawn }
 {
-    let wins = combination(tied, answer.mask);
-    let ways = answer.ways;
-    if drawn == 0 {
-        return Choice { wins, drawn };
-    }
-    if ways == 0 {
-        return Choice { wins, drawn: 1 };
-    }
-    let left = (drawn - 1) / ways;
     Choice {
-        wins,
-        drawn: left + 1,
+        wins: combination(tied, answer.mask),
+        drawn: drawn.map(|number| number.checked_div(answer.ways).unwrap_or(0)),
     }
 }

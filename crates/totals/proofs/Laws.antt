@@ -1,20 +1,22 @@
 -- Laws of values and totals over plain variables: each answers one need of a proof. Assumes nothing.
 use Prim.Native.Nat.{ℕ, zero, suc, ◌+◌, ◌-◌, ◌*◌, ◌≤◌, ◌<◌, min}
 use mathlib.Core.Path.{◌≡◌, refl, sym, ap, ap₂, ◌∙◌}
-use mathlib.Core.Bool.{Bool, true, false}
-use mathlib.Core.List.{List}
+use mathlib.Core.Bool.{Bool, true, false, ◌&&◌}
+use mathlib.Core.List.{List, [], ◌∷◌, ◌++◌}
+use Rattle.std.specs.List.{list_all, range_with_len}
+use Rattle.std.proofs.lemmas.List.Folds.{list_all-append}
 use native.Mathlib.Numerals.{add-one}
 use native.Mathlib.Omega.{arith}
 use lib.ListN.{length, get_or, set}
 use lib.Seq.{ext_get_or}
 use native.Mathlib.Decide.{dec_lt}
-use lib.Dec.{eqb, ltb}
+use lib.Dec.{eqb, leb, ltb}
 use borrow.Author.Tests.{eq-eqb, ne_eqb, lt-leb, le-leb, ltb-true, ltb-false, lt-ltb, le-ltb}
 use Rattle.rules.specs.Names.{most_bids, because_won}
 use Rattle.rules.specs.Lists.{pick, sum}
 use Rattle.rules.specs.Value.{ceil_div, penny, dearest}
 use Rattle.laws_pot.specs.Lists.{case}
-use Rattle.arrays.proofs.Laws.{done, fill_next}
+use Rattle.arrays.proofs.Laws.{fill_next}
 use Rattle.arrays.proofs.Arrays.{fill_at, fill_length, zeros, fill_rest}
 use Rattle.sheet.specs.declared.Size.{Size}
 use Rattle.sheet.specs.Sheet.{Ready, columns, places, app_place, limit_at, admin_at, row_year, row_admin, capacity_at, fig_reference, fig_energy, fig_share}
@@ -72,6 +74,28 @@ module _ (f : ℕ → ℕ) (sheet : List ℕ) (c : ℕ) {x : ℕ} (e : x ≡ f c
   pub fits_more : {b : Bool} {q : ℕ} → q ≡ limit_at sheet c → x ≤ q → b ≡ fits_to f sheet c → b ≡ fits_to f sheet (c + 1)
   unfolding fits_to
   fits_more eq h g = rw (add-one c, ← e, ← eq, le-leb _ _ h) g
+
+-- the columns one after the other: one more at the end, and all below n
+range_more : (a n m : ℕ) → a + n ≡ m → range_with_len a (suc n) ≡ range_with_len a n ++ (m ∷ [])
+range_more a zero m e = let q : a ≡ m = omega arith in ap (λ (x : ℕ). x ∷ []) q
+range_more a (suc n) m e = ap (λ (l : List ℕ). a ∷ l) (range_more (a + 1) n m (omega arith))
+
+pub fits_all : (f : ℕ → ℕ) (sheet : List ℕ) (n : ℕ) → list_all (λ c. leb (f c) (limit_at sheet c)) (range_with_len 0 n) ≡ fits_to f sheet n
+unfolding fits_to
+fits_all f sheet zero = refl
+fits_all f sheet (suc n) =
+    let fits = λ (c : ℕ). leb (f c) (limit_at sheet c) in
+    ap (list_all fits) (range_more 0 n n (omega arith)) ∙ list_all-append fits (range_with_len 0 n) (n ∷ [])
+    ∙ rw (fits_all f sheet n)
+    (case (fits n) (λ t. rw t (and_true (fits_to f sheet n))) (λ u. rw u (and_false (fits_to f sheet n))))
+  where
+    and_true : (b : Bool) → (b && true) ≡ b
+    and_true true = refl
+    and_true false = refl
+
+    and_false : (b : Bool) → (b && false) ≡ false
+    and_false true = refl
+    and_false false = refl
 
 -- the same figures fit alike
 pub fits_same : (f g : ℕ → ℕ) (sheet : List ℕ) (n : ℕ) → ((c : ℕ) → c < n → f c ≡ g c) → fits_to f sheet n ≡ fits_to g sheet n
@@ -183,10 +207,6 @@ module _ (sheet : List ℕ) (of : Size) (marks prices : List ℕ) (i n : ℕ) wh
   pub row_miss : {row : List ℕ} → (get_or marks i 0 ≡ 1 → ⊥) → row ≡ filled (λ c. total_of sheet of marks prices c i) n
       → row ≡ filled (λ c. total_of sheet of marks prices c (i + 1)) n
   row_miss t er = er ∙ ap (λ (f : ℕ → ℕ). filled f n) (λ j c. total_miss sheet of marks prices c i t refl j)
-
-  pub row_done : {m : ℕ} {row : List ℕ} → row ≡ filled (λ c. total_of sheet of marks prices c i) n → i ≤ m → m ≤ i
-      → row ≡ filled (λ c. total_of sheet of marks prices c m) n
-  row_done = done (λ m. filled (λ c. total_of sheet of marks prices c m) n)
 
 -- ---- the rows of the delivery years
 

@@ -12,18 +12,12 @@ use sheet::{COLUMNS, Size};
 pub type Sums = [u64; MOST_DELIVERIES * COLUMNS];
 
 // A row of totals, laid as that of delivery year d.
-pub fn laid(of: Size, sums: Sums, row: [u64; COLUMNS], d: usize) -> Sums
+pub fn laid(of: Size, mut sums: Sums, row: [u64; COLUMNS], d: usize) -> Sums
     requires { (of.columns ≤ columns) × (d < most_deliveries) }
     ensures { result ≡ placed (λ c. get_or row c 0) sums (d * columns) of.columns }
 {
-    let mut out = sums;
-    let columns = of.columns;
-    let mut c: usize = 0;
-    while c < columns {
-        out[d * COLUMNS + c] = row[c];
-        c += 1;
-    }
-    out
+    arrays::lay(&mut sums, &row[..of.columns], d * COLUMNS);
+    sums
 }
 
 // The row of totals: what the winners of the four delivery years count together.
@@ -32,11 +26,8 @@ pub fn column_totals(of: Size, sums: Sums) -> [u64; COLUMNS]
     ensures { result ≡ filled (column_sum sums) of.columns }
 {
     let mut row = [0u64; COLUMNS];
-    let columns = of.columns;
-    let mut c: usize = 0;
-    while c < columns {
+    for c in 0..of.columns {
         row[c] = sums[c] + sums[COLUMNS + c] + sums[2 * COLUMNS + c] + sums[3 * COLUMNS + c];
-        c += 1;
     }
     row
 }

@@ -58,7 +58,7 @@ pub fn margin(price: u64, reference: u64) -> u64
 pub fn capped(price: u64, admin: u64) -> u64
     ensures { result ≡ min price admin }
 {
-    if price < admin { price } else { admin }
+    price.min(admin)
 }
 
 impl Valuation {
@@ -91,6 +91,5 @@ pub fn value(price: u64, reference: u64, energy: u64, share: u64) -> u64
     requires { InRange price reference energy share }
     ensures { (result ≡ ceil_div ((price - reference) * energy * share) penny) × (result ≤ dearest) }
 {
-    let worked = Valuation::of(price, reference, energy, share);
-    worked.by_rqm
+    Valuation::of(price, reference, energy, share).by_rqm
 }

@@ -15,7 +15,7 @@ pub struct Wide {
     pub lower: u64,
 }
 
-// One line: over a scale, rounded up.
+// One line: over a scale, rounded up. `div_ceil` would look at the remainder as well, which costs a third more for a value.
 pub fn over(n: u64, scale: u64) -> u64
     requires { (0 < scale) × (scale ≤ widest) × (n ≤ most_lower) }
     ensures { result ≡ ceil_div n scale }

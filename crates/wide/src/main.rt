@@ -3,67 +3,46 @@
 #![tactic(auto)]
 
 ghost use Rattle.std.specs.Prelude.{◌≡◌};
+ghost use Rattle.rules.specs.Reading.{Accepted};
 ghost use Rattle.rules.specs.Refusals.{reading};
-ghost use Rattle.rules.specs.declared.Reading.TheVariants.{Accepted};
-ghost use Rattle.sheet.specs.Sheet.{Ready};
 
-use cases::Got;
 use names::{BIDS, MOST_DELIVERIES};
-use rules::{Reading, Sections};
-use sheet::{Sheet, Size};
+use rows::RoundFile;
+use rules::Sections;
+use sheet::Sheet;
 use std::io;
-use text::{field, word};
 use ties::listing::Answer;
 
 // The bids of the pot at a price.
-fn at_price(sheet: &Sheet, of: Size, price: u64) -> [bool; BIDS]
-    requires { Ready sheet.now of }
-{
+fn at_price(sheet: &Sheet, price: u64) -> [bool; BIDS] {
     let mut set = [false; BIDS];
-    let bids = of.bids;
-    let mut k: usize = 0;
-    while k < bids {
-        if sheet::in_auction(sheet, k) {
-            set[k] = sheet::price(sheet, k) == price;
-        }
-        k += 1;
+    for k in 0..sheet.size.bids {
+        set[k] = sheet::in_auction(sheet.cells, k) && sheet::price(sheet.cells, k) == price;
     }
     set
 }
 
-fn told(out: &impl Print, name: &[u8], answer: Answer) -> io::Result<()> {
-    let mask = answer.mask as u64;
-    let ways = answer.ways;
-    field(out, name, mask)?;
-    field(out, b" of ", ways)?;
-    word(out, b"\n")
+fn told(out: &impl Print, name: &str, answer: Answer) -> io::Result<()> {
+    println!(out; "{name} {} of {}", answer.mask, answer.ways)
 }
 
 // What both answer of the tie at a price.
-fn both(out: &impl Print, sheet: &Sheet, of: Size, price: u64) -> io::Result<()>
-    requires { Ready sheet.now of }
-{
+fn both(out: &impl Print, sheet: &Sheet, price: u64) -> io::Result<()> {
     let marks = [names::NO_REASON as u16; BIDS];
     let prices = [names::NO_PRICE; MOST_DELIVERIES];
-    let base = gathering::winners::bases(sheet, of, marks, prices, price);
-    let taken = at_price(sheet, of, price);
-    let rest = ties::alone::rest(sheet, of, &base, taken, price);
-    let count = arrays::count(rest, of.bids);
+    let base = gathering::winners::bases(sheet, marks, prices, price);
+    let taken = at_price(sheet, price);
+    let rest = ties::alone::rest(sheet, &base, taken, price);
+    let count = arrays::count(rest, sheet.size.bids);
     if count > names::WIDEST_TIE {
-        return word(out, b"too wide\n");
+        return println!(out; "too wide");
     }
-    let tied = gathering::gathered(sheet, of, rest, count);
-    let drawn = sheet::drawn(sheet);
-    told(
-        out,
-        b"listing ",
-        ties::listing::listing(sheet, of, &base, tied, price, drawn),
-    )?;
-    told(
-        out,
-        b"search ",
-        search::search(sheet, of, &base, tied, price, drawn),
-    )
+    let tied = gathering::gathered(sheet, rest, count);
+    let drawn = sheet::drawn(sheet.cells);
+    let plain = ties::listing::listing(sheet, &base, tied, price, drawn);
+    let searched = search::search(sheet, &base, tied, price, drawn);
+    told(out, "listing", plain)?;
+    told(out, "search", searched)
 }
 
 fn tie(out: &impl Print, file: &[u8], sections: Sections) -> io::Result<()>
@@ -72,31 +51,23 @@ fn tie(out: &impl Print, file: &[u8], sections: Sections) -> io::Result<()>
     if sections.pots == 0 {
         return Ok(());
     }
-    let mut sheet = [0u64; sheet::LENGTH];
-    let of = fill::fill(file, sections, 0, &mut sheet);
-    let price = sheet::price(&sheet, 0);
-    both(out, &sheet, of, price)
+    let mut cells = [0u64; sheet::LENGTH];
+    let size = fill::fill(&RoundFile { file, sections }, 0, &mut cells);
+    let price = sheet::price(&cells, 0);
+    let sheet = Sheet {
+        cells: &cells,
+        size,
+    };
+    both(out, &sheet, price)
 }
 
 fn print(out: &impl Print, file: &[u8]) -> io::Result<()> {
-    let got = file::read(file);
-    match got {
-        Reading::Accepted { sections } => tie(out, file, sections),
-        Reading::Refused { number, at } => text::refused(out, number, at),
+    match file::read(file) {
+        Ok(sections) => tie(out, file, sections),
+        Err(refusal) => text::refused(out, refusal),
     }
 }
 
 fn main(rt: HostRuntime) -> io::Result<()> {
-    let mut reader = rt.reader();
-    let mut file = cases::blank();
-    let mut turns: u64 = 1000000;
-    while turns > 0 {
-        let got = cases::next(&mut reader, &mut file)?;
-        let Got::File { length } = got else {
-            return Ok(());
-        };
-        print(&rt, &file[..length])?;
-        turns -= 1;
-    }
-    Ok(())
+    cases::each(&mut rt.reader(), |file| print(&rt, file))
 }

@@ -1,21 +1,13 @@
--- The invariant: `k` counts the members passed.
-use Prim.Native.Nat.{◌-◌, ◌+◌}
-use mathlib.Core.Path.{ap, ◌∙◌}
+-- `arrays::count` meets its contract.
+use Rattle.std.proofs.Common.{rules, ◌≡◌}
+use mathlib.Core.Path.{◌∙◌}
 use native.Mathlib.Omega.{arith}
-use borrow.Author.Rules.{rules}
-use Rattle.arrays.specs.Sets.{members}
-use Rattle.arrays.proofs.Laws.{count_hit, count_miss}
+use lib.ListN.{take}
+use Rattle.std.specs.List.{count_by}
+use Rattle.arrays.proofs.Arrays.{members_counted}
 use Rattle.arrays.proofs.count.Goals as goal
-use Rattle.arrays.proofs.count.Goals.{else-set-k, then-set-k}
 
-pub loop-k-init : goal.loop-k-init
-unfolding members
-loop-k-init c = search rules
-
-pub loop-k-preserved : goal.loop-k-preserved
-loop-k-preserved c =
-    let inv = c.loop-k.invariant.1 in (
-      omega arith,
-      elim c.if-set-k.branch [ then-set-k w ↦ w.count-is ∙ (ap (λ x. x + 1) inv ∙ count_hit _ _ w.if-set-k.true) | else-set-k w ↦ w.count-is ∙ (inv ∙ count_miss _ _ w.if-set-k.false) ],
-      elim c.if-set-k.branch [ then-set-k w ↦ omega arith | else-set-k w ↦ omega arith ],
-    )
+pub returns : goal.returns
+returns c =
+    let counted : c.count.result ≡ count_by (λ t. t) (take c.args.bids c.args.set) = search rules in
+    counted ∙ members_counted _ _ (omega arith)

@@ -1,7 +1,5 @@
 -- `auction::apps` meets its contract: the applications passed are told.
 use borrow.Author.Rules.{rules}
-use Prim.Native.Nat.{◌-◌}
-use native.Mathlib.Omega.{arith}
 use Rattle.arrays.specs.Sets.{fill}
 use Rattle.arrays.proofs.Laws.{fill_next}
 use Rattle.auction.specs.Numbers.{no_apps}
@@ -12,4 +10,4 @@ unfolding fill no_apps
 loop-a-init c = search rules
 
 pub loop-a-preserved : goal.loop-a-preserved
-loop-a-preserved c = (omega arith, fill_next _ _ _ c.loop-a.invariant.1 c.told-t.ensures)
+loop-a-preserved c = fill_next _ _ _ c.loop-a.invariant c.told.ensures

@@ -4,6 +4,4 @@ use Rattle.auction.proofs.clear_pot.Goals as goal
 
 pub returns : goal.returns
 returns c =
-    let reasoned = c in
-    cleared _ _ reasoned.requires reasoned.ended-e.ensures reasoned.reasons-reasons.ensures
-    c.automatics-automatics.ensures c.apps-apps.ensures c.money-totals.ensures
+    cleared _ _ c.args.sheet.now.ready c.ended-outcome.ensures c.reasons-reasons.ensures c.automatics-automatics.ensures c.apps-apps.ensures c.money-totals.ensures

@@ -4,4 +4,4 @@ use Rattle.auction.proofs.sold.Goals as goal
 
 pub returns : goal.returns
 unfolding sold_of
-returns c = rw c.winning-winning.ensures
+returns c = rw c.winning_bids-winning.ensures

@@ -1,13 +1,15 @@
--- `auction::told` meets its contract: one law for each return.
-use Rattle.auction.proofs.Laws.{told_bid, told_admin, told_lost}
+-- `auction::told` meets its contract: one case for each variant.
+use Rattle.auction.specs.Numbers.{told_by}
 use Rattle.auction.proofs.told.Goals as goal
 
-pub returns-then-k-of : goal.returns-then-k-of
-returns-then-k-of c =
-    told_bid _ _ _ _ _ _ c.if-k-of.true c.year-d.ensures c.admin.ensures c.capped-paid.ensures
+pub returns-in-Bid : goal.returns-in-Bid
+unfolding told_by
+returns-in-Bid c = rw (c.in-Bid.is, c.capped.ensures, c.year-d.ensures, c.admin.ensures)
 
-pub returns-then-w-eq-AT_ADMIN : goal.returns-then-w-eq-AT_ADMIN
-returns-then-w-eq-AT_ADMIN c = told_admin _ _ _ _ _ _ c.if-k-of.false c.if-w-eq-AT_ADMIN.true c.admin_price-paid.ensures
+pub returns-in-AtAdmin : goal.returns-in-AtAdmin
+unfolding told_by
+returns-in-AtAdmin c = rw (c.in-AtAdmin.is, c.admin_price.ensures)
 
-pub returns : goal.returns
-returns c = told_lost _ _ _ _ _ _ c.if-k-of.false c.if-w-eq-AT_ADMIN.false
+pub returns-in-Lost : goal.returns-in-Lost
+unfolding told_by
+returns-in-Lost c = rw c.in-Lost.is

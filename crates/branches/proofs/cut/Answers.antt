@@ -6,5 +6,5 @@ use Rattle.branches.proofs.cut.Goals as goal
 pub returns-then-last-goal : goal.returns-then-last-goal
 returns-then-last-goal c = λ e. cut_low c.requires.2 _ _ c.requires.1 _ c.last.ensures c.if-last-goal.true
 
-pub returns : goal.returns
-returns c = λ e. cut_misfit c.requires.2 _ _ c.requires.1 _ c.fitting.ensures (not_is_true _ e)
+pub returns-else-last-goal : goal.returns-else-last-goal
+returns-else-last-goal c = λ e. cut_misfit c.requires.2 _ _ c.requires.1 _ c.fitting.ensures (not_is_true _ e)

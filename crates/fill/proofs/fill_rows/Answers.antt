@@ -1,5 +1,4 @@
 -- `fill::fill_rows` meets its contract. After k turns the first k rows are right.
-use Prim.Native.Nat.{◌-◌}
 use native.Mathlib.Omega.{arith}
 use mathlib.Core.Path.{◌∙◌}
 use Rattle.fill.proofs.Laws.{rows_more}
@@ -9,4 +8,4 @@ pub loop-k-preserved : goal.loop-k-preserved
 loop-k-preserved c =
     let inv = c.loop-k.invariant in
     let put = c.put.ensures in
-    (omega arith, put.same ∙ inv.1, rows_more _ _ _ inv.2 c.row-v.ensures put, λ j h. put.kept j (omega arith) ∙ inv.3 j h)
+    (put.same ∙ inv.0, rows_more _ _ _ inv.1 c.row-v.ensures put, λ j h. put.kept j (omega arith) ∙ inv.2 j h)

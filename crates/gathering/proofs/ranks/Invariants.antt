@@ -1,12 +1,8 @@
 -- The invariant: each place passed holds its number.
-use Prim.Native.Nat.{◌≤◌, ◌-◌}
 use mathlib.Core.Path.{◌≡◌}
 use Rattle.arrays.specs.Sets.{fill}
 use Rattle.combinations.specs.Combinations.{no_list, rank_of}
 use Rattle.gathering.proofs.ranks.Given as goal
 
 abbrev pub invariant-loop-j : goal.invariant-loop-j
-invariant-loop-j l = (l.j ≤ l.count) × (l.out ≡ fill no_list (rank_of l.sheet l.list l.count) l.j)
-
-abbrev pub decreases-loop-j : goal.decreases-loop-j
-decreases-loop-j l = l.count - l.j
+invariant-loop-j l = l.out ≡ fill no_list (rank_of l.sheet.cells.now l.list l.count) l.j

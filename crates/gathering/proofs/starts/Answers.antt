@@ -1,7 +1,5 @@
 -- The invariant: each place passed holds its year.
 use borrow.Author.Rules.{rules}
-use native.Mathlib.Omega.{arith}
-use Prim.Native.Nat.{◌-◌}
 use Rattle.arrays.proofs.Laws.{fill_next}
 use Rattle.arrays.specs.Sets.{fill}
 use Rattle.combinations.specs.Combinations.{no_list}
@@ -13,4 +11,4 @@ unfolding fill no_list
 loop-j-init c = search rules
 
 pub loop-j-preserved : goal.loop-j-preserved
-loop-j-preserved c = (omega arith, fill_next _ _ _ c.loop-j.invariant.1 (start_is _ _ _ c.year.ensures))
+loop-j-preserved c = fill_next _ _ _ c.loop-j.invariant (start_is _ _ _ c.year.ensures)

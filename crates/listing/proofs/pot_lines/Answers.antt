@@ -6,6 +6,4 @@ use Rattle.listing.proofs.pot_lines.Goals as goal
 
 pub returns : goal.returns
 unfolding pot_lines_told
-returns c =
-    printed_within longest_pot (omega arith) (printed_then c.pot_line-at.ensures
-    c.year_lines.ensures)
+returns c = printed_within longest_pot (omega arith) (printed_then c.pot_line-at.ensures c.year_lines.ensures)

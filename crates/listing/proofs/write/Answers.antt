@@ -8,9 +8,5 @@ use Rattle.listing.proofs.write.Goals as goal
 pub returns : goal.returns
 unfolding lines_told
 returns c =
-    let f = printed_then (printed_then c.pots-first.ensures
-    c.applications.ensures) c.bids.ensures in record {
-      told = printed_within longest (omega arith) f;
-      meant = λ R C T. is_listed R f
-          (lines_are c.requires.ready C T);
-    }
+    let f = printed_then (printed_then c.pots-first.ensures c.applications.ensures) c.bids.ensures in
+    record { told = printed_within longest (omega arith) f; meant = λ R C T. is_listed R f (lines_are c.requires.ready C T) }

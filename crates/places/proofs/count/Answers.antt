@@ -5,14 +5,10 @@ use Rattle.laws_reading.specs.Walk.{given_yes, given_no}
 use Rattle.places.specs.Places.{held}
 use Rattle.places.proofs.count.Goals as goal
 
-pub returns-then-file-lt-COUNT_WIDTH : goal.returns-then-file-lt-COUNT_WIDTH
+pub returns-then-saturating_add-file : goal.returns-then-saturating_add-file
 unfolding held
-returns-then-file-lt-COUNT_WIDTH c = (sym (given_no _ _ _ (λ h. omega arith)), omega arith)
+returns-then-saturating_add-file c = (c.le16.ensures.0 ∙ sym (given_yes _ _ _ (omega arith)), c.le16.ensures.1)
 
-pub returns-then-file-at : goal.returns-then-file-at
+pub returns-else-saturating_add-file : goal.returns-else-saturating_add-file
 unfolding held
-returns-then-file-at c = (sym (given_no _ _ _ (λ h. omega arith)), omega arith)
-
-pub returns : goal.returns
-unfolding held
-returns c = (c.le16.ensures.0 ∙ sym (given_yes _ _ _ (omega arith)), c.le16.ensures.1)
+returns-else-saturating_add-file c = (sym (given_no _ _ _ (λ h. omega arith)), omega arith)

@@ -6,7 +6,6 @@ use Rattle.pot.proofs.auction.Goals as goal
 
 pub run-requires : goal.run-requires
 run-requires c = (
-  c.requires,
-  summed_started _ _ c.requires.few (columns_few c.requires) c.started-s.ensures,
-  started_stands _ _ c.requires c.started-s.ensures,
+  summed_started _ _ c.args.sheet.now.ready.few (columns_few c.args.sheet.now.ready) c.started.ensures,
+  started_stands _ _ c.args.sheet.now.ready c.started.ensures,
 )

@@ -7,8 +7,4 @@ use Rattle.result.proofs.application_record.Goals as goal
 
 pub returns : goal.returns
 unfolding app_bytes bytes
-returns c =
-    filled_rest 6 refl (filled_rest 4 refl (filled_rest 2 refl
-    c.put.ensures
-    c.put-2.ensures)
-    c.put-3.ensures) c.put-4.ensures
+returns c = filled_rest 6 refl (filled_rest 4 refl (filled_rest 2 refl c.put.ensures c.put-2.ensures) c.put-3.ensures) c.put-4.ensures

@@ -4,8 +4,4 @@ use Rattle.result.proofs.Laws.{pot_filled}
 use Rattle.result.proofs.pot_record.Goals as goal
 
 pub returns : goal.returns
-returns c =
-    let a = c in
-    pot_filled a.args.sections a.args.told _ refl
-    c.put.ensures
-    c.put_all.ensures c.put_all-2.ensures
+returns c = pot_filled c.args.counts.sections c.args.told _ refl c.put.ensures c.put_all.ensures c.put_all-2.ensures

@@ -9,10 +9,7 @@ use Rattle.result.proofs.write.Goals as goal
 
 pub returns : goal.returns
 returns c =
-    let a = c in
-    let b = c in
-    let e = ap (λ (w : ℕ). count_width + w) b.pots_size-second.ensures.sized in
-    let f = round_filled a.args.t a.args.sections _ _ _ e refl
-    c.pots.ensures
-    c.applications.ensures c.bids.ensures in
-    record { told = f.bytes; meant = λ R C T. f.bytes ∙ ap (λ (e : List ℕ). onto e a.args.res.now) (told_is a.requires.ready C T) }
+    let a = c.args in
+    let e = ap (λ (w : ℕ). count_width + w) c.pots_size-second.ensures.sized in
+    let f = round_filled a.t a.sections _ _ _ e refl c.pots.ensures c.applications.ensures c.bids.ensures in
+    record { told = f.bytes; meant = λ R C T. f.bytes ∙ ap (λ (e : List ℕ). onto e a.res.now) (told_is c.requires.ready C T) }

@@ -6,7 +6,7 @@ use Rattle.round.proofs.list.Goals as goal
 pub returns-then-text-lt-LONGEST : goal.returns-then-text-lt-LONGEST
 returns-then-text-lt-LONGEST c = text_short _ _ c.if-text-lt-LONGEST.true
 
-pub returns-in-Refused : goal.returns-in-Refused
-returns-in-Refused c =
-    refusal_listed _ _ (sym c.in-Refused.ensures) c.if-text-lt-LONGEST.false
-    c.refused.ensures
+pub returns-in-Err : goal.returns-in-Err
+returns-in-Err c =
+    refusal_listed _ _ (sym c.in-Err.ensures) c.if-text-lt-LONGEST.false
+    (rw c.number.ensures at c.refused.ensures)

@@ -1,7 +1,5 @@
 -- The invariant: the set has the bids passed that are in the combination.
 use borrow.Author.Rules.{rules}
-use native.Mathlib.Omega.{arith}
-use Prim.Native.Nat.{◌-◌}
 use mathlib.Core.Path.{◌∙◌}
 use Rattle.arrays.specs.Sets.{none}
 use Rattle.ties.specs.Ties.{combination_of}
@@ -14,7 +12,4 @@ unfolding combination_of none
 loop-j-init c = search rules
 
 pub loop-j-preserved : goal.loop-j-preserved
-loop-j-preserved c = (
-  omega arith,
-  elim c.if-member.branch [ then-member w ↦ w.out-is ∙ combination_hit _ _ _ c.member.ensures _ c.loop-j.invariant.1 w.if-member.true | else-member w ↦ w.out-is ∙ combination_miss _ _ _ c.member.ensures _ c.loop-j.invariant.1 w.if-member.false ],
-)
+loop-j-preserved c = elim c.if-member.branch [ then-member w ↦ w.out-is ∙ combination_hit _ _ _ c.member.ensures _ c.loop-j.invariant w.if-member.true | else-member w ↦ w.out-is ∙ combination_miss _ _ _ c.member.ensures _ c.loop-j.invariant w.if-member.false ]

@@ -1,7 +1,5 @@
 -- The invariant: the places of the columns passed hold their totals.
 use borrow.Author.Rules.{rules}
-use native.Mathlib.Omega.{arith}
-use Prim.Native.Nat.{◌-◌}
 use Rattle.arrays.proofs.Laws.{fill_next}
 use Rattle.arrays.specs.Sets.{fill}
 use Rattle.totals.specs.Totals.{no_row}
@@ -12,4 +10,4 @@ unfolding fill no_row
 loop-c-init c = search rules
 
 pub loop-c-preserved : goal.loop-c-preserved
-loop-c-preserved c = (omega arith, fill_next _ _ _ c.loop-c.invariant.1 c.admin_total.ensures)
+loop-c-preserved c = fill_next _ _ _ c.loop-c.invariant c.admin_total.ensures

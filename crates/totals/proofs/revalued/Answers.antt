@@ -1,6 +1,4 @@
 -- The invariant: the row holds the totals of the bids passed.
-use native.Mathlib.Omega.{arith}
-use Prim.Native.Nat.{◌-◌}
 use mathlib.Core.Path.{◌∙◌}
 use Rattle.sheet.proofs.Columns.{columns_few}
 use Rattle.totals.specs.Totals.{total_of, no_row}
@@ -10,18 +8,16 @@ use Rattle.totals.proofs.revalued.Goals.{else-marks-k-eq-WON, then-marks-k-eq-WO
 
 pub loop-k-init : goal.loop-k-init
 unfolding total_of no_row
-loop-k-init c = (omega arith, row_none _ (columns_few c.requires))
+loop-k-init c = row_none _ (columns_few c.args.sheet.now.ready)
 
-pub added-next-requires : goal.added-next-requires
-added-next-requires c =
-    let v = c.requires in
+pub add-requires : goal.add-requires
+add-requires c =
+    let v = c.args.sheet.now.ready in
     let inv = c.loop-k.invariant in
-    adding _ _ _ _ _ v c.loop-k-test.true inv.0 inv.1 (λ y. total_le _ _ _ _ y _ v inv.0)
+    adding _ _ _ _ _ v c.loop-k-test.true c.loop-k.auto.k-end inv (λ y. total_le _ _ _ _ y _ v c.loop-k.auto.k-end)
 
 pub loop-k-preserved : goal.loop-k-preserved
 loop-k-preserved c =
     let inv = c.loop-k.invariant in
-    let v = c.requires in (
-      omega (arith, c.loop-k-test.true),
-      elim c.if-marks-k-eq-WON.branch [ then-marks-k-eq-WON w ↦ w.row-is ∙ row_hit _ _ _ _ _ _ (columns_few v) w.if-marks-k-eq-WON.true w.year-d.ensures inv.1 w.added-next.ensures | else-marks-k-eq-WON w ↦ w.row-is ∙ row_miss _ _ _ _ _ _ w.if-marks-k-eq-WON.false inv.1 ],
-    )
+    let v = c.args.sheet.now.ready in
+    elim c.if-marks-k-eq-WON.branch [ then-marks-k-eq-WON w ↦ w.row-is ∙ row_hit _ _ _ _ _ _ (columns_few v) w.if-marks-k-eq-WON.true w.year.ensures inv w.add.ensures | else-marks-k-eq-WON w ↦ w.row-is ∙ row_miss _ _ _ _ _ _ w.if-marks-k-eq-WON.false inv ]

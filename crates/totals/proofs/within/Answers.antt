@@ -1,19 +1,19 @@
--- The invariant: `ok` says whether every column passed fits.
+-- `totals::within` meets its contract.
 use borrow.Author.Rules.{rules}
+use borrow.Author.Tests.{tests}
 use native.Mathlib.Omega.{arith}
-use Prim.Native.Nat.{◌-◌}
 use mathlib.Core.Path.{refl, ◌∙◌}
-use Rattle.totals.specs.Totals.{fits_to}
-use Rattle.totals.proofs.Laws.{fits_not, fits_more}
+use lib.Dec.{leb}
+use lib.ListN.{get_or}
+use Rattle.std.proofs.lemmas.Iterator.{YieldsList-from_range}
+use Rattle.std.proofs.lemmas.Iterator.Search.{all_from_yields_List}
+use Rattle.sheet.specs.Sheet.{limit_at}
+use Rattle.totals.proofs.Laws.{fits_all}
 use Rattle.totals.proofs.within.Goals as goal
-use Rattle.totals.proofs.within.Goals.{else-row-c, then-row-c}
 
-pub loop-c-init : goal.loop-c-init
-unfolding fits_to
-loop-c-init c = search rules
-
-pub loop-c-preserved : goal.loop-c-preserved
-loop-c-preserved c = (
-  omega arith,
-  elim c.if-row-c.branch [ then-row-c w ↦ w.ok-is ∙ fits_not _ _ _ refl c.limit.ensures w.if-row-c.true | else-row-c w ↦ w.ok-is ∙ fits_more _ _ _ refl c.limit.ensures w.if-row-c.false c.loop-c.invariant.1 ],
-)
+pub returns : goal.returns
+returns c =
+    let n = c.args.of.columns in
+    all_from_yields_List (λ x. leb (get_or c.args.row x 0) (limit_at c.args.cells.now x)) _ _ _ c.all.ensures.ran (YieldsList-from_range 0 n n refl (omega arith))
+    (λ x b q k. search (rules, tests))
+    ∙ fits_all _ _ n

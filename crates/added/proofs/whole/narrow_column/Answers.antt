@@ -1,6 +1,5 @@
--- The invariant: so many columns are passed.
+-- `added::whole::narrow_column` meets its contract.
 use native.Mathlib.Omega.{arith}
-use Prim.Native.Nat.{◌-◌}
 use lib.Pow.{pow_pos}
 use Rattle.sheet.proofs.Columns.{columns_few}
 use Rattle.ties.proofs.Laws.{power_low}

@@ -1,5 +1,4 @@
 -- The invariant: none of the bids passed can be added.
-use Prim.Native.Nat.{◌-◌}
 use mathlib.Core.Path.{refl}
 use Rattle.sheet.proofs.Columns.{columns_few}
 use Rattle.laws_pot.specs.Lists.{clash}

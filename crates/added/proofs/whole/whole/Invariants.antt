@@ -1,5 +1,5 @@
 -- The invariant: none of the bids passed can be added.
-use Prim.Native.Nat.{ℕ, ◌-◌, ◌≤◌, ◌<◌}
+use Prim.Native.Nat.{ℕ, ◌<◌}
 use mathlib.Core.Bool.{false}
 use mathlib.Core.Path.{◌≡◌}
 use Rattle.ties.specs.Ties.{ok_by, addable_of}
@@ -7,7 +7,4 @@ use Rattle.added.specs.Added.{Roomed}
 use Rattle.added.proofs.whole.whole.Given as goal
 
 abbrev pub invariant-loop-place : goal.invariant-loop-place
-invariant-loop-place l = (l.place ≤ l.count) × Roomed l.sheet l.of l.table l.at.mask l.at.years l.room × ((p : ℕ) → p < l.place → addable_of (ok_by l.sheet l.of l.table) l.mask p ≡ false)
-
-abbrev pub decreases-loop-place : goal.decreases-loop-place
-decreases-loop-place l = l.count - l.place
+invariant-loop-place l = Roomed l.sheet.cells.now l.sheet.size l.table l.at.mask l.at.years l.room × ((p : ℕ) → p < l.place → addable_of (ok_by l.sheet.cells.now l.sheet.size l.table) l.mask p ≡ false)

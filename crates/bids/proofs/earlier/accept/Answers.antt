@@ -4,9 +4,5 @@ use Rattle.bids.proofs.earlier.accept.Goals as goal
 
 pub returns : goal.returns
 returns c =
-    let application = c.application-a in
-    let p = c.requires.latest in (
-      latest_next _ _ _ _ p.0 application.ensures.0 c.put-2.ensures,
-      previous_next _ _ _ _ p.1 c.start-r.ensures
-          c.put.ensures,
-    )
+    let p = c.requires.latest in
+    (latest_next _ _ _ _ p.0 c.application.ensures.0 c.put-2.ensures, previous_next _ _ _ _ p.1 c.start.ensures c.put.ensures)

@@ -6,5 +6,5 @@ use Rattle.bids.proofs.earlier.next.Goals as goal
 pub returns-then-application : goal.returns-then-application
 returns-then-application c = free_next _ _ _ _ _ c.requires.2 c.requires.0 (omega arith) c.link.ensures
 
-pub returns : goal.returns
-returns c = free_none _ _ _
+pub returns-else-application : goal.returns-else-application
+returns-else-application c = free_none _ _ _

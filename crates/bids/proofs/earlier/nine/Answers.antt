@@ -7,8 +7,5 @@ use Rattle.bids.proofs.earlier.nine.Goals as goal
 pub returns-then-of_app-ge-BIDS_EACH : goal.returns-then-of_app-ge-BIDS_EACH
 returns-then-of_app-ge-BIDS_EACH c = sym (given_no _ _ _ (λ h. omega arith))
 
-pub returns-then-of_year-ge-BIDS_A_YEAR : goal.returns-then-of_year-ge-BIDS_A_YEAR
-returns-then-of_year-ge-BIDS_A_YEAR c = sym (given_no _ _ _ (λ h. omega arith))
-
 pub returns : goal.returns
 returns c = sym (given_yes _ _ _ (omega arith))

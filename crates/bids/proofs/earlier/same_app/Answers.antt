@@ -1,11 +1,7 @@
--- `bids::earlier::same_app` meets its contract: one law for each way out.
+-- `bids::earlier::same_app` meets its contract.
 use native.Mathlib.Omega.{arith}
-use mathlib.Core.Path.{sym}
-use Rattle.laws_reading.specs.Walk.{given_yes, given_no}
+use Rattle.bids.proofs.Laws.{tests}
 use Rattle.bids.proofs.earlier.same_app.Goals as goal
 
-pub returns-then-application : goal.returns-then-application
-returns-then-application c = (sym (given_yes _ _ _ (omega arith)), omega arith)
-
-pub returns-else-application : goal.returns-else-application
-returns-else-application c = (sym (given_no _ _ _ (λ h. omega arith)), omega arith)
+pub returns : goal.returns
+returns c = tests _ (λ e. omega arith) (λ h. omega arith)

@@ -3,4 +3,4 @@ use Rattle.bids.proofs.Chains.{free_first}
 use Rattle.bids.proofs.earlier.start.Goals as goal
 
 pub returns : goal.returns
-returns c = free_first _ _ _ _ c.requires.1 c.application-a.ensures.0 c.link.ensures
+returns c = free_first _ _ _ _ c.requires.1 c.application.ensures.0 c.link.ensures

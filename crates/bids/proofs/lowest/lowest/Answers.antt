@@ -1,25 +1,20 @@
 use native.Mathlib.Omega.{arith}
+use native.Mathlib.Nat.{sub-zero}
+use mathlib.Core.Path.{sym}
+use Rattle.laws_reading.specs.Walk.{at_fault, goes_on_lem, at_end}
+use Rattle.laws_reading.specs.Faults.{numbered}
 use Rattle.bids.specs.Bids.{lowest_of}
-use Rattle.bids.proofs.Laws.{back_none, back_at_fault, back_passed, back_refused, back_accepted}
 use Rattle.bids.proofs.lowest.lowest.Goals as goal
 
-pub loop-left-init : goal.loop-left-init
-loop-left-init c = (omega arith, back_none _ _ _ _ _ _)
-
-pub loop-left-preserved-then-f-ne0 : goal.loop-left-preserved-then-f-ne0
-loop-left-preserved-then-f-ne0 c =
-    let l = c.loop-left in
-    (omega arith, back_at_fault _ _ _ _ _ _ _ _ l.invariant.1 (omega arith) (omega arith) c.eleven-f.ensures c.if-f-ne0.true)
-
-pub loop-left-preserved : goal.loop-left-preserved
-loop-left-preserved c =
-    let l = c.loop-left in
-    (omega arith, back_passed _ _ _ _ _ _ _ _ l.invariant.1 (omega arith) (omega arith) c.eleven-f.ensures c.if-f-ne0.false)
-
-pub returns-then-number-ne0 : goal.returns-then-number-ne0
+pub loop-i-init : goal.loop-i-init
 unfolding lowest_of
-returns-then-number-ne0 c = back_refused _ _ _ _ _ _ _ _ c.loop-left.invariant.1 (omega arith) c.if-number-ne0.true
+loop-i-init c = rw (sub-zero c.args.done.bids)
+
+pub returns-in-Err : goal.returns-in-Err
+returns-in-Err c = at_fault _ _ _ _ _ _ c.loop-i.invariant (omega arith) c.in-Err.ensures (numbered _)
+
+pub loop-i-preserved : goal.loop-i-preserved
+loop-i-preserved c = goes_on_lem _ _ _ _ _ _ c.loop-i.invariant (omega arith) (sym c.in_default.ensures)
 
 pub returns : goal.returns
-unfolding lowest_of
-returns c = back_accepted _ _ _ _ _ _ _ _ c.loop-left.invariant.1 (omega arith) c.if-number-ne0.false
+returns c = at_end _ _ _ _ _ _ c.loop-i.invariant (omega arith)

@@ -19,7 +19,8 @@ admin-admin-requires c =
     let read = c.read-its in
     let a = c.args in
     let t = tech_known _ _ _ c.requires.0 applications.ensures read.ensures c.requires.1 in (
-      record_whole _ _ (tech_width a.done.years) t (omega (arith, c.requires.0.techs_whole, ap length c.technologies-technologies.ensures)),
+      rw c.technologies-technologies.ensures.1
+          (record_whole _ _ (tech_width a.done.years) t (omega (arith, c.requires.0.techs_whole, ap length c.technologies-technologies.ensures.0))),
       omega (arith, c.requires.0.few, c.requires.2),
     )
 
@@ -29,5 +30,5 @@ returns c =
     let applications = c.applications in
     let read = c.read-its in
     let days = c.days-most_days in
-    held_is _ _ _ years.ensures c.technologies-technologies.ensures applications.ensures c.judge.ensures read.ensures days.ensures.0
-    c.admin-admin.ensures.0
+    held_is _ c.args.done _ years.ensures c.technologies-technologies.ensures.0 applications.ensures c.judge.ensures read.ensures days.ensures.0
+    (rw c.technologies-technologies.ensures.1 at c.admin-admin.ensures.0)

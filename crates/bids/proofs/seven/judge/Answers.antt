@@ -9,33 +9,17 @@ pub returns-then-bid-eq0 : goal.returns-then-bid-eq0
 unfolding judge_of
 returns-then-bid-eq0 c = sym (given_no _ _ _ (λ h. omega arith))
 
-pub returns-then-most_days-bid : goal.returns-then-most_days-bid
-unfolding judge_of
-returns-then-most_days-bid c = sym (given_no _ _ _ (λ h. omega arith))
-
 pub returns-then-bid-eq0-2 : goal.returns-then-bid-eq0-2
 unfolding judge_of
 returns-then-bid-eq0-2 c = sym (given_no _ _ _ (λ h. omega arith))
-
-pub returns-then-its-bid : goal.returns-then-its-bid
-unfolding judge_of
-returns-then-its-bid c = sym (given_no _ _ _ (λ h. omega arith))
 
 pub returns-then-bid-its : goal.returns-then-bid-its
 unfolding judge_of
 returns-then-bid-its c = sym (given_no _ _ _ (λ h. omega arith))
 
-pub returns-then-admin-bid : goal.returns-then-admin-bid
-unfolding judge_of
-returns-then-admin-bid c = sym (given_no _ _ _ (λ h. omega arith))
-
 pub returns-then-its-bid-2 : goal.returns-then-its-bid-2
 unfolding judge_of
 returns-then-its-bid-2 c = sym (given_no _ _ _ (λ h. omega (arith, h.1.1.1.1.1.0 (omega arith))))
-
-pub returns-then-bid-its-2 : goal.returns-then-bid-its-2
-unfolding judge_of
-returns-then-bid-its-2 c = sym (given_yes _ _ _ (omega arith))
 
 pub returns : goal.returns
 unfolding judge_of

@@ -9,16 +9,9 @@ use Rattle.bids.proofs.seven.seven.Goals as goal
 
 pub returns-then-done-bid : goal.returns-then-done-bid
 unfolding seven_of
-returns-then-done-bid c = sym (given_no _ _ _ (λ h. omega (arith, ap (λ (b : Bid). b.app) c.read-bid.ensures, h.0)))
-
-pub returns-then-done-bid-2 : goal.returns-then-done-bid-2
-unfolding seven_of
-returns-then-done-bid-2 c =
-    let read = c.read-bid in
-    sym (given_no _ _ _ (λ h. omega (arith, ap (λ (b : Bid). b.year) read.ensures, h.1.0)))
+returns-then-done-bid c =
+    let e = c.read-bid.ensures in
+    sym (given_no _ _ _ (λ h. omega (arith, ap (λ (b : Bid). b.app) e, ap (λ (b : Bid). b.year) e, h.0, h.1.0)))
 
 pub returns : goal.returns
-returns c =
-    let read = c.read-bid in
-    let if1 = c.if-done-bid in
-    rest_asked _ _ _ _ c.held.ensures read.ensures if1.false c.if-done-bid-2.false
+returns c = rest_asked _ _ _ _ c.held.ensures c.read-bid.ensures (omega arith) (omega arith)

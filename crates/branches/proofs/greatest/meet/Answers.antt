@@ -1,16 +1,13 @@
 -- `branches::greatest::meet` meets its contract.
-use native.Mathlib.Omega.{arith}
-use Rattle.branches.proofs.Best.{met_less, met_more, met_not, last_small}
+use Rattle.branches.proofs.Best.{met_less, met_more, met_not}
 use Rattle.branches.proofs.greatest.meet.Goals as goal
-
-pub returns-then-total-found : goal.returns-then-total-found
-returns-then-total-found c = met_less _ _ _ _ c.last-total.ensures c.if-total-found.true
-
-pub overflow_add-result : goal.overflow_add-result
-overflow_add-result c = omega (arith, c.last-total.ensures, last_small c.args.of _ c.args.mask c.requires.0.tables)
+use Rattle.branches.proofs.greatest.meet.Goals.{else-total-goal-via-then-total-goal+else-fitting, else-total-goal-via-else-total-goal}
 
 pub returns-then-fitting : goal.returns-then-fitting
-returns-then-fitting c = met_more _ _ _ _ c.last-total.ensures c.fitting.ensures c.if-fitting.true c.if-total-found.false
+returns-then-fitting c = met_more _ _ _ _ c.last-total.ensures c.fitting.ensures c.if-fitting.true c.if-total-goal.true
 
-pub returns : goal.returns
-returns c = met_not _ _ _ _ c.last-total.ensures c.fitting.ensures c.if-fitting.false
+pub returns-else-total-goal : goal.returns-else-total-goal
+returns-else-total-goal c = elim c.else-total-goal.branch [
+  | else-total-goal-via-then-total-goal+else-fitting w ↦ met_not _ _ _ _ c.last-total.ensures w.fitting.ensures w.if-fitting.false
+  | else-total-goal-via-else-total-goal w ↦ met_less _ _ _ _ c.last-total.ensures w.if-total-goal.false
+]

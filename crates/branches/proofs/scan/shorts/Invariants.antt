@@ -1,5 +1,5 @@
 -- The invariant: those passed have less, or more than the limit.
-use Prim.Native.Nat.{◌+◌, ◌*◌, ◌≤◌}
+use Prim.Native.Nat.{◌+◌, ◌*◌}
 use mathlib.Core.Path.{◌≡◌}
 use Rattle.combinations.specs.Combinations.{part_size}
 use Rattle.ties.specs.Ties.{last_by}
@@ -7,8 +7,5 @@ use Rattle.branches.specs.Branches.{upper_of, Upright}
 use Rattle.branches.proofs.Scans.{Passing}
 use Rattle.branches.proofs.scan.shorts.Given as goal
 
-abbrev pub invariant-loop-end : goal.invariant-loop-end
-invariant-loop-end l = (l.head * part_size + l.end ≤ l.left) × (l.end ≤ part_size) × ((l.up ≡ upper_of l.of l.table l.head) × Upright l.up) × Passing (last_by l.of l.table) l.goal l.limit (l.head * part_size + l.end) l.left
-
-abbrev pub decreases-loop-end : goal.decreases-loop-end
-decreases-loop-end l = l.end
+abbrev pub invariant-loop-v : goal.invariant-loop-v
+invariant-loop-v l = ((l.up ≡ upper_of l.of l.table l.head) × Upright l.up) × Passing (last_by l.of l.table) l.goal l.limit (l.head * part_size + l.v) l.left

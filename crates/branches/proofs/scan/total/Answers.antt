@@ -1,6 +1,5 @@
 -- `branches::scan::total` meets its contract.
 use native.Mathlib.Omega.{arith}
-use Prim.Native.Nat.{◌-◌}
 use Rattle.branches.proofs.Scans.{years_low, total_is}
 use Rattle.branches.proofs.scan.total.Goals as goal
 

@@ -1,6 +1,4 @@
 -- The invariant: each place passed holds its sum.
-use native.Mathlib.Omega.{arith}
-use Prim.Native.Nat.{◌-◌}
 use mathlib.Core.Path.{refl}
 use Rattle.arrays.proofs.Laws.{fill_next}
 use Rattle.arrays.specs.Sets.{fill}
@@ -11,12 +9,11 @@ use Rattle.combinations.proofs.tables.ones.Goals as goal
 
 pub loop-i-init : goal.loop-i-init
 unfolding fill no_own
-loop-i-init c = (omega arith, omega (arith, c.requires.placed.few), refl)
+loop-i-init c = refl
 
 pub loop-i-preserved : goal.loop-i-preserved
-loop-i-preserved c = let inv = c.loop-i.invariant in
-    (omega arith, inv.1, fill_next _ _ _ inv.2 (one_is _ _ _ _ c.power-place.ensures c.combined.ensures))
+loop-i-preserved c = fill_next _ _ _ c.loop-i.invariant (one_is _ _ _ _ c.power-place.ensures c.combined.ensures)
 
 pub returns : goal.returns
 returns c = let placed = c.requires.placed in
-    ones_end _ _ _ placed.ranks c.loop-i.invariant.2 c.loop-i.invariant.0 c.loop-i-test.false placed.few
+    ones_end _ _ _ placed.ranks c.loop-i.invariant c.loop-i.auto.i-end c.loop-i-test.false placed.few

@@ -1,10 +1,8 @@
 -- The invariant: each place passed holds its value.
 use borrow.Author.Rules.{rules}
-use native.Mathlib.Omega.{arith}
-use Prim.Native.Nat.{◌-◌}
 use Rattle.arrays.proofs.Laws.{fill_next}
 use Rattle.arrays.specs.Sets.{fill}
-use Rattle.combinations.specs.Combinations.{own_at, no_own}
+use Rattle.combinations.specs.Combinations.{no_own}
 use Rattle.combinations.proofs.tables.owns.Goals as goal
 
 pub loop-i-init : goal.loop-i-init
@@ -12,4 +10,4 @@ unfolding fill no_own
 loop-i-init c = search rules
 
 pub loop-i-preserved : goal.loop-i-preserved
-loop-i-preserved c = (omega arith, fill_next _ _ _ c.loop-i.invariant.1 c.own_at.ensures)
+loop-i-preserved c = fill_next _ _ _ c.loop-i.invariant c.own_at.ensures

@@ -1,21 +1,17 @@
--- The invariant: each place passed holds its number.
-use borrow.Author.Rules.{rules}
-use native.Mathlib.Omega.{arith}
-use Prim.Native.Nat.{◌-◌}
-use Rattle.arrays.proofs.Laws.{fill_next}
-use Rattle.arrays.specs.Sets.{fill}
-use Rattle.combinations.specs.Combinations.{table_at, no_table}
-use Rattle.combinations.proofs.Laws.{table_ends}
+-- `combinations::tables::table` meets its contract.
+use Prim.Native.Nat.{ℕ}
+use mathlib.Core.Path.{refl}
+use lib.ListN.{replicate}
+use Rattle.combinations.specs.Combinations.{table_length}
+use Rattle.combinations.proofs.Laws.{table_room, table_laid}
 use Rattle.combinations.proofs.tables.table.Goals as goal
 
-pub loop-i-init : goal.loop-i-init
-unfolding fill no_table
-loop-i-init c = search rules
-
-pub loop-i-preserved : goal.loop-i-preserved
-loop-i-preserved c = (omega arith, fill_next _ _ _ c.loop-i.invariant.1 c.table_at.ensures)
+pub slice_bounds-out-end-3 : goal.slice_bounds-out-end-3
+slice_bounds-out-end-3 c =
+    table_room _ _ _ _ _ c.told-base c.costs-costs.ensures c.years-dates.ensures c.copy_from_slice.ensures.after c.copy_from_slice-2.ensures.after
+    (replicate {A = ℕ} table_length 0) refl
 
 pub returns : goal.returns
 returns c =
-    table_ends _ _ _ _ _ c.costs-costs.ensures c.years-dates.ensures c.loop-i.invariant.1 c.loop-i.invariant.0
-    c.loop-i-test.false
+    table_laid _ _ _ _ _ c.told-base c.costs-costs.ensures c.years-dates.ensures c.copy_from_slice.ensures.after c.copy_from_slice-2.ensures.after
+    (replicate {A = ℕ} table_length 0) refl c.copy_from_slice-3.ensures.after

@@ -1,7 +1,6 @@
 -- The invariant: `t` has the years of the bids passed that are in the combination.
 use borrow.Author.Rules.{rules}
 use native.Mathlib.Omega.{arith}
-use Prim.Native.Nat.{◌-◌}
 use mathlib.Core.Path.{◌∙◌}
 use Rattle.combinations.specs.Combinations.{touched_of}
 use Rattle.combinations.proofs.Laws.{touched_hit, touched_miss}
@@ -15,7 +14,6 @@ loop-j-init c = search rules
 pub loop-j-preserved : goal.loop-j-preserved
 loop-j-preserved c =
     let inv = c.loop-j.invariant in (
-      omega arith,
-      elim c.if-member.branch [ then-member w ↦ w.t-is ∙ touched_hit _ _ _ c.member.ensures _ inv.1 w.if-member.true w.touch-t.ensures.0 | else-member w ↦ w.t-is ∙ touched_miss _ _ _ c.member.ensures _ inv.1 w.if-member.false ],
+      elim c.if-member.branch [ then-member w ↦ w.t-is ∙ touched_hit _ _ _ c.member.ensures _ inv.0 w.if-member.true w.touch-t.ensures.0 | else-member w ↦ w.t-is ∙ touched_miss _ _ _ c.member.ensures _ inv.0 w.if-member.false ],
       elim c.if-member.branch [ then-member w ↦ omega (arith, w.t-is, w.touch-t.ensures.1) | else-member w ↦ omega (arith, w.t-is) ],
     )

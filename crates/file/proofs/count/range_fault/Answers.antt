@@ -9,10 +9,6 @@ pub returns-then-n-low : goal.returns-then-n-low
 unfolding range_fault
 returns-then-n-low c = sym (given_no _ _ _ (λ h. omega arith))
 
-pub returns-then-high-n : goal.returns-then-high-n
-unfolding range_fault
-returns-then-high-n c = sym (given_no _ _ _ (λ h. omega arith))
-
 pub returns : goal.returns
 unfolding range_fault
 returns c = sym (given_yes _ _ _ (omega arith))

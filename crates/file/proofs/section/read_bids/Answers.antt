@@ -1,21 +1,23 @@
 -- `file::section::read_bids` meets its contract: the count is refused, or the records' answer is the section's.
 use Prim.Native.Nat.{◌+◌, ◌≤◌}
+use mathlib.Core.Path.{refl}
 use lib.ListN.{length}
 use Rattle.rules.specs.Names.{count_width}
 use native.Mathlib.Omega.{arith}
+use Rattle.laws_reading.specs.Faults.{numbered}
 use Rattle.file.proofs.Laws.{counted, tables_right, bids_refused, bids_read}
 use Rattle.file.proofs.section.read_bids.Goals as goal
 use Rattle.file.proofs.section.read_bids.Goals.{After-count_at-n}
 
 -- once the count is accepted, the records start within the file
 room : (c : After-count_at-n) → let p = c.args in p.past.bids_at + count_width ≤ length p.file.now
-room c = (counted _ _ _ _ _ c.count_fault-f.ensures c.if-f-ne0.false).0
+room c = (counted _ _ _ _ _ c.in_default.ensures refl).0
 
-pub returns-then-f-ne0 : goal.returns-then-f-ne0
-returns-then-f-ne0 c = bids_refused _ c.requires c.count_fault-f.ensures c.if-f-ne0.true
+pub returns-in-Err : goal.returns-in-Err
+returns-in-Err c = bids_refused _ c.requires c.in-Err.ensures (numbered _)
 
 pub count_at-n-requires : goal.count_at-n-requires
-count_at-n-requires c = omega (arith, counted _ _ _ _ _ c.count_fault-f.ensures c.if-f-ne0.false)
+count_at-n-requires c = omega (arith, counted _ _ _ _ _ c.in_default.ensures refl)
 
 pub overflow_add-start : goal.overflow_add-start
 overflow_add-start c = omega (arith, room (goal.at.overflow_add-start c).After-count_at-n)
@@ -31,6 +33,4 @@ bids-requires c = (tables_right _ c.requires c.count_at-n.result, omega (arith, 
 
 pub returns : goal.returns
 returns c =
-    let count-fault = c.count_fault-f in
-    let if1 = c.if-f-ne0 in
-    bids_read _ c.requires count-fault.ensures if1.false c.count_at-n.ensures.0 c.records_after.ensures.0 c.bids.ensures
+    bids_read _ c.requires c.in_default.ensures refl c.count_at-n.ensures.0 c.records_after.ensures.0 c.bids.ensures

@@ -1,19 +1,20 @@
 -- `file::section::read_pots` meets its contract: the count is refused, or the records' answer is the section's.
 use native.Mathlib.Omega.{arith}
 use Prim.Native.Nat.{◌+◌, ◌*◌, ◌≤◌}
-use mathlib.Core.Path.{ap}
+use mathlib.Core.Path.{refl, ap}
 use lib.ListN.{length}
 use Rattle.rules.specs.Names.{count_width, cap_width, drawn_width, most_years, most_pots, pot_width}
 use Rattle.rules.specs.File.{pots_told}
+use Rattle.laws_reading.specs.Faults.{numbered}
 use Rattle.file.proofs.Laws.{counted, gained_found, few_bytes, facts1, pots_refused, pots_read}
 use Rattle.file.proofs.section.read_pots.Goals as goal
 use Rattle.file.proofs.section.read_pots.Goals.{After-pots_told-n}
 
-pub returns-then-f-ne0 : goal.returns-then-f-ne0
-returns-then-f-ne0 c = pots_refused _ c.requires c.pots_count_fault-f.ensures c.if-f-ne0.true
+pub returns-in-Err : goal.returns-in-Err
+returns-in-Err c = pots_refused _ c.requires c.in-Err.ensures (numbered _)
 
 pub count_at-count-requires : goal.count_at-count-requires
-count_at-count-requires c = (counted _ _ _ _ _ c.pots_count_fault-f.ensures c.if-f-ne0.false).0
+count_at-count-requires c = (counted _ _ _ _ _ c.in_default.ensures refl).0
 
 -- once the count is accepted, the records start within the file, and are few and small
 room : (k : After-pots_told-n) → let p = k.args in
@@ -21,7 +22,7 @@ room : (k : After-pots_told-n) → let p = k.args in
     × ((p.past.years ≤ most_years)
     × (k.pots_told-n.result * pot_width p.past.years k.gained_told-gained.result ≤ most_pots * pot_width most_years (cap_width + drawn_width)))
 room k =
-    let n = counted _ _ _ _ _ k.pots_count_fault-f.ensures k.if-f-ne0.false in
+    let n = counted _ _ _ _ _ k.in_default.ensures refl in
     let few : k.pots_told-n.result ≤ most_pots = omega (arith, n, k.pots_told-n.ensures.0, ap pots_told k.count_at-count.ensures.0) in
     let m = (facts1 _ k.requires).most in (
       n.0,
@@ -50,7 +51,7 @@ pots-requires c =
 
 pub returns : goal.returns
 returns c =
-    pots_read _ c.requires c.pots_count_fault-f.ensures c.if-f-ne0.false c.count_at-count.ensures.0
+    pots_read _ c.requires c.in_default.ensures refl c.count_at-count.ensures.0
     c.gained_told-gained.ensures.0 c.pots_told-n.ensures.0
     c.place.ensures
     c.records_after.ensures.0 c.pots.ensures

@@ -1,7 +1,5 @@
 -- The invariant: each row passed has its totals.
 use borrow.Author.Rules.{rules}
-use native.Mathlib.Omega.{arith}
-use Prim.Native.Nat.{◌-◌}
 use Rattle.arrays.specs.Sets.{fill}
 use Rattle.sheet.proofs.Columns.{columns_few}
 use Rattle.combinations.specs.Combinations.{no_base}
@@ -13,8 +11,6 @@ unfolding fill no_base
 loop-t-init c = search rules
 
 pub loop-t-preserved : goal.loop-t-preserved
-loop-t-preserved c = let inv = c.loop-t.invariant in (
-  omega arith,
-  bases_next _ _ _ _ _ _ (columns_few c.requires) c.repriced-trial.ensures
-      c.revalued-row.ensures inv.1 c.laid-next.ensures,
-)
+loop-t-preserved c =
+    bases_next _ _ _ _ _ _ (columns_few c.args.sheet.now.ready) c.repriced-trial.ensures
+    c.revalued-row.ensures c.loop-t.invariant c.lay.ensures

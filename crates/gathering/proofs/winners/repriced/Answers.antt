@@ -1,7 +1,5 @@
 -- The invariant: the years passed have their prices.
 use borrow.Author.Rules.{rules}
-use native.Mathlib.Omega.{arith}
-use Prim.Native.Nat.{◌-◌}
 use mathlib.Core.Path.{◌∙◌}
 use Rattle.combinations.specs.Combinations.{repriced_to}
 use Rattle.combinations.proofs.Laws.{repriced_hit, repriced_miss}
@@ -13,7 +11,5 @@ unfolding repriced_to
 loop-d-init c = search rules
 
 pub loop-d-preserved : goal.loop-d-preserved
-loop-d-preserved c = let e = c.member.ensures in (
-  omega arith,
-  elim c.if-member.branch [ then-member w ↦ w.row-is ∙ repriced_hit _ _ _ _ e c.loop-d.invariant.1 w.if-member.true | else-member w ↦ w.row-is ∙ repriced_miss _ _ _ _ e c.loop-d.invariant.1 w.if-member.false ],
-)
+loop-d-preserved c = let e = c.member.ensures in
+    elim c.if-member.branch [ then-member w ↦ w.prices-is ∙ repriced_hit _ _ _ _ e c.loop-d.invariant w.if-member.true | else-member w ↦ w.prices-is ∙ repriced_miss _ _ _ _ e c.loop-d.invariant w.if-member.false ]

@@ -1,7 +1,5 @@
 -- The invariant: the years passed are renewed.
 use borrow.Author.Rules.{rules}
-use native.Mathlib.Omega.{arith}
-use Prim.Native.Nat.{◌-◌}
 use Rattle.pot.specs.Marks.{renewed_to}
 use Rattle.pot.proofs.Sums.{renewed_next}
 use Rattle.pot.proofs.PotState.all_renewed.Goals as goal
@@ -11,4 +9,4 @@ unfolding renewed_to
 loop-d-init c = search rules
 
 pub loop-d-preserved : goal.loop-d-preserved
-loop-d-preserved c = (omega arith, renewed_next _ _ _ _ c.loop-d.invariant.1 c.renewed-t.ensures)
+loop-d-preserved c = renewed_next _ _ _ _ c.loop-d.invariant c.renewed-t.ensures

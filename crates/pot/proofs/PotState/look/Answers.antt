@@ -1,7 +1,6 @@
 -- The invariant: `l` has seen the live bids passed.
 use borrow.Author.Rules.{rules}
 use native.Mathlib.Omega.{arith}
-use Prim.Native.Nat.{◌-◌}
 use mathlib.Core.Path.{◌∙◌}
 use Rattle.sheet.specs.Sheet.{entrants}
 use Rattle.sheet.proofs.Entrants.{entrant_small, entrants_few}
@@ -84,26 +83,18 @@ price-requires c =
       c.requires.ready.few,
     )
 
-pub joined-seen-requires : goal.joined-seen-requires
-joined-seen-requires c =
-    omega (
-      arith,
-      pass_few _ _ _ c.loop-j.invariant.1,
-      entrants_few c.requires.ready,
-      c.requires.ready.few,
-    )
+pub joined-requires : goal.joined-requires
+joined-requires c =
+    pass_few _ _ _ c.loop-j.invariant _ (omega (arith, c.loop-j-test.true, entrants_few c.requires.ready, c.requires.ready.few))
 
 pub loop-j-preserved : goal.loop-j-preserved
-loop-j-preserved c = (
-  omega arith,
-  let inv = c.loop-j.invariant.1 in
-      let k = c.entrant-k.ensures in
-      let alive = live_is _ _ _ c.app-a.ensures c.year-d.ensures
-      c.live.ensures in
-      elim c.if-live.branch [ then-live w ↦ w.seen-is ∙ pass_hit _ _ _ inv k alive w.if-live.true w.price.ensures w.joined-seen.ensures | else-live w ↦ w.seen-is ∙ pass_miss _ _ _ inv k alive w.if-live.false ],
-)
+loop-j-preserved c =
+    let inv = c.loop-j.invariant in
+    let k = c.entrant-k.ensures in
+    let alive = live_is _ _ _ c.app-a.ensures c.year-d.ensures c.live.ensures in
+    elim c.if-live.branch [ then-live w ↦ w.seen-is ∙ pass_hit _ _ _ inv k alive w.if-live.true w.price.ensures w.joined.ensures | else-live w ↦ w.seen-is ∙ pass_miss _ _ _ inv k alive w.if-live.false ]
 
 pub returns : goal.returns
 returns c =
-    pass_looked _ _ _ c.requires.ready c.requires.others c.loop-j.invariant.1 c.loop-j.invariant.0
+    pass_looked _ _ _ c.requires.ready c.requires.others c.loop-j.invariant c.loop-j.auto.j-end
     c.loop-j-test.false

@@ -5,8 +5,8 @@ use Rattle.pot.proofs.PotState.revalued.Goals as goal
 
 pub totalled-requires : goal.totalled-requires
 totalled-requires c = let pre = c.requires in
-    let few = columns_few pre.0 in
-    record { columns = few; small = λ y h. sum_most (parted_renewed _ _ _ pre.1 few c.all_renewed-t.ensures) y h pre.0 }
+    let few = columns_few c.args.sheet.now.ready in
+    record { columns = few; small = λ y h. sum_most (parted_renewed _ _ _ pre few c.all_renewed.ensures) y h c.args.sheet.now.ready }
 
 pub returns : goal.returns
-returns c = revalued_is _ _ _ c.all_renewed-t.ensures c.totalled.ensures
+returns c = revalued_is _ _ _ c.all_renewed.ensures c.totalled.ensures

@@ -17,8 +17,8 @@ returns-then-within c =
       summed = summed_settled _ _ c.settled.ensures right;
     }
 
-pub returns : goal.returns
-returns c =
+pub returns-else-within : goal.returns-else-within
+returns-else-within c =
     let pre = c.requires in
     let ok = pre.0.ready in
     let set = taken_is _ _ _ pre.0.looked.price c.taken-set.ensures in

@@ -4,5 +4,5 @@ use Rattle.pot.proofs.PotState.shared.Goals as goal
 
 pub returns : goal.returns
 returns c =
-    shared_is _ _ _ _ _ _ c.win_all-t.ensures c.others-outs.ensures
-    c.turn_all-u.ensures c.hung-v.ensures c.numbered.ensures
+    shared_is _ _ _ _ _ _ c.win_all.ensures c.others-outs.ensures
+    c.turn_all.ensures c.hung.ensures c.numbered.ensures

@@ -25,8 +25,8 @@ pub alone-requires : goal.alone-requires
 alone-requires c = let pre = c.requires in
     (record { ready = pre.0.ready; others = pre.0.others }, sole_small pre.0.ready pre.0.looked pre.1)
 
-pub returns : goal.returns
-returns c =
+pub returns-else-within : goal.returns-else-within
+returns-else-within c =
     let pre = c.requires in
     let ok = pre.0.ready in
     let right = summed_one _ _ _ _ (columns_few ok) (ok.year _ (sole_small ok pre.0.looked pre.1)) c.tried-t.ensures

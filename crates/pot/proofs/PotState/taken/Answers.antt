@@ -1,7 +1,5 @@
 -- The invariant: each place passed holds its test.
 use borrow.Author.Rules.{rules}
-use native.Mathlib.Omega.{arith}
-use Prim.Native.Nat.{◌-◌}
 use Rattle.arrays.proofs.Laws.{fill_next}
 use Rattle.arrays.specs.Sets.{fill, none}
 use Rattle.pot.proofs.Laws.{at_is}
@@ -12,9 +10,5 @@ unfolding fill none
 loop-k-init c = search rules
 
 pub loop-k-preserved : goal.loop-k-preserved
-loop-k-preserved c = (
-  omega arith,
-  fill_next _ _ _ c.loop-k.invariant.1
-      (at_is _ _ _ c.app-a.ensures
-      c.year-d.ensures c.live.ensures _ c.price.ensures c.at.ensures),
-)
+loop-k-preserved c =
+    fill_next _ _ _ c.loop-k.invariant (at_is _ _ _ c.app-a.ensures c.year-d.ensures c.live.ensures _ c.price.ensures c.at.ensures)

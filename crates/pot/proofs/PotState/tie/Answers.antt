@@ -24,4 +24,4 @@ returns c =
     tie_shared _ _ _ _ _ c.bases-base.ensures
     c.rest-rest.ensures
     c.count-count.ensures c.if-count-gt-WIDEST_TIE.false
-    c.gathered-tied.ensures c.choose-choice.ensures c.shared-t.ensures c.revalued.ensures
+    c.gathered-tied.ensures c.choose-choice.ensures c.shared.ensures c.revalued.ensures

@@ -3,4 +3,4 @@ use Rattle.pot.proofs.Sums.{trial_is}
 use Rattle.pot.proofs.PotState.trial.Goals as goal
 
 pub returns : goal.returns
-returns c = trial_is _ _ _ _ _ c.win_all-t.ensures c.revalued.ensures
+returns c = trial_is _ _ _ _ _ c.win_all.ensures c.revalued.ensures

@@ -9,9 +9,9 @@ totalled-requires c =
     record {
       columns = columns_few pre.0.ready;
       small = λ y h. sum_most
-          (parted_win _ _ _ _ _ (columns_few pre.0.ready) (pre.0.ready.year _ pre.1) c.year-d.ensures c.win-u.ensures
-          c.renewed-t.ensures pre.0.summed.parts) y h pre.0.ready;
+          (parted_win _ _ _ _ _ (columns_few pre.0.ready) (pre.0.ready.year _ pre.1) c.year-d.ensures c.win.ensures
+          c.renewed.ensures pre.0.summed.parts) y h pre.0.ready;
     }
 
 pub returns : goal.returns
-returns c = tried_is _ _ _ _ _ c.year-d.ensures c.win-u.ensures c.renewed-t.ensures c.totalled.ensures
+returns c = tried_is _ _ _ _ _ c.year-d.ensures c.win.ensures c.renewed.ensures c.totalled.ensures

@@ -1,20 +1,7 @@
--- The invariant: those of the set that were passed are marked.
-use borrow.Author.Rules.{rules}
-use native.Mathlib.Omega.{arith}
-use Prim.Native.Nat.{◌-◌}
-use mathlib.Core.Path.{◌∙◌}
-use Rattle.arrays.specs.Sets.{members}
-use Rattle.pot.specs.Marks.{turn_all}
-use Rattle.pot.proofs.Laws.{turn_all_hit, turn_all_miss}
+-- `pot::PotState::turn_all` meets its contract.
+use Rattle.std.proofs.Common.{rules, of_calls}
+use Rattle.pot.proofs.Laws.{each_turn}
 use Rattle.pot.proofs.PotState.turn_all.Goals as goal
-use Rattle.pot.proofs.PotState.turn_all.Goals.{else-set-k, then-set-k}
 
-pub loop-k-init : goal.loop-k-init
-unfolding turn_all members
-loop-k-init c = search rules
-
-pub loop-k-preserved : goal.loop-k-preserved
-loop-k-preserved c = (
-  omega arith,
-  elim c.if-set-k.branch [ then-set-k w ↦ w.t-is ∙ turn_all_hit _ _ _ _ _ w.if-set-k.true c.loop-k.invariant.1 w.turn-t.ensures | else-set-k w ↦ w.t-is ∙ turn_all_miss _ _ _ _ _ w.if-set-k.false c.loop-k.invariant.1 ],
-)
+pub returns : goal.returns
+returns c = each_turn _ _ _ _ (λ t k r p. search (rules, of_calls)) _ _ c.each.ensures

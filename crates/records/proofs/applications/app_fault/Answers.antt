@@ -1,8 +1,10 @@
 -- `records::applications::app_fault` meets its contract: the numbers are wrong, or the draw is asked.
 use native.Mathlib.Omega.{arith}
-use mathlib.Core.Path.{sym, ◌∙◌}
+use mathlib.Core.Path.{refl, sym, ap, ◌∙◌}
+use Rattle.rules.specs.Reading.{fault_in}
 use Rattle.rules.specs.Refusals.{record_fault}
 use Rattle.laws_reading.specs.Walk.{given_yes, given_no}
+use Rattle.laws_reading.specs.Faults.{numbered, passed_on}
 use Rattle.records.proofs.Laws.{numbers_wrong, draw_asked}
 use Rattle.records.proofs.applications.app_fault.Goals as goal
 
@@ -10,13 +12,14 @@ pub returns-then-recs-a-lt-APP_WIDTH : goal.returns-then-recs-a-lt-APP_WIDTH
 unfolding record_fault
 returns-then-recs-a-lt-APP_WIDTH c = sym (given_no _ _ _ (λ h. omega arith))
 
-pub returns-then-f-ne0 : goal.returns-then-f-ne0
+pub returns-in_err-numbers_fault : goal.returns-in_err-numbers_fault
 unfolding record_fault
-returns-then-f-ne0 c = numbers_wrong _ _ _ _ _ c.numbers_fault-f.ensures c.read.ensures c.if-f-ne0.true
+returns-in_err-numbers_fault c =
+    ap fault_in (passed_on _ c.from_residual.ensures.1)
+    ∙ numbers_wrong _ _ _ _ _ c.in_err-numbers_fault.ensures c.read.ensures (numbered _)
     ∙ sym (given_yes _ _ _ (omega arith))
 
 pub returns : goal.returns
 unfolding record_fault
-returns c = c.draw_fault.ensures
-    ∙ draw_asked _ _ _ _ _ c.numbers_fault-f.ensures c.read.ensures c.if-f-ne0.false
-    ∙ sym (given_yes _ _ _ (omega arith))
+returns c =
+    c.draw_fault.ensures ∙ draw_asked _ _ _ _ _ c.in_ok-numbers_fault.ensures c.read.ensures refl ∙ sym (given_yes _ _ _ (omega arith))

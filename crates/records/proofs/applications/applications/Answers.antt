@@ -1,24 +1,25 @@
-use native.Mathlib.Omega.{arith}
-use native.Mathlib.Nat.{sub-zero}
-use mathlib.Core.Path.{sym, ◌∙◌}
+-- `records::applications::applications` meets its contract: the records are judged in file order.
+use mathlib.Core.Path.{ap, ◌∙◌}
+use Rattle.std.proofs.Common.{rules}
+use Rattle.rules.specs.Names.{app_width}
+use Rattle.rules.specs.Reading.{reading_in}
 use Rattle.rules.specs.Refusals.{app_fault}
-use Rattle.laws_reading.specs.Walk.{at_fault, goes_on_lem, at_end}
-use Rattle.laws_reading.specs.Fault.{no_fault}
+use Rattle.laws_reading.specs.Faults.{passed_on}
 use Rattle.records.specs.Records.{apps_of}
+use Rattle.records.proofs.Laws.{whole_before, all_right, first_wrong}
 use Rattle.records.proofs.applications.applications.Goals as goal
 
-pub loop-a-init : goal.loop-a-init
+pub in_order-requires : goal.in_order-requires
+in_order-requires c = λ i l N.
+    let a = c.args in
+    let w = whole_before a.recs.now app_width (app_fault a.year_recs.now a.done.deliveries a.done.technologies a.recs.now) (λ j r k. search rules) i N in
+    search rules
+
+pub returns-in_err-in_order : goal.returns-in_err-in_order
 unfolding apps_of
-loop-a-init c = (omega arith, omega arith, rw (sub-zero c.args.done.applications))
-
-pub returns-then-f-ne0 : goal.returns-then-f-ne0
-returns-then-f-ne0 c = at_fault _ _ _ _ _ _ c.loop-a.invariant.2 (omega arith) c.app_fault-f.ensures c.if-f-ne0.true
-
-pub loop-a-preserved : goal.loop-a-preserved
-loop-a-preserved c =
-    let z = sym c.app_fault-f.ensures ∙ c.if-f-ne0.false in
-    let w = (no_fault _ _ (app_fault _ _ _ _) _ z).0 in
-    (omega arith, omega arith, goes_on_lem _ _ _ _ _ _ c.loop-a.invariant.2 (omega arith) z)
+returns-in_err-in_order c =
+    ap reading_in (passed_on _ c.from_residual.ensures.1) ∙ first_wrong _ (λ j r k. search rules) _ _ _ _ c.in_err-in_order.ensures
 
 pub returns : goal.returns
-returns c = at_end _ _ _ _ _ _ c.loop-a.invariant.2 (omega arith)
+unfolding apps_of
+returns c = all_right _ (λ j r k. search rules) _ _ _ _ c.in_ok-in_order.ensures

@@ -5,13 +5,9 @@ use Rattle.records.specs.Numbers.{cap_fault}
 use Rattle.laws_reading.specs.Walk.{given_yes, given_no}
 use Rattle.records.proofs.pots.cap_fault.Goals as goal
 
-pub returns-then-cap-eq-NO_CAP : goal.returns-then-cap-eq-NO_CAP
-unfolding cap_fault
-returns-then-cap-eq-NO_CAP c = sym (given_yes _ _ _ (λ h. absurd (h c.if-cap-eq-NO_CAP.true)))
-
 pub returns-then-cap-gt-HIGHEST_CAP : goal.returns-then-cap-gt-HIGHEST_CAP
 unfolding cap_fault
-returns-then-cap-gt-HIGHEST_CAP c = sym (given_no _ _ _ (λ h. omega (arith, h c.if-cap-eq-NO_CAP.false)))
+returns-then-cap-gt-HIGHEST_CAP c = sym (given_no _ _ _ (λ h. omega (arith, h c.if-cap-ne-NO_CAP.true)))
 
 pub returns : goal.returns
 unfolding cap_fault

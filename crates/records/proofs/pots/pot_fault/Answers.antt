@@ -14,33 +14,33 @@ place-requires c = omega (arith, gained_most c.requires.1.0)
 pub width-requires : goal.width-requires
 width-requires c = omega (arith, gained_most c.requires.1.0)
 
-pub returns-then-recs-place : goal.returns-then-recs-place
+pub returns-then-of-place : goal.returns-then-of-place
 unfolding record_fault
-returns-then-recs-place c = sym (given_no _ _ _ (λ h. omega arith))
+returns-then-of-place c = sym (given_no _ _ _ (λ h. omega arith))
 
 pub loop-y-init : goal.loop-y-init
-loop-y-init c = (omega arith, λ j l. absurd (not-suc-le-zero l))
+loop-y-init c = λ j l. absurd (not-suc-le-zero l)
 
 pub returns-then-budget-gt-HIGHEST_BUDGET : goal.returns-then-budget-gt-HIGHEST_BUDGET
 unfolding record_fault pot_fault
 returns-then-budget-gt-HIGHEST_BUDGET c = sym (given_yes _ _ _ (omega arith) ∙ given_no _ _ _ (λ h. omega (arith, h.0 c.loop-y.y (omega arith))))
 
 pub loop-y-preserved : goal.loop-y-preserved
-loop-y-preserved c = (omega arith, below_more _ _ c.loop-y.invariant.1 (omega arith))
+loop-y-preserved c = below_more _ _ c.loop-y.invariant (omega arith)
 
 -- the budgets of all years, where the loop has ended
-pub returns-then-gained-eq0 : goal.returns-then-gained-eq0
+pub returns-then-of-eq0 : goal.returns-then-of-eq0
 unfolding record_fault
-returns-then-gained-eq0 c =
-    no_cap_asked _ _ _ _ (λ j l. c.loop-y.invariant.1 j (omega arith)) c.if-gained-eq0.true ∙ sym (given_yes _ _ _ (omega arith))
+returns-then-of-eq0 c =
+    no_cap_asked _ _ _ _ (λ j l. c.loop-y.invariant j (omega arith)) c.if-of-eq0.true ∙ sym (given_yes _ _ _ (omega arith))
 
 pub cap-requires : goal.cap-requires
 cap-requires c =
-    (omega arith, whole_gained c.requires.1.0 c.if-gained-eq0.false)
+    (omega arith, whole_gained c.requires.1.0 c.if-of-eq0.false)
 
 pub returns : goal.returns
 unfolding record_fault
 returns c =
-    cap_asked _ _ _ _ (λ j l. c.loop-y.invariant.1 j (omega arith)) c.if-gained-eq0.false c.cap_fault.ensures
+    cap_asked _ _ _ _ (λ j l. c.loop-y.invariant j (omega arith)) c.if-of-eq0.false c.cap_fault.ensures
     c.cap.ensures.0
     ∙ sym (given_yes _ _ _ (omega arith))

@@ -1,31 +1,31 @@
+-- `records::pots::pots` meets its contract: the records are judged in file order.
 use native.Mathlib.Omega.{arith}
-use native.Mathlib.Nat.{sub-zero}
-use mathlib.Core.Path.{sym, ◌∙◌}
+use mathlib.Core.Path.{ap, ◌∙◌}
+use Rattle.std.proofs.Common.{rules}
+use Rattle.rules.specs.Names.{pot_width}
+use Rattle.rules.specs.Reading.{reading_in}
 use Rattle.rules.specs.Refusals.{pot_fault}
-use Rattle.laws_reading.specs.Walk.{at_fault, goes_on_lem, at_end}
+use Rattle.laws_reading.specs.Faults.{passed_on}
 use Rattle.laws_reading.specs.Reading.{gained_most}
-use Rattle.laws_reading.specs.Fault.{no_fault}
 use Rattle.records.specs.Records.{pots_of}
-use Rattle.records.proofs.Laws.{placed}
+use Rattle.records.proofs.Laws.{whole_before, all_right, first_wrong}
 use Rattle.records.proofs.pots.pots.Goals as goal
 
-pub loop-p-init : goal.loop-p-init
+pub width-requires : goal.width-requires
+width-requires c = omega (arith, gained_most c.requires.1.0)
+
+pub in_order-requires : goal.in_order-requires
+in_order-requires c = λ i l N.
+    let a = c.args in
+    let w = whole_before a.recs.now (pot_width a.done.years a.done.gained) (pot_fault a.done.years a.done.gained a.recs.now) (λ j r k. search rules) i N in
+    rw c.width.ensures (search rules)
+
+pub returns-in_err-in_order : goal.returns-in_err-in_order
 unfolding pots_of
-loop-p-init c = (omega arith, omega arith, rw (sub-zero c.args.done.pots))
-
-pub place-requires : goal.place-requires
-place-requires c = omega (arith, gained_most c.requires.1.0)
-
-pub returns-then-f-ne0 : goal.returns-then-f-ne0
-returns-then-f-ne0 c =
-    let loop = c.loop-p in
-    placed _ _ c.place.ensures (at_fault _ _ _ _ _ _ loop.invariant.2 (omega arith) c.pot_fault-f.ensures c.if-f-ne0.true)
-
-pub loop-p-preserved : goal.loop-p-preserved
-loop-p-preserved c =
-    let z = sym c.pot_fault-f.ensures ∙ c.if-f-ne0.false in
-    let w = (no_fault _ _ (pot_fault _ _ _) _ z).0 in
-    (omega arith, omega arith, goes_on_lem _ _ _ _ _ _ c.loop-p.invariant.2 (omega arith) z)
+returns-in_err-in_order c =
+    ap reading_in (passed_on _ c.from_residual.ensures.1)
+    ∙ first_wrong _ (λ j r k. search rules) _ _ _ _ (rw c.width.ensures at c.in_err-in_order.ensures)
 
 pub returns : goal.returns
-returns c = at_end _ _ _ _ _ _ c.loop-p.invariant.2 (omega arith)
+unfolding pots_of
+returns c = all_right _ (λ j r k. search rules) _ _ _ _ (rw c.width.ensures at c.in_ok-in_order.ensures)

@@ -1,27 +1,26 @@
-use native.Mathlib.Omega.{arith}
-use native.Mathlib.Nat.{sub-zero}
-use mathlib.Core.Path.{sym, ◌∙◌}
+-- `records::technologies::technologies` meets its contract: the records are judged in file order.
+use mathlib.Core.Path.{ap, ◌∙◌}
+use Rattle.std.proofs.Common.{rules}
+use Rattle.rules.specs.Names.{tech_width}
+use Rattle.rules.specs.Reading.{reading_in}
 use Rattle.rules.specs.Refusals.{tech_fault}
-use Rattle.laws_reading.specs.Walk.{at_fault, goes_on_lem, at_end}
-use Rattle.laws_reading.specs.Fault.{no_fault}
+use Rattle.laws_reading.specs.Faults.{passed_on}
 use Rattle.records.specs.Records.{techs_of}
-use Rattle.records.proofs.Laws.{placed}
+use Rattle.records.proofs.Laws.{whole_before, all_right, first_wrong}
 use Rattle.records.proofs.technologies.technologies.Goals as goal
 
-pub loop-t-init : goal.loop-t-init
+pub in_order-requires : goal.in_order-requires
+in_order-requires c = λ i l N.
+    let a = c.args in
+    let w = whole_before a.recs.now (tech_width a.done.years) (tech_fault a.done.years a.done.deliveries a.done.pots a.recs.now) (λ j r k. search rules) i N in
+    rw c.width.ensures (search rules)
+
+pub returns-in_err-in_order : goal.returns-in_err-in_order
 unfolding techs_of
-loop-t-init c = (omega arith, omega arith, rw (sub-zero c.args.done.technologies))
-
-pub returns-then-f-ne0 : goal.returns-then-f-ne0
-returns-then-f-ne0 c =
-    let loop = c.loop-t in
-    placed _ _ c.place.ensures (at_fault _ _ _ _ _ _ loop.invariant.2 (omega arith) c.tech_fault-f.ensures c.if-f-ne0.true)
-
-pub loop-t-preserved : goal.loop-t-preserved
-loop-t-preserved c =
-    let z = sym c.tech_fault-f.ensures ∙ c.if-f-ne0.false in
-    let w = (no_fault _ _ (tech_fault _ _ _ _) _ z).0 in
-    (omega arith, omega arith, goes_on_lem _ _ _ _ _ _ c.loop-t.invariant.2 (omega arith) z)
+returns-in_err-in_order c =
+    ap reading_in (passed_on _ c.from_residual.ensures.1)
+    ∙ first_wrong _ (λ j r k. search rules) _ _ _ _ (rw c.width.ensures at c.in_err-in_order.ensures)
 
 pub returns : goal.returns
-returns c = at_end _ _ _ _ _ _ c.loop-t.invariant.2 (omega arith)
+unfolding techs_of
+returns c = all_right _ (λ j r k. search rules) _ _ _ _ (rw c.width.ensures at c.in_ok-in_order.ensures)

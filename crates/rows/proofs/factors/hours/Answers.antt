@@ -9,5 +9,5 @@ returns-then-y-d c = (hours_before _ _ _ _ c.if-y-d.true, omega arith)
 pub returns-then-y-d-2 : goal.returns-then-y-d-2
 returns-then-y-d-2 c = (hours_first _ _ _ _ c.if-y-d.false c.if-y-d-2.true, omega arith)
 
-pub returns : goal.returns
-returns c = (hours_later _ _ _ _ c.if-y-d.false c.if-y-d-2.false, omega arith)
+pub returns-else-y-d-2 : goal.returns-else-y-d-2
+returns-else-y-d-2 c = (hours_later _ _ _ _ c.if-y-d.false c.if-y-d-2.false, omega arith)

@@ -1,5 +1,5 @@
 -- i digits take so many places, and a comma for each full group; a tenth of each column fits.
-use Rattle.std.proofs.Common.{ℕ, ◌-◌, ◌+◌, ◌/◌, ◌^◌, ◌≤◌, ◌<◌, ◌≡◌, length}
+use Rattle.std.proofs.Common.{ℕ, ◌+◌, ◌/◌, ◌^◌, ◌≤◌, ◌<◌, ◌≡◌, length}
 use Rattle.text.specs.Figure.{longest, most_places}
 use Rattle.text.proofs.figure.before.Given as goal
 
@@ -9,8 +9,5 @@ most_tenth = 1844674407370955161
 
 abbrev pub invariant-loop-i : goal.invariant-loop-i
 invariant-loop-i l =
-    (l.i ≤ 28) × (l.at + l.i + l.i / 3 ≡ l.initial.at) × (l.lower < 2 ^ 64) × (l.tenth ≤ most_tenth) × (longest ≤ l.initial.at)
+    (l.at + l.i + l.i / 3 ≡ l.initial.at) × (l.lower < 2 ^ 64) × (l.tenth ≤ most_tenth) × (longest ≤ l.initial.at)
     × (l.initial.at ≤ most_places) × (length l.places ≡ most_places)
-
-abbrev pub decreases-loop-i : goal.decreases-loop-i
-decreases-loop-i l = 28 - l.i

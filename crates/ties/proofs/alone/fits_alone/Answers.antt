@@ -1,21 +1,18 @@
--- The invariant: `ok` says whether every column passed fits.
+-- `ties::alone::fits_alone` meets its contract.
 use borrow.Author.Rules.{rules}
+use borrow.Author.Tests.{tests}
 use native.Mathlib.Omega.{arith}
-use Prim.Native.Nat.{◌-◌}
-use mathlib.Core.Path.{◌∙◌}
-use Rattle.totals.specs.Totals.{fits_to}
-use Rattle.totals.proofs.Laws.{fits_not, fits_more}
+use Prim.Native.Nat.{◌≤◌, ◌<◌}
+use mathlib.Core.Path.{refl}
+use Rattle.std.proofs.lemmas.Iterator.{cases_from_all, YieldsList-from_range}
+use Rattle.sheet.specs.Sheet.{limit_at}
 use Rattle.ties.specs.Ties.{alone_total}
+use Rattle.ties.proofs.Ranges.{all_below, fits_by}
 use Rattle.ties.proofs.alone.fits_alone.Goals as goal
-use Rattle.ties.proofs.alone.fits_alone.Goals.{else-alone_total-limit, then-alone_total-limit}
 
-pub loop-c-init : goal.loop-c-init
-unfolding fits_to
-loop-c-init c = search rules
-
-pub loop-c-preserved : goal.loop-c-preserved
-loop-c-preserved c = let a = c.alone_total.ensures in
-    let l = c.limit.ensures in (
-      omega arith,
-      elim c.if-alone_total-limit.branch [ then-alone_total-limit w ↦ w.ok-is ∙ fits_not _ _ _ a l w.if-alone_total-limit.true | else-alone_total-limit w ↦ w.ok-is ∙ fits_more _ _ _ a l w.if-alone_total-limit.false c.loop-c.invariant.1 ],
-    )
+pub returns : goal.returns
+returns c =
+    let total = alone_total c.args.sheet.now.cells.now c.args.sheet.now.size c.args.base.now c.args.price c.args.k in
+    fits_by _ _ _ _ (all_below c.args.sheet.now.size.columns _ _ _
+    (cases_from_all _ _ _ (λ i. total i ≤ limit_at c.args.sheet.now.cells.now i) (λ i. limit_at c.args.sheet.now.cells.now i < total i) c.all.ensures.ran
+    (YieldsList-from_range 0 _ _ refl (omega arith)) (λ x q k. search (rules, tests)) (λ x q k. search (rules, tests))))

@@ -1,8 +1,5 @@
 -- The invariant: every column passed fits.
 use borrow.Author.Rules.{rules}
-use native.Mathlib.Omega.{arith}
-use Prim.Native.Nat.{◌-◌}
-use mathlib.Core.Bool.{true}
 use Rattle.arrays.proofs.Laws.{done}
 use Rattle.totals.specs.Totals.{fits_to}
 use Rattle.totals.proofs.Laws.{fits_more}
@@ -18,12 +15,7 @@ returns-then-joint-limit c = ok_is _ _ _ _ c.union-t.ensures.0
     (fits_stops _ _ _ _ c.joint.ensures c.limit.ensures c.if-joint-limit.true c.loop-c-test.true)
 
 pub loop-c-preserved : goal.loop-c-preserved
-loop-c-preserved c = (
-  omega arith,
-  fits_more _ _ _ c.joint.ensures c.limit.ensures c.if-joint-limit.false
-      c.loop-c.invariant.1,
-)
+loop-c-preserved c = fits_more _ _ _ c.joint.ensures c.limit.ensures c.if-joint-limit.false c.loop-c.invariant
 
 pub returns : goal.returns
-returns c =
-    ok_is _ _ _ _ c.union-t.ensures.0 (done (fits_to _ _) c.loop-c.invariant.1 c.loop-c.invariant.0 c.loop-c-test.false)
+returns c = ok_is _ _ _ _ c.union-t.ensures.0 (done (fits_to _ _) c.loop-c.invariant c.loop-c.auto.c-end c.loop-c-test.false)

@@ -1,8 +1,5 @@
 -- The invariant: none of the bids passed can be added.
 use borrow.Author.Rules.{rules}
-use native.Mathlib.Omega.{arith}
-use Prim.Native.Nat.{◌-◌}
-use mathlib.Core.Bool.{true}
 use Rattle.ties.specs.Ties.{full_to}
 use Rattle.ties.proofs.Laws.{full_more, full_stops}
 use Rattle.ties.proofs.listing.full.Goals as goal
@@ -15,4 +12,4 @@ pub returns-then-addable : goal.returns-then-addable
 returns-then-addable c = full_stops _ _ _ _ c.addable.ensures _ c.if-addable.true c.loop-j-test.true
 
 pub loop-j-preserved : goal.loop-j-preserved
-loop-j-preserved c = (omega arith, full_more _ _ _ _ c.addable.ensures c.if-addable.false c.loop-j.invariant.1)
+loop-j-preserved c = full_more _ _ _ _ c.addable.ensures c.if-addable.false c.loop-j.invariant

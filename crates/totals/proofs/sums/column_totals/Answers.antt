@@ -1,7 +1,6 @@
 -- The invariant: the places of the columns passed hold their totals.
 use borrow.Author.Rules.{rules}
 use native.Mathlib.Omega.{arith}
-use Prim.Native.Nat.{◌-◌}
 use Rattle.arrays.proofs.Laws.{fill_next}
 use Rattle.arrays.specs.Sets.{fill}
 use Rattle.totals.specs.Totals.{no_row}
@@ -22,4 +21,4 @@ pub overflow_add-row-in-loop-c-5 : goal.overflow_add-row-in-loop-c-5
 overflow_add-row-in-loop-c-5 c = omega (arith, (column_low _ _ (c.requires.small _ c.loop-c-test.true)).2)
 
 pub loop-c-preserved : goal.loop-c-preserved
-loop-c-preserved c = (omega arith, fill_next _ _ _ c.loop-c.invariant.1 (column_is _ _))
+loop-c-preserved c = fill_next _ _ _ c.loop-c.invariant (column_is _ _)

@@ -1,11 +1,7 @@
 -- The invariant: the places of the columns passed hold their totals.
-use Prim.Native.Nat.{◌≤◌, ◌-◌}
 use mathlib.Core.Path.{◌≡◌}
 use Rattle.totals.specs.Totals.{filled, column_sum}
 use Rattle.totals.proofs.sums.column_totals.Given as goal
 
 abbrev pub invariant-loop-c : goal.invariant-loop-c
-invariant-loop-c l = (l.c ≤ l.columns) × (l.row ≡ filled (column_sum l.sums) l.c)
-
-abbrev pub decreases-loop-c : goal.decreases-loop-c
-decreases-loop-c l = l.columns - l.c
+invariant-loop-c l = l.row ≡ filled (column_sum l.sums) l.c

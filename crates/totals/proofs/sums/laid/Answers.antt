@@ -1,15 +1,8 @@
--- The invariant: the places of the columns passed are written.
-use borrow.Author.Rules.{rules}
+-- `totals::sums::laid` meets its contract.
 use native.Mathlib.Omega.{arith}
-use Prim.Native.Nat.{◌-◌}
-use mathlib.Core.Path.{refl}
-use Rattle.arrays.proofs.Laws.{place_next}
-use Rattle.arrays.specs.Sets.{placed}
+use mathlib.Core.Path.{◌∙◌}
+use Rattle.arrays.proofs.Arrays.{placed_part}
 use Rattle.totals.proofs.sums.laid.Goals as goal
 
-pub loop-c-init : goal.loop-c-init
-unfolding placed
-loop-c-init c = search rules
-
-pub loop-c-preserved : goal.loop-c-preserved
-loop-c-preserved c = (omega arith, place_next _ _ _ _ c.loop-c.invariant.1 refl)
+pub returns : goal.returns
+returns c = c.lay.ensures ∙ placed_part _ _ _ _ (omega arith)

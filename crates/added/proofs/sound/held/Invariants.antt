@@ -1,9 +1,0 @@
--- The invariant: so many bids are passed.
-use Prim.Native.Nat.{◌-◌, ◌≤◌}
-use Rattle.added.proofs.sound.held.Given as goal
-
-abbrev pub invariant-loop-j : goal.invariant-loop-j
-invariant-loop-j l = l.j ≤ l.count
-
-abbrev pub decreases-loop-j : goal.decreases-loop-j
-decreases-loop-j l = l.count - l.j
