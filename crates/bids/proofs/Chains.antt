@@ -40,14 +40,6 @@ free_more recs a r k f n = record {
   none = λ j h l e. ⊎_elim (λ (q : j ≡ k). n (subst (λ (x : ℕ). (bid_at recs x).app ≡ a) q e)) (λ q. f.none j h q e) (eq-or-lt_of_le (omega arith));
 }
 
--- what a link tells: of bid k, where it is of the application; and of the application
-pub free_next : (recs previous : List ℕ) (i k a : ℕ) {r : ℕ} → Previous recs previous i → k < i → (bid_at recs k).app ≡ a → r ≡ get_or previous k k
-    → Free recs a r k
-free_next recs previous i k a {r} b h e p = subst (λ (x : ℕ). Free recs x r k) e (subst (λ (x : ℕ). Free recs (bid_at recs k).app x k) (sym p) (b.each k h))
-
-pub free_first : (recs latest : List ℕ) (i b : ℕ) {a r : ℕ} → Latest recs latest i → a ≡ b → r ≡ get_or latest a i → Free recs b r i
-free_first recs latest i b {a} {r} l e p = subst (λ (x : ℕ). Free recs x r i) e (subst (λ (x : ℕ). Free recs a x i) (sym p) (l.each a))
-
 -- ---- bid i is accepted
 
 pub latest_next : (recs latest : List ℕ) (i a : ℕ) {l : List ℕ} → Latest recs latest i → a ≡ (bid_at recs i).app → l ≡ set latest a (i + 1)

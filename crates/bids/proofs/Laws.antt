@@ -1,9 +1,8 @@
 -- Equal numbers are judged alike; and the rules that read nothing but the bids. Assumes nothing.
-use Prim.Native.Nat.{ℕ, ◌+◌, ◌*◌, ◌≤◌, ◌<◌}
+use Prim.Native.Nat.{ℕ, ◌≤◌, ◌<◌}
 use mathlib.Core.List.{List}
 use mathlib.Core.Path.{◌≡◌, refl, sym, ap, ◌∙◌}
 use native.Mathlib.Omega.{arith}
-use native.Mathlib.Nat.{mul-le-mul_right}
 use Rattle.std.specs.Prelude.{Bool, true, false, eqb}
 use Rattle.std.specs.Int.{from_bool}
 use mathlib.Core.Logic.{⊎_elim}
@@ -15,7 +14,7 @@ use Rattle.rules.specs.declared.Sections.{Sections}
 use Rattle.layout.specs.Layout.{years_in, technologies_in, applications_in}
 use Rattle.layout.proofs.Laws.{read_in}
 use Rattle.laws_reading.specs.Walk.{given_yes, given_no, same_rule, found, passed}
-use Rattle.bids.specs.Bids.{judge_of, held_of, tables_of, TablesRight, alone}
+use Rattle.bids.specs.Bids.{judge_of, held_of, tables_of, alone}
 
 -- the rule of the numbers that were read in the parts of the file is the rule of the bid
 pub held_is : (s : List ℕ) (g : Sections) (b : Bid) {a : App} {r most-days admin : ℕ} {years techs apps : List ℕ}
@@ -35,16 +34,6 @@ pub rest_asked : (s recs : List ℕ) (g : Sections) (i : ℕ) {r : ℕ} {b : Bid
 unfolding held_of judge_of seven_of
 rest_asked s recs g i e p l h =
     e ∙ ap (held_of s g) p ∙ same_rule _ _ _ (λ w. (rw p at l, (rw p at h, w))) (λ w. w.1.1)
-
--- the technology of an application that was read
-pub tech_known : (s : List ℕ) (g : Sections) {a : App} (n : ℕ) {apps : List ℕ} → TablesRight s g → apps ≡ applications_in s g → a ≡ app_at apps n
-    → n < g.applications
-    → a.tech < g.technologies
-tech_known s g n T ea p l = rw (p ∙ ap (λ (x : List ℕ). app_at x n) ea) (T.tech n l)
-
--- record x of t stands whole in what t records occupy
-pub record_whole : (x t w : ℕ) {l : ℕ} → x < t → t * w ≤ l → x * w + w ≤ l
-record_whole x t w h e = omega (arith, mul-le-mul_right w h)
 
 -- "for bids 7, then 8, then 9": 7 is broken, or it is kept and 8 and 9 are asked, which read nothing but the bids
 module _ (R : Round) (i : ℕ) where

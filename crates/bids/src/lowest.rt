@@ -1,13 +1,25 @@
 // Rule 11: the lowest bid of an application in a year is a multiple of 10.
-ghost use Rattle.std.specs.Prelude.{◌≡◌, ◌+◌, ◌*◌, ◌≤◌, ◌<◌, ◌^◌, length};
+ghost use Rattle.std.specs.Prelude.{true, false, ◌≡◌, ◌+◌, ◌*◌, ◌≤◌, ◌<◌, ◌^◌, length};
+ghost use Rattle.std.proofs.Math.Decide.{dec_lt};
 ghost use Rattle.rules.specs.Names.{bid_width};
+ghost use Rattle.rules.specs.File.{bid_at};
+ghost use Rattle.rules.specs.Lists.{given, both};
 ghost use Rattle.rules.specs.Reading.{fault_in, reading_in};
-ghost use Rattle.rules.specs.Refusals.{eleven_of};
+ghost use Rattle.rules.specs.Refusals.{same_year?, eleven_of};
+ghost use Rattle.layout.specs.Layout.{Room};
 ghost use Rattle.bids.specs.Bids.{alone, lowest_of};
 
 use super::earlier::same_year;
 use layout::bid;
 use rules::{Refusal, Rule, Sections};
+
+// Is bid k of bid i's application, in its year, and lower than that price?
+fn lower(recs: &[u8], k: usize, i: usize, price: u64) -> bool
+    requires { Room recs.now bid_width k × Room recs.now bid_width i }
+    ensures { result ≡ given (both (same_year? (alone recs.now i) k i) (dec_lt (bid_at recs.now k).price price)) true false }
+{
+    same_year(recs, k, i) && bid::price(recs, k) < price
+}
 
 // Rule 11 of bid i, of n: its price is a multiple of 10, or a bid of its application in its year is lower.
 fn eleven(recs: &[u8], n: usize, i: usize) -> Result<(), Rule>
@@ -18,10 +30,8 @@ fn eleven(recs: &[u8], n: usize, i: usize) -> Result<(), Rule>
     if price % names::PRICE_STEP == 0 {
         return Ok(());
     }
-    for k in 0..n {
-        if same_year(recs, k, i) && bid::price(recs, k) < price {
-            return Ok(());
-        }
+    if (0..n).any(|k| lower(recs, k, i, price)) {
+        return Ok(());
     }
     Err(Rule::LowestUneven)
 }

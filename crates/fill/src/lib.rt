@@ -1,13 +1,13 @@
 // The sheet of one pot, filled from the sections of an accepted file. The numbers that are lent are blank.
 #![tactic(auto)]
 
-ghost use Rattle.std.specs.Prelude.{◌≡◌, ◌+◌, ◌≤◌, ◌<◌, length};
+ghost use Rattle.std.specs.Prelude.{◌≡◌, ◌≤◌, ◌<◌};
 ghost use Rattle.rules.specs.Names.{most_bids, most_apps, long_year, largest_capacity};
 ghost use Rattle.rules.specs.Round.{pot_of};
 ghost use Rattle.layout.specs.Layout.{bid_shown};
-ghost use Rattle.sheet.specs.Sheet.{sheet_length, places, pot_in, Ready};
+ghost use Rattle.sheet.specs.Sheet.{places, pot_in, Ready};
 ghost use Rattle.rows.specs.Rows.{round_in};
-ghost use Rattle.fill.specs.Fill.{Blank, BlankAdmins, BlankFrom, Put, tech_of, RowsRight, AdminsRight, AllFigures, RowsWritten, AdminsWritten, FiguresOf};
+ghost use Rattle.fill.specs.Fill.{Blank, BlankAdmins, BlankFrom, tech_of, RowsRight, AdminsRight, AllFigures, RowsWritten, AdminsWritten, FiguresOf};
 ghost use Rattle.fill.specs.Fill.{FiguresWritten, LimitsWritten, CapWritten, DrawnWritten, Entered, size_of};
 
 use layout::bid::Bid;
@@ -15,21 +15,13 @@ use layout::parts;
 use rows::RoundFile;
 use sheet::{Cells, Size};
 
-// The numbers v at a place of the sheet.
-fn put(cells: &mut Cells, at: usize, v: &[u64])
-    requires { at + length v.now ≤ sheet_length }
-    ensures { Put v.now (length v.now) at cells.old cells.new }
-{
-    cells[at..at + v.len()].copy_from_slice(v);
-}
-
 // The rows of all bids. Those of other pots are zeros, and so are those after the last bid.
 fn fill_rows(round: &RoundFile, p: usize, cells: &mut Cells)
     ensures { RowsWritten (round_in round.now.file.now round.now.sections) p cells.old cells.new }
 {
     for k in 0..names::BIDS {
         let v = round.row(p, k);
-        put(cells, sheet::ROWS_AT + k * sheet::ROW, &v);
+        arrays::lay(cells, &v, sheet::ROWS_AT + k * sheet::ROW);
     }
 }
 
@@ -55,10 +47,10 @@ fn fill_years(round: &RoundFile, bid: Bid, k: usize, cells: &mut Cells)
     cells[sheet::FIGURES_AT + k * sheet::FIGURES] = bid.capacity;
     for y in 0..round.sections.years {
         let v = round.figure(its.technology, bid, y);
-        put(
+        arrays::lay(
             cells,
-            sheet::FIGURES_AT + k * sheet::FIGURES + sheet::CAPACITY + y * sheet::FIGURE,
             &v,
+            sheet::FIGURES_AT + k * sheet::FIGURES + sheet::CAPACITY + y * sheet::FIGURE,
         );
     }
 }

@@ -29,13 +29,13 @@ fn compact(of: Size, set: [bool; BIDS]) -> [usize; WIDEST_TIE]
     list
 }
 
-// How many of the first bids of a list, `count` of them, have a draw above x.
-fn above(sheet: &Sheet, list: &[usize; WIDEST_TIE], count: usize, x: u64) -> u32
-    requires { Numbers list.now count sheet.now.size.bids }
-    ensures { result ≡ above_of sheet.now.cells.now list.now x count }
+// How many bids of a list have a draw above x.
+fn above(sheet: &Sheet, list: &[usize], x: u64) -> u32
+    requires { Numbers list.now (length list.now) sheet.now.size.bids }
+    ensures { result ≡ above_of sheet.now.cells.now list.now x (length list.now) }
 {
     let mut n: u32 = 0;
-    for k in &list[..count] {
+    for k in list {
         if sheet::draw(sheet.cells, *k) > x {
             n += 1;
         }
@@ -44,24 +44,24 @@ fn above(sheet: &Sheet, list: &[usize; WIDEST_TIE], count: usize, x: u64) -> u32
 }
 
 // The binary place of each bid: the lowest draw highest.
-fn ranks(sheet: &Sheet, list: &[usize; WIDEST_TIE], count: usize) -> [u32; WIDEST_TIE]
-    requires { Numbers list.now count sheet.now.size.bids }
-    ensures { result ≡ ranks_of sheet.now.cells.now list.now count }
+fn ranks(sheet: &Sheet, list: &[usize]) -> [u32; WIDEST_TIE]
+    requires { Numbers list.now (length list.now) sheet.now.size.bids }
+    ensures { result ≡ ranks_of sheet.now.cells.now list.now (length list.now) }
 {
     let mut out = [0u32; WIDEST_TIE];
-    for j in 0..count {
-        out[j] = above(sheet, list, count, sheet::draw(sheet.cells, list[j]));
+    for j in 0..list.len() {
+        out[j] = above(sheet, list, sheet::draw(sheet.cells, list[j]));
     }
     out
 }
 
 // The start year of each bid.
-fn starts(sheet: &Sheet, list: &[usize; WIDEST_TIE], count: usize) -> [u32; WIDEST_TIE]
-    requires { Numbers list.now count sheet.now.size.bids }
-    ensures { result ≡ starts_of sheet.now.cells.now list.now count }
+fn starts(sheet: &Sheet, list: &[usize]) -> [u32; WIDEST_TIE]
+    requires { Numbers list.now (length list.now) sheet.now.size.bids }
+    ensures { result ≡ starts_of sheet.now.cells.now list.now (length list.now) }
 {
     let mut out = [0u32; WIDEST_TIE];
-    for j in 0..count {
+    for j in 0..list.len() {
         out[j] = sheet::year(sheet.cells, list[j]) as u32;
     }
     out
@@ -73,8 +73,8 @@ pub fn gathered(sheet: &Sheet, set: [bool; BIDS], count: usize) -> Tied
     ensures { result ≡ tied_of sheet.now.cells.now sheet.now.size set count }
 {
     let bids = compact(sheet.size, set);
-    let ranks = ranks(sheet, &bids, count);
-    let starts = starts(sheet, &bids, count);
+    let ranks = ranks(sheet, &bids[..count]);
+    let starts = starts(sheet, &bids[..count]);
     Tied {
         count,
         bids,

@@ -7,7 +7,7 @@ ghost use Rattle.rows.specs.Factors.{InScale};
 use rows::RoundFile;
 use rows::factors::Factors;
 use std::io;
-use text::figure::Figure;
+use text::figure::{Figure, one_column};
 use value::Valuation;
 use value::wide::Wide;
 
@@ -30,17 +30,8 @@ fn wide(out: &impl Print, name: &str, n: Wide) -> io::Result<()> {
     figure(out, name, Figure::number(n), NUMBER_AT)
 }
 
-// A number whose upper column is empty.
 fn line(out: &impl Print, name: &str, n: u64) -> io::Result<()> {
-    wide(
-        out,
-        name,
-        Wide {
-            upper: 0,
-            column: 10,
-            lower: n,
-        },
-    )
+    wide(out, name, one_column(n))
 }
 
 // A number of pence, in pounds.

@@ -29,10 +29,8 @@ fn pot_fault(of: &Pots, p: usize) -> Result<(), Rule>
     if of.recs.len() - of.place(p) < of.width() {
         return Err(Rule::EndsEarly);
     }
-    for y in 0..of.years {
-        if names::HIGHEST_BUDGET < of.budget(p, y) {
-            return Err(Rule::PotBroken);
-        }
+    if (0..of.years).any(|y| of.budget(p, y) > names::HIGHEST_BUDGET) {
+        return Err(Rule::PotBroken);
     }
     if of.gained == 0 {
         return Ok(());

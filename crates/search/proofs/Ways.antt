@@ -11,7 +11,7 @@ use lib.ListN.{length, get_or, set, replicate, length-set}
 use lib.Pow.{pow_mono}
 use lib.Dec.{eqb, leb, ltb}
 use borrow.Author.Tests.{eqb-true, eqb-false, ne_eqb, le-leb, ltb-true, ltb-false}
-use Rattle.std.specs.Prelude.{Option, None}
+use Rattle.std.specs.Prelude.{Option, None, Some, MatchOption, ⊤}
 use Rattle.rules.specs.Names.{widest_tie}
 use Rattle.rules.specs.Lists.{sift, below}
 use Rattle.rules.specs.Pot.{has, at_place}
@@ -32,6 +32,7 @@ use Rattle.arrays.proofs.Arrays.{put_is}
 use Rattle.ties.proofs.Laws.{listed_same, addable_in, addable_out, full_stops, drawing, answer_top, answer_none, answer_place, power_low}
 use Rattle.branches.specs.Branches.{Unsought, Passed, near_by}
 use Rattle.search.specs.declared.kept.Aim.{Aim}
+use Rattle.added.specs.declared.whole.Narrow.{Narrow}
 use Rattle.added.specs.Added.{Rising, Onto, Busy, Narrows, Addable, Closes}
 use Rattle.search.specs.Search.{Seeking, stretches, stretch_end, kept_before, Tallied, Stands, TooFew, place_of}
 use Rattle.added.proofs.Rise.{cuttable, gains, adding}
@@ -124,7 +125,7 @@ module _ (ok : ℕ → Bool) (tied : Tied) (placed : Placed tied) (m : ℕ) wher
           full_stops ok tied.ranks m b.bid refl tied.count (ap (addable_of ok m) b.is ∙ a.is) b.low
 
 -- where each bid adds to the total, one that is near is full
-module _ (sheet : List ℕ) (of : Size) (table : List ℕ) (tied : Tied) (aim : Aim) (S : Seeking sheet of table tied aim) (e : aim.idle ≡ false) where
+module _ (sheet : List ℕ) (of : Size) (table : List ℕ) (tied : Tied) (aim : Aim) (S : Seeking sheet of table tied aim) (e : aim.idle ≡ None) where
   pub near_whole : (m : ℕ) {b : Bool} → m < 2 ^ tied.count → b ≡ near_by (ok_by sheet of table) (last_by of table) aim.most m → b ≡ true
       → true ≡ full_to (ok_by sheet of table) tied.ranks m tied.count
   near_whole m l eb h = full_all (ok_by sheet of table) tied S.drawing.placed m shut tied.count (omega arith)
@@ -173,16 +174,20 @@ module _ (sheet : List ℕ) (of : Size) (base : List ℕ) (tied : Tied) (p : ℕ
 
   -- what the walk over those kept needs
   pub seeking : Onto tied → {b : declared.Best} {aim : Aim} → b ≡ best_of (ok_by sheet of table) (last_by of table) (2 ^ tied.count) → aim.most ≡ b.total
-      → (aim.idle ≡ false → Busy of own tied) → Narrows of table tied.count aim.narrow → Seeking sheet of table tied aim
-  seeking O eb em h N = record {
+      → MatchOption aim.idle (Busy of own tied) (Narrows of table tied.count) → Seeking sheet of table tied aim
+  seeking O eb em h = record {
     drawing = drawing sheet of base tied p B G eo et;
     cuts = cuts_of;
     onto = O;
     adding = adding base own tied.ranks tied.starts tied.count R G.placed.starts et;
-    narrow = N;
+    narrow = narrowed _ h;
     top = λ m l t. omega (arith, em, top_best sheet of table tied cuts_of (power_low G.placed.few) eb m l t);
-    gain = λ e m j. gaining m j (h e);
+    gain = λ e m j. gaining m j (rw e at h);
   }
+    where
+      narrowed : (o : Option Narrow) → MatchOption o (Busy of own tied) (Narrows of table tied.count) → MatchOption o ⊤ (Narrows of table tied.count)
+      narrowed None h = tt
+      narrowed (Some r) h = h
 
 module _ (sheet : List ℕ) (of : Size) (base : List ℕ) (tied : Tied) (p : ℕ) where
   pub top_is : {own table : List ℕ} {b : declared.Best} → own ≡ owns_of sheet of tied.bids p tied.count

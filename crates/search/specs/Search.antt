@@ -1,5 +1,5 @@
 -- What the functions of `search` compute and need: those kept. Assumes nothing.
-use Rattle.std.specs.Prelude.{ℕ, ◌+◌, ◌*◌, ◌^◌, ◌≤◌, ◌<◌, min, ◌≡◌, Bool, true, false, List, length, get_or}
+use Rattle.std.specs.Prelude.{ℕ, ◌+◌, ◌*◌, ◌^◌, ◌≤◌, ◌<◌, min, ◌≡◌, ⊤, Bool, true, false, List, length, get_or, None, MatchOption}
 use Rattle.rules.specs.Lists.{sift, below}
 use Rattle.rules.specs.Pot.{has, at_place}
 use Rattle.sheet.specs.declared.Size.{Size}
@@ -15,9 +15,9 @@ pub record Seeking (sheet : List ℕ) (of : Size) (table : List ℕ) (tied : Tie
   pub cuts : Cuttable (ok_by sheet of table) (last_by of table)
   pub onto : Onto tied
   pub adding : Adds table
-  pub narrow : Narrows of table tied.count aim.narrow
+  pub narrow : MatchOption aim.idle ⊤ (Narrows of table tied.count)
   pub top : (m : ℕ) → m < 2 ^ tied.count → ok_by sheet of table m ≡ true → last_by of table m ≤ aim.most
-  pub gain : aim.idle ≡ false → (m j : ℕ) → m < 2 ^ tied.count → j < tied.count → has m (get_or tied.ranks j 0) ≡ false
+  pub gain : aim.idle ≡ None → (m j : ℕ) → m < 2 ^ tied.count → j < tied.count → has m (get_or tied.ranks j 0) ≡ false
       → last_by of table m < last_by of table (m + 2 ^ get_or tied.ranks j 0)
 
 -- ---- the branches of a tie in which the lowest three parts are undecided: where the first k of them end, of n combinations

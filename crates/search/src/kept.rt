@@ -1,8 +1,8 @@
 // Those kept, from the smallest number on: how many, counted stretch by stretch, and the one at a place, for which its stretch alone is gone through once more.
-ghost use Rattle.std.specs.Prelude.{◌≡◌, ◌+◌, ◌^◌, ◌≤◌, ◌<◌, MatchOption};
+ghost use Rattle.std.specs.Prelude.{true, ◌≡◌, ◌+◌, ◌^◌, ◌≤◌, ◌<◌, MatchOption};
 ghost use Rattle.combinations.specs.Combinations.{combinations};
-ghost use Rattle.ties.specs.Ties.{Searching, Cuttable, ok_by, last_by, kept_by, listed_of};
-ghost use Rattle.branches.specs.Branches.{Passed};
+ghost use Rattle.ties.specs.Ties.{Searching, Cuttable, ok_by, last_by, full_to, kept_by, listed_of};
+ghost use Rattle.branches.specs.Branches.{Passed, near_by};
 ghost use Rattle.search.specs.Search.{Seeking, stretches, stretch_end, Tallied, Stands, TooFew, place_of};
 
 use added::whole::{Narrow, whole};
@@ -20,41 +20,52 @@ pub const STRETCHES: usize = PART;
 // Where a bid is worth nothing in the last year, branches in which two binary places are undecided are looked at too.
 const TWO_PLACES: u32 = 4;
 
-// What is sought: the greatest total in the last year; whether a bid is worth nothing then (if none is, no bid can be added to a combination that has the
-// greatest), and how little a bid counts; and the place of the one that is asked for.
+// What is sought: the greatest total in the last year; where a bid is worth nothing then, how little a bid counts (where none is, no bid can be added to a
+// combination that has the greatest); and the place of the one that is asked for.
 #[derive(Clone, Copy)]
 pub struct Aim {
     pub most: u64,
-    pub idle: bool,
-    pub narrow: Narrow,
+    pub idle: Option<Narrow>,
     pub place: u64,
 }
 
 // How many from there on can be passed over: a branch, or those of one that have another total; where a bid is idle most have the same, and a small branch is
 // tried instead.
-fn rise(sheet: &Sheet, table: &Table, most: u64, idle: bool, from: Ahead) -> u32
+fn rise(sheet: &Sheet, table: &Table, aim: Aim, from: Ahead) -> u32
     requires searching { Searching sheet.now.cells.now sheet.now.size table.now × Cuttable (ok_by sheet.now.cells.now sheet.now.size table.now) (last_by sheet.now.size table.now) }
     requires left_nonzero { (0 < from.left) × (from.mask + from.left ≤ combinations) }
-    ensures { Passed (ok_by sheet.now.cells.now sheet.now.size table.now) (last_by sheet.now.size table.now) most from.mask from.left result }
+    ensures { Passed (ok_by sheet.now.cells.now sheet.now.size table.now) (last_by sheet.now.size table.now) aim.most from.mask from.left result }
 {
     if from.mask % ONE_LOW == 0 {
-        let three = passed(sheet, table, most, from, THREE_LOW);
+        let three = passed(sheet, table, aim.most, from, THREE_LOW);
         if three > 0 {
             return three;
         }
-        let two = passed(sheet, table, most, from, TWO_LOW);
+        let two = passed(sheet, table, aim.most, from, TWO_LOW);
         if two > 0 {
             return two;
         }
-        let one = passed(sheet, table, most, from, ONE_LOW);
+        let one = passed(sheet, table, aim.most, from, ONE_LOW);
         if one > 0 {
             return one;
         }
     }
-    if idle {
-        return passed(sheet, table, most, from, TWO_PLACES);
+    if aim.idle.is_some() {
+        return passed(sheet, table, aim.most, from, TWO_PLACES);
     }
-    others(sheet.size, table, most, from.mask).min(from.left)
+    others(sheet.size, table, aim.most, from.mask).min(from.left)
+}
+
+// Can no other bid be added to one that is near? Where each bid is worth something in the last year none can.
+fn full(sheet: &Sheet, table: &Table, tied: Tied, aim: Aim, mask: u32) -> bool
+    requires seeking { Seeking sheet.now.cells.now sheet.now.size table.now tied aim × (mask < 2 ^ tied.count) }
+    requires near { near_by (ok_by sheet.now.cells.now sheet.now.size table.now) (last_by sheet.now.size table.now) aim.most mask ≡ true }
+    ensures { result ≡ full_to (ok_by sheet.now.cells.now sheet.now.size table.now) tied.ranks mask tied.count }
+{
+    let Some(narrow) = aim.idle else {
+        return true;
+    };
+    whole(sheet, table, tied.count as u32, narrow, mask)
 }
 
 // The combinations from `mask` on and before `end`; and of those before, how many are kept and the one at a place.
@@ -82,13 +93,11 @@ fn walk(sheet: &Sheet, table: &Table, tied: Tied, aim: Aim, on: Stretch) -> List
             mask,
             left: end - mask,
         };
-        let passed = rise(sheet, table, aim.most, aim.idle, from);
+        let passed = rise(sheet, table, aim, from);
         if passed > 0 {
             mask += passed;
         } else {
-            if near(sheet, table, aim.most, mask)
-                && (!aim.idle || whole(sheet, table, tied.count as u32, aim.narrow, mask))
-            {
+            if near(sheet, table, aim.most, mask) && full(sheet, table, tied, aim, mask) {
                 list = counted(list, mask, aim.place);
             }
             mask += 1;

@@ -2,21 +2,34 @@
 // specs/Search.antt says what each function computes.
 #![tactic(auto)]
 
-ghost use Rattle.std.specs.Prelude.{true, ◌≡◌};
+ghost use Rattle.std.specs.Prelude.{true, ◌≡◌, MatchOption};
 ghost use Rattle.sheet.specs.Sheet.{one_more};
 ghost use Rattle.combinations.specs.Combinations.{Gathered};
-ghost use Rattle.ties.specs.Ties.{Based, top_by, table_for, answer_of, choice_of};
+ghost use Rattle.ties.specs.Ties.{Based, Drawing, top_by, table_for, answer_of, choice_of};
+ghost use Rattle.added.specs.Added.{Busy, Narrows};
 
 mod kept;
 
+use added::whole::Narrow;
 use added::{sound, whole};
 use branches::greatest::greatest;
-use combinations::tables::Base;
+use combinations::tables::{Base, Owns, Table};
 use combinations::{Tied, tables};
 use kept::Aim;
 use sheet::Sheet;
 use ties::Choice;
 use ties::listing::{Answer, listing};
+
+// Where some bid is worth nothing in the last year: how little a bid counts, and in which column.
+fn idle(sheet: &Sheet, own: &Owns, table: &Table, tied: Tied) -> Option<Narrow>
+    requires { Drawing sheet.now.cells.now sheet.now.size table.now tied }
+    ensures { MatchOption result (Busy sheet.now.size own.now tied) (Narrows sheet.now.size table.now tied.count) }
+{
+    if !sound::idle(sheet.size, own, tied) {
+        return None;
+    }
+    Some(whole::narrow_column(sheet, table, tied.count as u32))
+}
 
 // The combination that a tie takes, and among how many it is drawn, as `listing` has them.
 pub fn search(sheet: &Sheet, base: &Base, tied: Tied, price: u64, drawn: Option<u64>) -> Answer
@@ -31,8 +44,7 @@ pub fn search(sheet: &Sheet, base: &Base, tied: Tied, price: u64, drawn: Option<
     let found = greatest(sheet, &table, tied.count);
     let aim = Aim {
         most: found.total,
-        idle: sound::idle(sheet.size, &own, tied),
-        narrow: whole::narrow_column(sheet, &table, tied.count as u32),
+        idle: idle(sheet, &own, &table, tied),
         place: 0,
     };
     let counts = kept::tally(sheet, &table, tied, aim);

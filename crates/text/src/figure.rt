@@ -1,6 +1,7 @@
 // A number or an amount of money as people write it, its digits in groups of three: put down from the last digit to the first.
-ghost use Rattle.std.specs.Prelude.{◌+◌, ◌≤◌};
+ghost use Rattle.std.specs.Prelude.{◌+◌, ◌≡◌, ◌≤◌};
 ghost use Rattle.text.specs.Figure.{longest, Whole};
+ghost use Rattle.value.specs.Wide.{number_of};
 
 use value::wide::Wide;
 
@@ -20,6 +21,17 @@ const SIGN: [u8; 2] = [0xC2, 0xA3];
 pub struct Figure {
     pub places: [u8; PLACES],
     pub at: usize,
+}
+
+// A number whose upper column is empty.
+pub fn one_column(n: u64) -> Wide
+    ensures { number_of result ≡ n }
+{
+    Wide {
+        upper: 0,
+        column: 10,
+        lower: n,
+    }
 }
 
 // A number in front of what stands from a place on. A tenth of it is a tenth of the upper column, and what that leaves over goes into the lower one.
@@ -70,12 +82,7 @@ impl Figure {
             places,
             at: PLACES - 3,
         };
-        let whole = Wide {
-            upper: 0,
-            column: 10,
-            lower: pounds,
-        };
-        let Self { mut places, at } = before(after, whole);
+        let Self { mut places, at } = before(after, one_column(pounds));
         let at = at - SIGN.len();
         places[at..at + SIGN.len()].copy_from_slice(&SIGN);
         Self { places, at }

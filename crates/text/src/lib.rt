@@ -1,6 +1,8 @@
 // Numbers, amounts of money and refusals, as the programs for people write them. Where a write fails, what stands before it is written.
 #![tactic(auto)]
 
+ghost use Rattle.std.specs.Prelude.{◌<◌};
+
 pub mod figure;
 
 use figure::Figure;
@@ -15,6 +17,19 @@ pub struct Decimal {
     decimals: usize,
 }
 
+impl Decimal {
+    // Of a number of parts, so many of which make one.
+    fn of(n: u64, parts: u64, decimals: usize) -> Self
+        requires { 0 < parts }
+    {
+        Self {
+            whole: n / parts,
+            part: n % parts,
+            decimals,
+        }
+    }
+}
+
 impl fmt::Display for Decimal {
     fn fmt<W: fmt::Write>(&self, f: &mut fmt::Formatter<W>) -> fmt::Result {
         write!(f, "{}.{:02$}", self.whole, self.part, self.decimals)
@@ -22,28 +37,16 @@ impl fmt::Display for Decimal {
 }
 
 pub fn hundredths(n: u64) -> Decimal {
-    Decimal {
-        whole: n / 100,
-        part: n % 100,
-        decimals: 2,
-    }
+    Decimal::of(n, 100, 2)
 }
 
 pub fn thousandths(n: u64) -> Decimal {
-    Decimal {
-        whole: n / 1000,
-        part: n % 1000,
-        decimals: 3,
-    }
+    Decimal::of(n, 1000, 3)
 }
 
 // A number of ten-thousandths.
 pub fn factor(n: u64) -> Decimal {
-    Decimal {
-        whole: n / 10000,
-        part: n % 10000,
-        decimals: 4,
-    }
+    Decimal::of(n, 10000, 4)
 }
 
 pub fn money(out: &impl Print, pounds: u64, pence: u64) -> io::Result<()> {

@@ -13,20 +13,6 @@ unfolding bids_of
 loop-i-init c =
     (omega arith, refl, refl, c.requires.recs_bound.1, c.requires.recs_bound.2, rw (sub-zero c.args.done.bids))
 
-pub bid_fault-requires : goal.bid_fault-requires
-bid_fault-requires c =
-    let loop = c.loop-i in
-    let v = loop.invariant in record {
-      tables_right = c.requires.tables_right;
-      bid_width_in_bounds = (v.0, v.3, v.4);
-    }
-
-pub shape_of-latest-in-Err : goal.shape_of-latest-in-Err
-shape_of-latest-in-Err c = c.loop-i.invariant.1
-
-pub shape_of-previous-in-Err : goal.shape_of-previous-in-Err
-shape_of-previous-in-Err c = c.loop-i.invariant.2
-
 pub returns-in-Err : goal.returns-in-Err
 returns-in-Err c = at_fault _ _ _ _ _ _ c.loop-i.invariant.5 (omega arith) c.in-Err.ensures (numbered _)
 
@@ -46,12 +32,6 @@ loop-i-preserved c =
     let z = sym c.in_default.ensures in
     let w = (no_fault _ _ (bid_fault _) _ z).0 in
     (omega arith, c.accept.auto.latest ∙ v.1, c.accept.auto.previous ∙ v.2, e.0, e.1, goes_on_lem _ _ _ _ _ _ v.5 (omega arith) z)
-
-pub shape_of-latest : goal.shape_of-latest
-shape_of-latest c = c.loop-i.invariant.1
-
-pub shape_of-previous : goal.shape_of-previous
-shape_of-previous c = c.loop-i.invariant.2
 
 pub returns : goal.returns
 returns c = at_end _ _ _ _ _ _ c.loop-i.invariant.5 (omega arith)

@@ -2,7 +2,9 @@
 use native.Mathlib.Omega.{arith}
 use mathlib.Core.Path.{ap, ◌∙◌}
 use Rattle.rules.specs.File.{App}
+use Rattle.sheet.specs.Sheet.{figure_place}
 use Rattle.rows.proofs.Laws.{figure_length, its_tech}
+use Rattle.fill.proofs.Laid.{laid}
 use Rattle.fill.proofs.Laws.{figures_more}
 use Rattle.fill.proofs.fill_years.Goals as goal
 
@@ -16,8 +18,8 @@ figure-v-requires c =
 pub loop-y-preserved : goal.loop-y-preserved
 loop-y-preserved c =
     let inv = c.loop-y.invariant in
-    let put = c.put.ensures in
-    let three = figure_length _ _ _ _ c.figure-v.ensures in (
+    let three = figure_length _ _ _ _ c.figure-v.ensures in
+    let put = laid c.figure-v.result (figure_place c.args.k c.loop-y.y) c.loop-y.cells (omega (arith, inv.0)) c.lay.ensures in (
       put.same ∙ inv.0,
       put.kept _ (omega arith) ∙ inv.1,
       figures_more _ _ _ _ _ (ap (λ (a : App). a.tech) c.application-its.ensures) inv.2 c.figure-v.ensures put,

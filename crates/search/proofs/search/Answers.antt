@@ -12,12 +12,12 @@ table-table-requires c = gathered_owned _ _ _ c.requires.0.ready c.requires.1 c.
 pub greatest-found-requires : goal.greatest-found-requires
 greatest-found-requires c = ((drawing _ _ _ _ _ c.requires.0 c.requires.1 c.owns-own.ensures c.table-table.ensures).searching, cuts_of _ _ _ _ _ c.requires.0 c.requires.1 (c.sound.ensures c.if-not-sound.false).rising c.owns-own.ensures c.table-table.ensures, c.requires.1.placed.few)
 
-pub narrow_column-requires : goal.narrow_column-requires
-narrow_column-requires c = ((drawing _ _ _ _ _ c.requires.0 c.requires.1 c.owns-own.ensures c.table-table.ensures).searching, c.requires.1.placed.few)
+pub idle-requires : goal.idle-requires
+idle-requires c = drawing _ _ _ _ _ c.requires.0 c.requires.1 c.owns-own.ensures c.table-table.ensures
 
 pub tally-counts-requires : goal.tally-counts-requires
 tally-counts-requires c = let s = c.sound.ensures c.if-not-sound.false in
-    seeking _ _ _ _ _ c.requires.0 c.requires.1 s.rising c.owns-own.ensures c.table-table.ensures s.onto c.greatest-found.ensures refl c.idle.ensures c.narrow_column.ensures
+    seeking _ _ _ _ _ c.requires.0 c.requires.1 s.rising c.owns-own.ensures c.table-table.ensures s.onto c.greatest-found.ensures refl c.idle.ensures
 
 pub returns-in_default : goal.returns-in_default
 returns-in_default c = answer_is _ _ _ _ _ _ c.owns-own.ensures c.table-table.ensures
@@ -29,7 +29,7 @@ returns-then-ways-eq0 c = answer_is _ _ _ _ _ _ c.owns-own.ensures c.table-table
 
 pub at_place-mask-requires : goal.at_place-mask-requires
 at_place-mask-requires c = let s = c.sound.ensures c.if-not-sound.false in
-    (seeking _ _ _ _ _ c.requires.0 c.requires.1 s.rising c.owns-own.ensures c.table-table.ensures s.onto c.greatest-found.ensures refl c.idle.ensures c.narrow_column.ensures, c.tally-counts.ensures)
+    (seeking _ _ _ _ _ c.requires.0 c.requires.1 s.rising c.owns-own.ensures c.table-table.ensures s.onto c.greatest-found.ensures refl c.idle.ensures, c.tally-counts.ensures)
 
 pub returns : goal.returns
 returns c = answer_is _ _ _ _ _ _ c.owns-own.ensures c.table-table.ensures

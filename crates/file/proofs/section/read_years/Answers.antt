@@ -1,5 +1,4 @@
 -- `file::section::read_years` meets its contract: the count is refused, or the records' answer is the section's.
-use native.Mathlib.Omega.{arith}
 use Prim.Native.Nat.{◌≤◌}
 use mathlib.Core.Path.{refl}
 use lib.ListN.{length}
@@ -18,9 +17,6 @@ room c = (counted _ _ _ _ _ c.in_default.ensures refl).0
 
 pub count_at-n-requires : goal.count_at-n-requires
 count_at-n-requires c = room (goal.at.count_at-n-requires c).In_default
-
-pub years-requires : goal.years-requires
-years-requires c = omega (arith, room (goal.at.years-requires c).In_default)
 
 pub returns : goal.returns
 returns c =

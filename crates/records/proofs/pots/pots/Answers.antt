@@ -1,18 +1,13 @@
 -- `records::pots::pots` meets its contract: the records are judged in file order.
-use native.Mathlib.Omega.{arith}
 use mathlib.Core.Path.{ap, ◌∙◌}
 use Rattle.std.proofs.Common.{rules}
 use Rattle.rules.specs.Names.{pot_width}
 use Rattle.rules.specs.Reading.{reading_in}
 use Rattle.rules.specs.Refusals.{pot_fault}
 use Rattle.laws_reading.specs.Faults.{passed_on}
-use Rattle.laws_reading.specs.Reading.{gained_most}
 use Rattle.records.specs.Records.{pots_of}
 use Rattle.records.proofs.Laws.{whole_before, all_right, first_wrong}
 use Rattle.records.proofs.pots.pots.Goals as goal
-
-pub width-requires : goal.width-requires
-width-requires c = omega (arith, gained_most c.requires.1.0)
 
 pub in_order-requires : goal.in_order-requires
 in_order-requires c = λ i l N.

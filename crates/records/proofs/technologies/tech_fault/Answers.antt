@@ -1,7 +1,6 @@
 use native.Mathlib.Omega.{arith}
 use mathlib.Core.Path.{refl, sym, ap, ◌∙◌}
 use Rattle.rules.specs.Reading.{fault_in}
-use native.Mathlib.Nat.{not-suc-le-zero}
 use borrow.Author.Count.{below_more}
 use Rattle.rules.specs.Refusals.{record_fault, tech_fault}
 use Rattle.laws_reading.specs.Walk.{given_yes, given_no}
@@ -16,9 +15,6 @@ returns-then-of-place c = sym (given_no _ _ _ (λ h. omega arith))
 pub returns-then-pots-pot : goal.returns-then-pots-pot
 unfolding record_fault tech_fault
 returns-then-pots-pot c = sym (given_yes _ _ _ (omega arith) ∙ given_no _ _ _ (λ h. omega arith))
-
-pub loop-y-init : goal.loop-y-init
-loop-y-init c = λ j l. absurd (not-suc-le-zero l)
 
 pub returns-in_err-prices_fault : goal.returns-in_err-prices_fault
 unfolding record_fault tech_fault

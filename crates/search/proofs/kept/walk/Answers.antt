@@ -1,12 +1,10 @@
 -- The invariant: those kept of the combinations passed are counted.
 use native.Mathlib.Omega.{arith}
-use Prim.Native.Nat.{◌<◌, ◌^◌}
-use mathlib.Core.Path.{refl, ◌∙◌}
+use mathlib.Core.Path.{refl, sym, ◌∙◌}
 use Rattle.ties.proofs.Laws.{listed_few, listed_more, listed_same, power_low}
-use Rattle.laws_pot.specs.Lists.{not_is_true}
-use Rattle.search.proofs.Ways.{listed_past, passed_unkept, near_full, near_whole, near_not, closed_full}
+use Rattle.search.proofs.Ways.{listed_past, passed_unkept, near_full, near_not}
 use Rattle.search.proofs.kept.walk.Goals as goal
-use Rattle.search.proofs.kept.walk.Goals.{then-near+then-whole, then-not-aim, else-not-aim, else-near, else-near-via-then-near+else-whole, else-near-via-else-near}
+use Rattle.search.proofs.kept.walk.Goals.{then-near+then-full, else-near, else-near-via-then-near+else-full, else-near-via-else-near}
 
 pub rise-passed-requires : goal.rise-passed-requires
 rise-passed-requires c = record { searching = (c.requires.seeking.0.drawing.searching, c.requires.seeking.0.cuts); left_nonzero = (omega (arith, c.loop-mask-test.true), omega (arith, c.loop-mask.invariant.0, c.requires.seeking.2, power_low c.requires.seeking.0.drawing.placed.few)) }
@@ -20,8 +18,8 @@ loop-mask-preserved-then-passed-gt0 c = (
 pub near-requires : goal.near-requires
 near-requires c = (c.requires.seeking.0.drawing.searching, omega (arith, c.loop-mask-test.true, c.requires.seeking.2, power_low c.requires.seeking.0.drawing.placed.few))
 
-pub whole-requires : goal.whole-requires
-whole-requires c = (c.requires.seeking.0.drawing.searching, c.requires.seeking.0.adding, c.requires.seeking.0.drawing.placed.few, c.requires.seeking.0.narrow, omega (arith, c.loop-mask-test.true, c.requires.seeking.2, power_low c.requires.seeking.0.drawing.placed.few))
+pub full-requires : goal.full-requires
+full-requires c = record { seeking = (c.requires.seeking.0, omega (arith, c.loop-mask-test.true, c.requires.seeking.2)); near = sym c.near.ensures ∙ c.if-near.true }
 
 pub counted-list-requires : goal.counted-list-requires
 counted-list-requires c = omega (arith, listed_few _ _ c.loop-mask.mask c.loop-mask.invariant.1, c.loop-mask-test.true, c.requires.seeking.2, power_low c.requires.seeking.0.drawing.placed.few)
@@ -29,20 +27,12 @@ counted-list-requires c = omega (arith, listed_few _ _ c.loop-mask.mask c.loop-m
 pub loop-mask-preserved : goal.loop-mask-preserved
 loop-mask-preserved c =
     let inv = c.loop-mask.invariant.1 in
-    let n = c.near.ensures in
-    let seeking = c.requires.seeking.0 in
-    let small : c.loop-mask.mask < 2 ^ c.args.tied.count = omega (arith, c.loop-mask-test.true, c.requires.seeking.2) in (
+    let n = c.near.ensures in (
       omega (arith, c.loop-mask-test.true),
       elim c.if-near.branch [
-        | then-near+then-whole w ↦ w.list-is ∙ listed_more _ _ _ inv (near_full _ _ _ c.args.tied _ _ n {f = w.if-not-aim.value} w.if-near.true (elim w.if-not-aim.branch [
-          | then-not-aim v ↦ v.value-is ∙ v.if-not-aim.true ∙ near_whole _ _ _ _ _ seeking (not_is_true _ v.if-not-aim.true) _ small n w.if-near.true
-          | else-not-aim v ↦ v.value-is ∙ closed_full _ c.args.tied seeking.drawing.placed _ seeking.onto v.whole.ensures
-        ])) w.if-whole.true w.counted-list.ensures
+        | then-near+then-full w ↦ w.list-is ∙ listed_more _ _ _ inv (near_full _ _ _ c.args.tied _ _ n w.if-near.true w.full.ensures) w.if-full.true w.counted-list.ensures
         | else-near w ↦ w.list-is ∙ (elim w.else-near.branch [
-          | else-near-via-then-near+else-whole u ↦ listed_same _ _ _ inv (near_full _ _ _ c.args.tied _ _ n {f = u.if-not-aim.value} u.if-near.true (elim u.if-not-aim.branch [
-            | then-not-aim v ↦ v.value-is ∙ v.if-not-aim.true ∙ near_whole _ _ _ _ _ seeking (not_is_true _ v.if-not-aim.true) _ small n u.if-near.true
-            | else-not-aim v ↦ v.value-is ∙ closed_full _ c.args.tied seeking.drawing.placed _ seeking.onto v.whole.ensures
-          ])) u.if-whole.false
+          | else-near-via-then-near+else-full u ↦ listed_same _ _ _ inv (near_full _ _ _ c.args.tied _ _ n u.if-near.true u.full.ensures) u.if-full.false
           | else-near-via-else-near u ↦ listed_same _ _ _ inv (near_not _ _ _ c.args.tied _ _ n u.if-near.false) refl
         ])
       ],
