@@ -2,7 +2,7 @@
  *
  * The library is one archive for x86-64 with these two functions. Both are proved to answer, for every file and every lent result, as the rules
  * say. They keep no state and have no globals: any number of threads may call them at once, each with a result of its own. They allocate
- * nothing, call nothing of the C library but memcpy and memset, and use about 170 KiB of stack: no function calls itself, and what a tie
+ * nothing, call nothing of the C library but memcpy and memset, and use about 190 KiB of stack: no function calls itself, and what a tie
  * needs does not grow with its combinations. docs/PERFORMANCE.md says how long a file may take. */
 #ifndef GUSTMIRROR_H
 #define GUSTMIRROR_H

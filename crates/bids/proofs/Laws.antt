@@ -3,17 +3,21 @@ use Prim.Native.Nat.{ℕ, ◌≤◌, ◌<◌}
 use mathlib.Core.List.{List}
 use mathlib.Core.Path.{◌≡◌, refl, sym, ap, ◌∙◌}
 use native.Mathlib.Omega.{arith}
-use Rattle.std.specs.Prelude.{Bool, true, false, eqb}
+use Rattle.std.specs.Prelude.{Bool, true, false, eqb, ⊤, Result, Ok, Err}
+use Rattle.std.specs.Result.{result_and}
 use Rattle.std.specs.Int.{from_bool}
 use mathlib.Core.Logic.{⊎_elim}
 use Rattle.std.proofs.lemmas.Bool.Decides.{eqb_tells}
 use Rattle.rules.specs.Lists.{given}
 use Rattle.rules.specs.File.{Round, App, Bid, year_at, tech_at, app_at, bid_at}
+use Rattle.rules.specs.Reading.{fault_in}
+use Rattle.rules.specs.declared.Rule.{Rule}
 use Rattle.rules.specs.Refusals.{or_fault, seven_of, eight_of, nine_of, bid_fault}
 use Rattle.rules.specs.declared.Sections.{Sections}
 use Rattle.layout.specs.Layout.{years_in, technologies_in, applications_in}
 use Rattle.layout.proofs.Laws.{read_in}
 use Rattle.laws_reading.specs.Walk.{given_yes, given_no, same_rule, found, passed}
+use Rattle.laws_reading.specs.Faults.{numbered}
 use Rattle.bids.specs.Bids.{judge_of, held_of, tables_of, alone}
 
 -- the rule of the numbers that were read in the parts of the file is the rule of the bid
@@ -44,6 +48,12 @@ module _ (R : Round) (i : ℕ) where
   pub seven_kept : {r : ℕ} → 0 ≡ seven_of R i → r ≡ or_fault (eight_of (alone R.bids i) i) (nine_of (alone R.bids i) i) → r ≡ bid_fault R i
   unfolding bid_fault eight_of nine_of
   seven_kept e f = passed _ _ e refl f
+
+  pub seven_then : (s e : Result ⊤ Rule) → fault_in s ≡ seven_of R i
+      → fault_in e ≡ or_fault (eight_of (alone R.bids i) i) (nine_of (alone R.bids i) i)
+      → fault_in (result_and s e) ≡ bid_fault R i
+  seven_then (Ok none) e p q = seven_kept p q
+  seven_then (Err rule) e p q = seven_first p (numbered rule)
 
 -- ---- tests of what a rule is about
 

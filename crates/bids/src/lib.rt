@@ -29,8 +29,7 @@ fn bid_fault(
     if recs.len() - i * names::BID_WIDTH < names::BID_WIDTH {
         return Err(Rule::EndsEarly);
     }
-    seven::seven(file, recs, done, i)?;
-    earlier::eight_nine(recs, latest, previous, i)
+    seven::seven(file, recs, done, i).and(earlier::eight_nine(recs, latest, previous, i))
 }
 
 // The bids' records, where no bid is chained yet.

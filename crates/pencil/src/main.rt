@@ -42,7 +42,7 @@ fn accepted(rt: &(impl Print + Env), round: &RoundFile) -> io::Result<()> {
 fn print(rt: &(impl Print + Env), file: &[u8]) -> io::Result<()> {
     match file::read(file) {
         Ok(sections) => accepted(rt, &RoundFile { file, sections }),
-        Err(refusal) => text::refused(rt, refusal),
+        Err(refusal) => text::refused(rt, refusal.rule.number(), refusal.at),
     }
 }
 

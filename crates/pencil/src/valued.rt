@@ -17,13 +17,13 @@ const NUMBER_AT: usize = 5;
 
 const MONEY_AT: usize = 4;
 
-// A line: a name, and a figure with what stands before it from a place on.
+// A line: a name, as wide as every name, and a figure with what stands before it from a place on.
 fn figure(out: &impl Print, name: &str, of: Figure, from: usize) -> io::Result<()>
     requires { Whole of × (from ≤ most_places) }
 {
-    print!(out; "  {name:<26}")?;
+    out.write_all(name.as_bytes())?;
     out.write_all(&of.places[from..])?;
-    println!(out;)
+    out.write_all(b"\n")
 }
 
 fn wide(out: &impl Print, name: &str, n: Wide) -> io::Result<()> {
@@ -45,22 +45,22 @@ fn money(out: &impl Print, name: &str, pence: u64) -> io::Result<()> {
 
 // What is multiplied.
 fn factors(out: &impl Print, of: Factors) -> io::Result<()> {
-    line(out, "load factor", of.load)?;
-    line(out, "hours", of.hours)?;
-    line(out, "capacity", of.capacity)?;
-    line(out, "1 - TLM", of.kept)?;
-    line(out, "RQM", of.rqm)
+    line(out, "  load factor               ", of.load)?;
+    line(out, "  hours                     ", of.hours)?;
+    line(out, "  capacity                  ", of.capacity)?;
+    line(out, "  1 - TLM                   ", of.kept)?;
+    line(out, "  RQM                       ", of.rqm)
 }
 
 // What is divided, one scale a line.
 fn lines(out: &impl Print, of: Valuation) -> io::Result<()> {
-    wide(out, "product", of.product)?;
-    wide(out, "over 10: price", of.by_price)?;
-    wide(out, "over 10,000: load factor", of.by_load)?;
-    wide(out, "over 100: capacity", of.by_capacity)?;
-    line(out, "over 10,000: 1 - TLM", of.by_tlm)?;
-    line(out, "over 10,000: RQM", of.by_rqm)?;
-    money(out, "value", of.by_rqm)
+    wide(out, "  product                   ", of.product)?;
+    wide(out, "  over 10: price            ", of.by_price)?;
+    wide(out, "  over 10,000: load factor  ", of.by_load)?;
+    wide(out, "  over 100: capacity        ", of.by_capacity)?;
+    line(out, "  over 10,000: 1 - TLM      ", of.by_tlm)?;
+    line(out, "  over 10,000: RQM          ", of.by_rqm)?;
+    money(out, "  value                     ", of.by_rqm)
 }
 
 // A bid of this price, in a year of these factors.
@@ -68,9 +68,9 @@ fn year(out: &impl Print, price: u64, of: Factors) -> io::Result<()>
     requires { (price ≤ highest_price) × InScale of }
 {
     let worked = Valuation::of(price, of.reference, of.energy(), of.share());
-    line(out, "price", price)?;
-    line(out, "reference", of.reference)?;
-    line(out, "price less reference", worked.margin)?;
+    line(out, "  price                     ", price)?;
+    line(out, "  reference                 ", of.reference)?;
+    line(out, "  price less reference      ", worked.margin)?;
     factors(out, of)?;
     lines(out, worked)
 }

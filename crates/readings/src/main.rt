@@ -20,7 +20,7 @@ fn accepted(out: &impl Print, sections: Sections) -> io::Result<()> {
 fn print(out: &impl Print, file: &[u8]) -> io::Result<()> {
     match file::read(file) {
         Ok(sections) => accepted(out, sections),
-        Err(refusal) => text::refused(out, refusal),
+        Err(refusal) => text::refused(out, refusal.rule.number(), refusal.at),
     }
 }
 

@@ -10,7 +10,7 @@ use std::io;
 fn show(out: &impl Print, file: &[u8]) -> io::Result<()> {
     match file::read(file) {
         Ok(sections) => tables::print(out, &RoundFile { file, sections }),
-        Err(refusal) => text::refused(out, refusal),
+        Err(refusal) => text::refused(out, refusal.rule.number(), refusal.at),
     }
 }
 

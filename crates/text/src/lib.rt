@@ -6,7 +6,6 @@ ghost use Rattle.std.specs.Prelude.{◌<◌};
 pub mod figure;
 
 use figure::Figure;
-use rules::Refusal;
 use std::{fmt, io};
 
 // A number with so many decimals.
@@ -55,6 +54,6 @@ pub fn money(out: &impl Print, pounds: u64, pence: u64) -> io::Result<()> {
 }
 
 // The line of a refusal: `refused 7 at 120`.
-pub fn refused(out: &impl Print, refusal: Refusal) -> io::Result<()> {
-    println!(out; "refused {} at {}", refusal.rule.number(), refusal.at)
+pub fn refused(out: &impl Print, number: u64, at: usize) -> io::Result<()> {
+    println!(out; "refused {number} at {at}")
 }

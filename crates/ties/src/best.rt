@@ -15,7 +15,8 @@ pub struct Best {
     pub total: u64,
 }
 
-// Does a combination fit?
+// Does a combination fit? Inlined, since the listing asks it of each combination.
+#[inline]
 pub fn fitting(sheet: &Sheet, table: &Table, mask: u32) -> bool
     requires { Searching sheet.now.cells.now sheet.now.size table.now × (mask < combinations) }
     ensures { result ≡ ok_by sheet.now.cells.now sheet.now.size table.now mask }

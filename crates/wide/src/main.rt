@@ -40,8 +40,8 @@ fn both(out: &impl Print, sheet: &Sheet, price: u64) -> io::Result<()> {
     let tied = gathering::gathered(sheet, rest, count);
     let drawn = sheet::drawn(sheet.cells);
     let plain = ties::listing::listing(sheet, &base, tied, price, drawn);
-    let searched = search::search(sheet, &base, tied, price, drawn);
     told(out, "listing", plain)?;
+    let searched = search::search(sheet, &base, tied, price, drawn);
     told(out, "search", searched)
 }
 
@@ -64,7 +64,7 @@ fn tie(out: &impl Print, file: &[u8], sections: Sections) -> io::Result<()>
 fn print(out: &impl Print, file: &[u8]) -> io::Result<()> {
     match file::read(file) {
         Ok(sections) => tie(out, file, sections),
-        Err(refusal) => text::refused(out, refusal),
+        Err(refusal) => text::refused(out, refusal.rule.number(), refusal.at),
     }
 }
 
